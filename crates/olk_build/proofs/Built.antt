@@ -172,22 +172,23 @@ module _ {K R N : Type 0} {o : Kit K R} {answers : N → Answers} {P : Path} {al
     pub entries_built : left ≡ [] → AreBuilt o answers ns all P a m
     entries_built e = let r = all_so_far _ _ (entries_stand o answers P) all a ns left m e h.so_far in record { stand = r.stand; clean = r.clean; spends = r.spends }
 
-    pub entries_memory : (e : BuildError) {w : AllocError} → e ≡ Memory w → RefusesEach o all P a m e
+    pub entries_memory : {w : AllocError} (e : BuildError) → e ≡ Memory w → RefusesEach o all P a m e
     entries_memory e q = memory_so_far _ _ (entries_stand o answers P) all a ns left m e q h.so_far
 
     module _ {x : Name × Data} {rest : List (Name × Data)} (next : left ≡ x ∷ rest) {L : Path} (place : L ≡ P // x.0) {b : Counts} where
-      pub entry_refused : (e : BuildError) {f : BuildError} → e ≡ f → RefusesSchema o x.1 L m b f → RefusesEach o all P a b e
-      entry_refused e q r = refused_so_far _ _ (entries_stand o answers P) all a x left rest next ns m b e h.so_far (subst₂ (λ M y. RefusesSchema o x.1 M m b y) place (sym q) r)
+      pub entry_refused : {f : BuildError} → RefusesSchema o x.1 L m b f → (e : BuildError) → e ≡ f → RefusesEach o all P a b e
+      entry_refused r e q = refused_so_far _ _ (entries_stand o answers P) all a x left rest next ns m b e h.so_far (subst₂ (λ M y. RefusesSchema o x.1 M m b y) place (sym q) r)
 
       module _ {n : N} (built : IsBuilt o answers n x.1 L m b) where
         pub one_more_entry : {new : List N} → new ≡ ns ++ n ∷ [] → EntriesSoFar o answers P all a new rest b
         one_more_entry {new} q = record {
           so_far = one_more_so_far _ _ (entries_stand o answers P) all a x left rest next ns new m b h.so_far
-              (subst (λ y. StandEach o answers y (h.so_far.done ++ x ∷ []) P) (sym q) (each_push o answers P ns h.so_far.done n x h.so_far.built.stand (subst (Stands o answers n x.1) place built.stands)))
+              (subst (λ y. StandEach o answers y (h.so_far.done ++ x ∷ []) P) (sym q) (each_push o answers P ns h.so_far.done n x h.so_far.built.stand (subst
+              (Stands o answers n x.1) place built.stands)))
               (ap (malformations_at o.world x.1) (sym place) ∙ built.clean) built.spends;
         }
 
-        pub entry_memory : (e : BuildError) {w : AllocError} → e ≡ Memory w → RefusesEach o all P a b e
+        pub entry_memory : {w : AllocError} (e : BuildError) → e ≡ Memory w → RefusesEach o all P a b e
         entry_memory e q = memory_past _ _ (entries_stand o answers P) all a x left rest next ns m b e q h.so_far built.spends
 
   pub no_inner : {ns : List N} {left : List (Name × Data)} → ns ≡ [] → left ≡ all → InnerSoFar o answers P all a ns left a
@@ -197,22 +198,23 @@ module _ {K R N : Type 0} {o : Kit K R} {answers : N → Answers} {P : Path} {al
     pub inner_built : left ≡ [] → InnerAreBuilt o answers ns all P a m
     inner_built e = let r = all_so_far _ _ (inner_stand o answers P) all a ns left m e h.so_far in record { stand = r.stand; clean = r.clean; spends = r.spends }
 
-    pub inner_memory : (e : BuildError) {w : AllocError} → e ≡ Memory w → RefusesInner o all P a m e
+    pub inner_memory : {w : AllocError} (e : BuildError) → e ≡ Memory w → RefusesInner o all P a m e
     inner_memory e q = memory_so_far _ _ (inner_stand o answers P) all a ns left m e q h.so_far
 
     module _ {x : Name × Data} {rest : List (Name × Data)} (next : left ≡ x ∷ rest) {L : Path} (place : L ≡ P // x.0) {b : Counts} where
-      pub inner_refused : (e : BuildError) {f : BuildError} → e ≡ f → RefusesPlaces o Entries x.1 L m b f → RefusesInner o all P a b e
-      inner_refused e q r = refused_so_far _ _ (inner_stand o answers P) all a x left rest next ns m b e h.so_far (subst₂ (λ M y. RefusesPlaces o Entries x.1 M m b y) place (sym q) r)
+      pub inner_refused : {f : BuildError} → RefusesPlaces o Entries x.1 L m b f → (e : BuildError) → e ≡ f → RefusesInner o all P a b e
+      inner_refused r e q = refused_so_far _ _ (inner_stand o answers P) all a x left rest next ns m b e h.so_far (subst₂ (λ M y. RefusesPlaces o Entries x.1 M m b y) place (sym q) r)
 
       module _ {here : List N} (built : PlacesAreBuilt o answers Entries here x.1 L m b) where
         pub one_more_inner : {new : List N} → new ≡ ns ++ here → InnerSoFar o answers P all a new rest b
         one_more_inner {new} q = record {
           so_far = one_more_so_far _ _ (inner_stand o answers P) all a x left rest next ns new m b h.so_far
-              (subst (λ y. StandInner o answers y (h.so_far.done ++ x ∷ []) P) (sym q) (inner_push o answers P ns here h.so_far.done x h.so_far.built.stand (subst (StandEach o answers here (members x.1)) place built.stand)))
+              (subst (λ y. StandInner o answers y (h.so_far.done ++ x ∷ []) P) (sym q) (inner_push o answers P ns here h.so_far.done x h.so_far.built.stand (subst (StandEach o answers here
+              (members x.1)) place built.stand)))
               (ap (λ M. each_malformed o M (members x.1)) (sym place) ∙ built.clean) built.spends;
         }
 
-        pub more_inner_memory : (e : BuildError) {w : AllocError} → e ≡ Memory w → RefusesInner o all P a b e
+        pub more_inner_memory : {w : AllocError} (e : BuildError) → e ≡ Memory w → RefusesInner o all P a b e
         more_inner_memory e q = memory_past _ _ (inner_stand o answers P) all a x left rest next ns m b e q h.so_far built.spends
 
 -- ---- entries that are read

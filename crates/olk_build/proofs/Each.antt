@@ -57,7 +57,7 @@ module _ {K R N : Type 0} {o : Kit K R} {answers : N → Answers} {ms : Members}
   none_so_far {ks = ks} e w = record { parts = []; built = no_parts_so_far refl w; mean = λ u. no_keywords_mean o answers ms P ks e }
 
   module _ {m : Counts} {ps : List (Part K R N)} {left : List (Name × Data)} (h : PartsSoFar o answers ms P ps a left m) where
-    pub memory_so_far : (e : BuildError) {w : AllocError} → e ≡ Memory w → RefusesObject o ms P a m e
+    pub memory_so_far : {w : AllocError} (e : BuildError) → e ≡ Memory w → RefusesObject o ms P a m e
     memory_so_far e q = memory_among (wrong o answers ms P) (costs o answers ms P) (listed ms) a m h.done left e q h.whole h.built.spends
 
     all_done : left ≡ [] → h.done ≡ listed ms
@@ -76,8 +76,8 @@ module _ {K R N : Type 0} {o : Kit K R} {answers : N → Answers} {ms : Members}
         is_known = known_there o answers ms P c h.done next k d known there
 
         module _ {L : Path} (place : L ≡ P // k) {n : Name} (same : n ≡ k) {b : Counts} where
-          pub member_refused : (e : BuildError) {f : BuildError} → e ≡ f → RefusesPart o c n d L m b f → RefusesObject o ms P a b e
-          member_refused e {f} q r = refuses_among (wrong o answers ms P) (costs o answers ms P) (listed ms) a b h.done (k, d) next m e there h.built.spends
+          pub member_refused : {f : BuildError} → RefusesPart o c n d L m b f → (e : BuildError) → e ≡ f → RefusesObject o ms P a b e
+          member_refused {f} r e q = refuses_among (wrong o answers ms P) (costs o answers ms P) (listed ms) a b h.done (k, d) next m e there h.built.spends
               (subst (λ x. Refuses (wrong o answers ms P (k, d)) (costs o answers ms P (k, d)) m b x) (sym q) (subst (λ i. RefusesPart o c i d L m b f) same r ms P place is_known))
 
           module _ {part : Part K R N} (built : IsPart o answers part c n d L m b) where

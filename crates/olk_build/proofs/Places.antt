@@ -85,11 +85,11 @@ module _ {K R N : Type 0} (o : Kit K R) (answers : N → Answers) (d : Data) (L 
     itself_is_built n one h = subst₂ (λ s x. PlacesAreBuilt o answers s x d L a b) (sym q) (sym one)
         (subst (λ M. PlacesAreBuilt o answers Itself (n ∷ []) d M a b) place record { stand = h.stands; clean = h.clean; spends = h.spends })
 
-    pub itself_is_refused : (e : BuildError) {f : BuildError} → e ≡ f → RefusesSchema o d l a b f → RefusesPlaces o r d L a b e
-    itself_is_refused e {f} p h = subst₂ (λ s x. RefusesPlaces o s d L a b x) (sym q) (sym p) (subst (λ M. RefusesSchema o d M a b f) place h)
+    pub itself_is_refused : {f : BuildError} → RefusesSchema o d l a b f → (e : BuildError) → e ≡ f → RefusesPlaces o r d L a b e
+    itself_is_refused {f} h e p = subst₂ (λ s x. RefusesPlaces o s d L a b x) (sym q) (sym p) (subst (λ M. RefusesSchema o d M a b f) place h)
 
-    pub itself_lost : (n : N) → IsBuilt o answers n d l a b → (e : BuildError) {w : AllocError} → e ≡ Memory w → RefusesPlaces o r d L a b e
-    itself_lost n h e p = subst (λ s. RefusesPlaces o s d L a b e) (sym q) (refuses_memory e p (within_exactly h.spends))
+    pub itself_lost : (n : N) → IsBuilt o answers n d l a b → {w : AllocError} (e : BuildError) → e ≡ Memory w → RefusesPlaces o r d L a b e
+    itself_lost n h e p = subst (λ s. RefusesPlaces o s d L a b e) (sym q) (refuses_memory (within_exactly h.spends) e p)
 
 -- ---- entries and branches, as the results of what builds them tell
 

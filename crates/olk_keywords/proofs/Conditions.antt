@@ -47,9 +47,9 @@ module _ (ms : Members) (read : is_condition ms ≡ true) (P : Path) where
   if_known : IsKnown (known_of ms) ms (codes "if")
   if_known = ((λ e. (refl, and_first (is_some (lookup_name (codes "if") (listed ms))) _ read)), λ e. absurd (true≢false (ap (bytes_eq (codes "if")) e)))
 
-  pub if_refused : {K R N : Type 0} (o : Kit K R) (answers : N → Answers) (d : Data) {a b : Counts} (e : BuildError) {f : BuildError} → e ≡ f
-      → RefusesPart o (known_of ms) (codes "if") d (P // codes "if") a b f → RefusesAll o answers ms P (condition_members ms d) a b e
-  if_refused o answers d e q h = first_refused o answers ms P (codes "if") (codes "then") (codes "else") d (known_of ms) e q if_known h
+  pub if_refused : {K R N : Type 0} (o : Kit K R) (answers : N → Answers) (d : Data) {a b : Counts} {f : BuildError} → RefusesPart o (known_of ms) (codes "if") d (P // codes "if") a b f
+      → (e : BuildError) → e ≡ f → RefusesAll o answers ms P (condition_members ms d) a b e
+  if_refused o answers d h = first_refused o answers ms P (codes "if") (codes "then") (codes "else") d (known_of ms) if_known h
 
   module _ {K R N : Type 0} {o : Kit K R} {answers : N → Answers} {d : Data} {p : Part K R N} {a m : Counts} (part : IsPart o answers p (known_of ms) (codes "if") d (P // codes "if") a m) where
     abbrev part_here : PartsAreBuilt o answers ms (p ∷ []) ((codes "if", d) ∷ []) P a m
@@ -64,12 +64,12 @@ module _ (ms : Members) (read : is_condition ms ≡ true) (P : Path) where
     pub if_without_node : p.nodes.items ≡ [] → ⊥
     if_without_node e = subst (λ ns. StandAt o answers Itself ns d (P // codes "if")) e (subst (λ r. StandAt o answers r p.nodes.items d (P // codes "if")) if_itself part_here.stand.0.nodes)
 
-    pub then_refused : {Q : Path} → Q ≡ P → {b : Counts} (e : BuildError) {f : BuildError} → e ≡ f → RefusesAll o answers ms Q (member_at (codes "then") ms) m b f → RefusesCondition b e
-    then_refused place e q h = second_refused o answers ms P (codes "if") (codes "then") (codes "else") d a m part_here.spends place e q h
+    pub then_refused : {Q : Path} → Q ≡ P → {b : Counts} {f : BuildError} → RefusesAll o answers ms Q (member_at (codes "then") ms) m b f → (e : BuildError) → e ≡ f → RefusesCondition b e
+    then_refused place h = second_refused o answers ms P (codes "if") (codes "then") (codes "else") d a m part_here.spends place h
 
     module _ {n : Counts} {then_schema : Option N} (at_then : CaseIsBuilt o answers ms then_schema (codes "then") P m n) where
-      pub else_refused : {Q : Path} → Q ≡ P → {b : Counts} (e : BuildError) {f : BuildError} → e ≡ f → RefusesAll o answers ms Q (member_at (codes "else") ms) n b f → RefusesCondition b e
-      else_refused place e q h = third_refused o answers ms P (codes "if") (codes "then") (codes "else") d a m part_here.spends n at_then.spends place e q h
+      pub else_refused : {Q : Path} → Q ≡ P → {b : Counts} {f : BuildError} → RefusesAll o answers ms Q (member_at (codes "else") ms) n b f → (e : BuildError) → e ≡ f → RefusesCondition b e
+      else_refused place h = third_refused o answers ms P (codes "if") (codes "then") (codes "else") d a m part_here.spends n at_then.spends place h
 
       module _ {b : Counts} {else_schema : Option N} (at_else : CaseIsBuilt o answers ms else_schema (codes "else") P n b) where
         pub if_is_formed : (k : KeywordOver K R N) → IsIf p.location (is_some then_schema) (is_some else_schema) k → IsIf (P // codes "if")
@@ -81,8 +81,8 @@ module _ (ms : Members) (read : is_condition ms ≡ true) (P : Path) where
         spent = all_spent o answers ms P (codes "if") (codes "then") (codes "else") d a m part_here.spends n at_then.spends b at_else.spends
 
         -- all is built, and there is no memory for the keyword
-        pub condition_lost : (e : BuildError) {w : AllocError} → e ≡ Memory w → RefusesCondition b e
-        condition_lost e q = refuses_memory e q (within_exactly spent)
+        pub condition_lost : {w : AllocError} (e : BuildError) → e ≡ Memory w → RefusesCondition b e
+        condition_lost e q = refuses_memory (within_exactly spent) e q
 
         pub condition_is_built : (before : List N) (schema : N) (ks : List (KeywordOver K R N)) → p.nodes.items ≡ before ++ schema ∷ []
             → has_repeat (names_of (listed ms)) ≡ false → MakesCondition o answers p.location schema (record { then_schema = then_schema; else_schema = else_schema }) ks

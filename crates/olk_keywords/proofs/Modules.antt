@@ -185,9 +185,9 @@ module _ {K R N : Type 0} {o : Kit K R} {answers : N → Answers} where
         }
 
     -- what is built is lost where there is no memory
-    memory_there : (e : BuildError) {m : AllocError} → e ≡ Memory m → (Q : Path) → P // k ≡ Q // k → Refuses (member_malformations o.world ms (k, d) (which o ms (k, d)) Q)
+    memory_there : {m : AllocError} (e : BuildError) → e ≡ Memory m → (Q : Path) → P // k ≡ Q // k → Refuses (member_malformations o.world ms (k, d) (which o ms (k, d)) Q)
         (member_cost o.world ms (k, d) (which o ms (k, d))) a b e
-    memory_there e q Q f = refuses_memory e q (within_exactly (spends_same a b _ _ (sum_last _) (h ms Q f known).spends))
+    memory_there e q Q f = refuses_memory (within_exactly (spends_same a b _ _ (sum_last _) (h ms Q f known).spends)) e q
 
   -- in any object
   module _ {p : Part K R N} {c : Known} {k : Name} {d : Data} (P : Path) {a b : Counts} (h : IsPart o answers p c k d (P // k) a b) (other : is_read_beside k ≡ false) where
@@ -253,7 +253,7 @@ module _ {K R N : Type 0} {o : Kit K R} {answers : N → Answers} where
           none = subst (λ y. StandAt o answers y p.nodes.items d (P // k)) (ap reads_of q ∙ r) stands.nodes
 
     -- what is built is lost where there is no memory
-    pub memory_after : (e : BuildError) {m : AllocError} → e ≡ Memory m → RefusesMember o k d (P // k) a b e
+    pub memory_after : {m : AllocError} (e : BuildError) → e ≡ Memory m → RefusesMember o k d (P // k) a b e
     memory_after e q ms Q f = memory_there P h ms (known ms) e q Q f
 
   -- ---- keyword by keyword
@@ -346,7 +346,7 @@ module _ {K R N : Type 0} {o : Kit K R} {answers : N → Answers} where
       pub no_other_properties : ((n : List Name) → p.shape ≡ shape.Properties n → ⊥) → ⊥
       no_other_properties f = f properties_shape.0 properties_shape.1
 
-      pub properties_memory : (e : BuildError) {m : AllocError} → e ≡ Memory m → RefusesMember o (codes "properties") d (P // codes "properties") a b e
+      pub properties_memory : {m : AllocError} (e : BuildError) → e ≡ Memory m → RefusesMember o (codes "properties") d (P // codes "properties") a b e
       properties_memory = memory_after P h refl
 
       module _ (n : List Name) (q : p.shape ≡ shape.Properties n) (ms : Members) (r : Planned) (chosen : r ≡ plan_of ms) (free : r.restricted ≡ false) where
@@ -401,7 +401,7 @@ module _ {K R N : Type 0} {o : Kit K R} {answers : N → Answers} where
     pub no_other_pattern_properties : ((v : Vec (CompiledPattern R) Global) (t : Table) → p.shape ≡ shape.PatternProperties v t → ⊥) → ⊥
     no_other_pattern_properties f = let r = only_pattern_properties p.shape (shape_named o p.shape (codes "patternProperties") d alone_stands.shape refl) in f r.0 r.1 r.2
 
-    pub pattern_properties_memory : (e : BuildError) {m : AllocError} → e ≡ Memory m → RefusesFreeMember o (codes "patternProperties") d (P // codes "patternProperties") a b e
+    pub pattern_properties_memory : {m : AllocError} (e : BuildError) → e ≡ Memory m → RefusesFreeMember o (codes "patternProperties") d (P // codes "patternProperties") a b e
     pattern_properties_memory e q ms Q f free = memory_there P h ms (patterns_known c ms none free) e q Q f
 
     module _ (v : Vec (CompiledPattern R) Global) (t : Table) (q : p.shape ≡ shape.PatternProperties v t) where

@@ -97,20 +97,20 @@ module _ {K R N : Type 0} (o : Kit K R) (answers : N → Answers) (ms : Members)
     abbrev three : List (Name × Data)
     three = (k, d) ∷ both
 
-    pub first_refused : (c : Known) {a b : Counts} (e : BuildError) {f : BuildError} → e ≡ f → IsKnown c ms k → RefusesPart o c k d (P // k) a b f → RefusesAll three a b e
-    first_refused c {a} {b} e {f} q known h = subst (RefusesAll three a b) (sym q) (refuses_among malformed_of cost_of three a b [] (k, d) both a f refl (spends_nothing a) (h ms P refl known))
+    pub first_refused : (c : Known) {a b : Counts} {f : BuildError} → IsKnown c ms k → RefusesPart o c k d (P // k) a b f → (e : BuildError) → e ≡ f → RefusesAll three a b e
+    first_refused c {a} {b} {f} known h e q = subst (RefusesAll three a b) (sym q) (refuses_among malformed_of cost_of three a b [] (k, d) both a f refl (spends_nothing a) (h ms P refl known))
 
     module _ (a m : Counts) (first : Spends a m (all_cost o ms ((k, d) ∷ []))) where
       -- the place of a neighbour may be known under another name
-      pub second_refused : {Q : Path} → Q ≡ P → {b : Counts} (e : BuildError) {f : BuildError} → e ≡ f
-          → Refuses (all_malformed o ms Q (member_at x ms)) (all_cost o ms (member_at x ms)) m b f → RefusesAll three a b e
-      second_refused place {b} e q h = refuses_later malformed_of cost_of ((k, d) ∷ []) both a m b e first (refuses_first malformed_of cost_of (member_at x ms) (member_at y ms) m m b e
+      pub second_refused : {Q : Path} → Q ≡ P → {b : Counts} {f : BuildError} → Refuses (all_malformed o ms Q (member_at x ms)) (all_cost o ms (member_at x ms)) m b f → (e : BuildError)
+          → e ≡ f → RefusesAll three a b e
+      second_refused place {b} h e q = refuses_later malformed_of cost_of ((k, d) ∷ []) both a m b e first (refuses_first malformed_of cost_of (member_at x ms) (member_at y ms) m m b e
           (subst₂ (λ L f. Refuses (all_malformed o ms L (member_at x ms)) (all_cost o ms (member_at x ms)) m b f) place (sym q) h))
 
       module _ (n : Counts) (second : Spends m n (all_cost o ms (member_at x ms))) where
-        pub third_refused : {Q : Path} → Q ≡ P → {b : Counts} (e : BuildError) {f : BuildError} → e ≡ f
-            → Refuses (all_malformed o ms Q (member_at y ms)) (all_cost o ms (member_at y ms)) n b f → RefusesAll three a b e
-        third_refused place {b} e q h = refuses_later malformed_of cost_of ((k, d) ∷ []) both a m b e first (refuses_later malformed_of cost_of (member_at x ms) (member_at y ms) m n b e second
+        pub third_refused : {Q : Path} → Q ≡ P → {b : Counts} {f : BuildError} → Refuses (all_malformed o ms Q (member_at y ms)) (all_cost o ms (member_at y ms)) n b f → (e : BuildError)
+            → e ≡ f → RefusesAll three a b e
+        third_refused place {b} h e q = refuses_later malformed_of cost_of ((k, d) ∷ []) both a m b e first (refuses_later malformed_of cost_of (member_at x ms) (member_at y ms) m n b e second
             (subst₂ (λ L f. Refuses (all_malformed o ms L (member_at y ms)) (all_cost o ms (member_at y ms)) n b f) place (sym q) h))
 
         module _ (b : Counts) (third : Spends n b (all_cost o ms (member_at y ms))) where
@@ -119,8 +119,8 @@ module _ {K R N : Type 0} (o : Kit K R) (answers : N → Answers) (ms : Members)
               (spends_same m b _ _ (sym (total_cost-append cost_of (member_at x ms) (member_at y ms))) (spends_append m n b _ _ second third)))
 
           -- what is built is lost where there is no memory
-          pub memory_lost : (e : BuildError) {w : AllocError} → e ≡ Memory w → RefusesAll three a b e
-          memory_lost e q = refuses_memory e q (within_exactly all_spent)
+          pub memory_lost : {w : AllocError} (e : BuildError) → e ≡ Memory w → RefusesAll three a b e
+          memory_lost e q = refuses_memory (within_exactly all_spent) e q
 
     pub all_clean : all_malformed o ms P ((k, d) ∷ []) ≡ [] → all_malformed o ms P (member_at x ms) ≡ [] → all_malformed o ms P (member_at y ms) ≡ [] → all_malformed o ms P three ≡ []
     all_clean f g h = λ i. (sym (append-nil _) ∙ f) i ++ (flat_map-append malformed_of (member_at x ms) (member_at y ms) ∙ (λ j. g j ++ h j)) i

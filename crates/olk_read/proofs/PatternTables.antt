@@ -76,6 +76,6 @@ module _ {K R : Type 0} (o : Kit K R) (c : Known) (d : Data) (L : Path) (is_map 
       spends = spends_append a m b (matchers_made o.world d) (names_asked o.world c.declared d) made (spends_asks _ _ m b times asked);
     }
 
-    pub table_without_memory : (e : BuildError) {w : AllocError} → e ≡ Memory w → AsksAtMost (length c.declared * how_many_cost o.costs ps) m b
+    pub table_without_memory : AsksAtMost (length c.declared * how_many_cost o.costs ps) m b → {w : AllocError} (e : BuildError) → e ≡ Memory w
         → RefusesKeyword o c (codes "patternProperties") d L a b e
-    table_without_memory e q asked = refuses_memory e q (within_after a m b (matchers_made o.world d) (names_asked o.world c.declared d) made (within_asks _ _ m b times asked))
+    table_without_memory asked e q = refuses_memory (within_after a m b (matchers_made o.world d) (names_asked o.world c.declared d) made (within_asks _ _ m b times asked)) e q

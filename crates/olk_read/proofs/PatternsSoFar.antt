@@ -77,8 +77,8 @@ module _ {K R : Type 0} {o : Kit K R} {L : Path} {all : List (Name × Data)} {a 
     patterns_read e = let r = all_so_far _ _ (stand o L) all a ps left m e h.so_far in record { stand = r.stand; clean = r.clean; spends = r.spends }
 
     module _ {x : Name × Data} {rest : List (Name × Data)} (next : left ≡ x ∷ rest) {b : Counts} where
-      pub pattern_refused : (e : BuildError) {f : BuildError} → e ≡ f → Refuses (pattern_faults o.world L x.0) (matcher_made o.world x.0) m b f → RefusesPatterns o all L a b e
-      pattern_refused e q r = refused_so_far _ _ (stand o L) all a x left rest next ps m b e h.so_far (subst (Refuses (wrong o L x) (costs o L x) m b) (sym q) r)
+      pub pattern_refused : {f : BuildError} → Refuses (pattern_faults o.world L x.0) (matcher_made o.world x.0) m b f → (e : BuildError) → e ≡ f → RefusesPatterns o all L a b e
+      pattern_refused r e q = refused_so_far _ _ (stand o L) all a x left rest next ps m b e h.so_far (subst (Refuses (wrong o L x) (costs o L x) m b) (sym q) r)
 
       module _ (right : pattern_faults o.world L x.0 ≡ []) (spent : Spends m b (matcher_made o.world x.0)) where
         pub one_more_pattern : {p : CompiledPattern R} {new : List (CompiledPattern R)} → IsPattern o p x.0 → new ≡ ps ++ p ∷ [] → PatternsSoFar o L all a new rest b
@@ -87,5 +87,5 @@ module _ {K R : Type 0} {o : Kit K R} {L : Path} {all : List (Name × Data)} {a 
               (subst (λ y. stand o L y (h.so_far.done ++ x ∷ [])) (sym q) (push o L ps h.so_far.done p x h.so_far.built.stand s)) right spent;
         }
 
-        pub pattern_memory : (e : BuildError) {w : AllocError} → e ≡ Memory w → RefusesPatterns o all L a b e
+        pub pattern_memory : {w : AllocError} (e : BuildError) → e ≡ Memory w → RefusesPatterns o all L a b e
         pattern_memory e q = memory_past _ _ (stand o L) all a x left rest next ps m b e q h.so_far spent

@@ -133,8 +133,8 @@ module _ (W : World) (k : Name) (d : Data) (q : keyword_named W k ≡ leaf) (a b
   pub refuses_leaf : (L : Path) (e : BuildError) → W.fits k d ≡ false → TellsOneOf (fault (LeafRefused k) d [] L ∷ []) e → Refuses (own_faults W k d L) (own_cost_of W n d (keyword_named W k)) a b e
   refuses_leaf L e fits t = record { tells = tells_same (ap (λ f. unless_kind f (LeafRefused k) d L) (sym fits) ∙ sym (own_leaf W d L k q)) e t; spends = within_exactly leaf_spent }
 
-  pub refuses_leaf_memory : (fs : List Fault) (e : BuildError) {m : AllocError} → e ≡ Memory m → Refuses fs (own_cost_of W n d (keyword_named W k)) a b e
-  refuses_leaf_memory fs e p = refuses_memory e p (within_exactly leaf_spent)
+  pub refuses_leaf_memory : (fs : List Fault) {m : AllocError} (e : BuildError) → e ≡ Memory m → Refuses fs (own_cost_of W n d (keyword_named W k)) a b e
+  refuses_leaf_memory fs e p = refuses_memory (within_exactly leaf_spent) e p
 
 pub refuses_name : (W : World) (k : Name) (d : Data) (L : Path) (c : Cost) (a : Counts) (e : BuildError) → IsOther k → is_among k unsupported_names ≡ true
     → TellsOneOf (fault (Unsupported k) d [] L ∷ []) e → Refuses (own_faults W k d L) c a a e
@@ -147,6 +147,9 @@ module _ {K R : Type 0} (o : Kit K R) where
   pub is_read : {x : Shape K R} {c : Known} {k n : Name} {d : Data} {L : Path} {a : Counts} → k ≡ n → IsShape o n d x → Fits o c x → own_faults o.world n d L ≡ []
       → own_cost_of o.world c d (keyword_named o.world n) ≡ no_cost → IsRead o x c k d L a a
   is_read {x} {c} {d = d} {L} {a} p s f clean z = subst (λ i. IsRead o x c i d L a a) (sym p) (record { shape = s; fits = f; clean = clean; spends = subst (Spends a a) (sym z) (spends_nothing a) })
+
+  pub read_as : {x y : Shape K R} {c : Known} {k : Name} {d : Data} {L : Path} {a b : Counts} → x ≡ y → IsRead o y c k d L a b → IsRead o x c k d L a b
+  read_as {c = c} {k} {d} {L} {a} {b} e h = subst (λ s. IsRead o s c k d L a b) (sym e) h
 
   -- one of the three that are read together
   pub conditional_is_read : (x : Shape K R) (c : Known) {k n : Name} {d : Data} {L : Path} {a : Counts} → k ≡ n → IsShape o n d x → (c.condition ≡ true → Fits o c x)

@@ -77,13 +77,13 @@ tells_right fs gs e t = tells gs (fs ++ gs) (λ f h. Contains-append_right fs gs
 pub tells_same : {fs gs : List Fault} → fs ≡ gs → (e : BuildError) → TellsOneOf fs e → TellsOneOf gs e
 tells_same p e t = subst (λ l. TellsOneOf l e) p t
 
-pub tells_memory : (fs : List Fault) (e : BuildError) {m : AllocError} → e ≡ Memory m → TellsOneOf fs e
+pub tells_memory : (fs : List Fault) {m : AllocError} (e : BuildError) → e ≡ Memory m → TellsOneOf fs e
 tells_memory fs e p = subst (TellsOneOf fs) (sym p) tt
 
 -- ---- nothing is built
 
-pub refuses_memory : {fs : List Fault} {x : Cost} {a b : Counts} (e : BuildError) {m : AllocError} → e ≡ Memory m → SpendsWithin a b x → Refuses fs x a b e
-refuses_memory {fs} e p h = record { tells = tells_memory fs e p; spends = h }
+pub refuses_memory : {fs : List Fault} {x : Cost} {a b : Counts} → SpendsWithin a b x → {m : AllocError} (e : BuildError) → e ≡ Memory m → Refuses fs x a b e
+refuses_memory {fs} h e p = record { tells = tells_memory fs e p; spends = h }
 
 -- what holds of the error holds of the result that leaves by a `?`
 pub exit : {T : Type 0} (G : BuildError → Type 0) (r : Result T BuildError) (Q : BuildError → Type 0) → IsErrAnd r Q → ((e : BuildError) → Q e → G e) → IfErr r G
@@ -99,7 +99,7 @@ module _ {X : Type 0} (f : X → List Fault) (c : X → Cost) (all : List X) (a 
         (within_after a m b (total_cost c done) (total_cost c (x ∷ rest)) h (within_before m b (c x) (total_cost c rest) r.spends));
   }
 
-  pub memory_among : (done rest : List X) (e : BuildError) {m : AllocError} → e ≡ Memory m → done ++ rest ≡ all → Spends a b (total_cost c done) → Refuses (flat_map f all) (total_cost c all) a b e
-  memory_among done rest e q p h = refuses_memory e q
+  pub memory_among : (done rest : List X) {m : AllocError} (e : BuildError) → e ≡ Memory m → done ++ rest ≡ all → Spends a b (total_cost c done) → Refuses (flat_map f all) (total_cost c all) a b e
+  memory_among done rest e q p h = refuses_memory
       (within_same (sym (total_cost-append c done rest) ∙ ap (total_cost c) p)
-      (within_before a b (total_cost c done) (total_cost c rest) (within_exactly h)))
+      (within_before a b (total_cost c done) (total_cost c rest) (within_exactly h))) e q

@@ -33,7 +33,7 @@ pub compile_entries-returns-in_err-nodes-clause-built : goal.compile_entries-ret
 compile_entries-returns-in_err-nodes-clause-built g t c = IfOk-from_err _ _ c.from_residual.ensures.0
 
 pub compile_entries-returns-in_err-nodes-clause-refused : goal.compile_entries-returns-in_err-nodes-clause-refused
-compile_entries-returns-in_err-nodes-clause-refused g t c = exit _ _ _ c.from_residual.ensures.1 (λ e q. refuses_memory e q within_nothing)
+compile_entries-returns-in_err-nodes-clause-refused g t c = exit _ _ _ c.from_residual.ensures.1 (refuses_memory within_nothing)
 
 pub compile_entries-loop-name-init : goal.compile_entries-loop-name-init
 compile_entries-loop-name-init g t c =
@@ -51,17 +51,17 @@ compile_entries-returns-in_err-location-clause-built g t c = IfOk-from_err _ _ c
 
 pub compile_entries-returns-in_err-location-clause-refused : goal.compile_entries-returns-in_err-location-clause-refused
 compile_entries-returns-in_err-location-clause-refused g t c =
-    exit _ _ _ c.from_residual-in_err-location.ensures.1 (λ e q. entries_memory c.loop-name.invariant.so_far e q)
+    exit _ _ _ c.from_residual-in_err-location.ensures.1 (entries_memory c.loop-name.invariant.so_far)
 
 pub compile_entries-returns-in_err-node-clause-built : goal.compile_entries-returns-in_err-node-clause-built
 compile_entries-returns-in_err-node-clause-built g t c = IfOk-from_err _ _ c.from_residual-in_err-node.ensures.0
 
 pub compile_entries-returns-in_err-node-clause-refused : goal.compile_entries-returns-in_err-node-clause-refused
 compile_entries-returns-in_err-node-clause-refused g t c =
-    exit _ _ _ c.from_residual-in_err-node.ensures.1 (λ e q. entry_refused c.loop-name.invariant.so_far
+    exit _ _ _ c.from_residual-in_err-node.ensures.1 (entry_refused c.loop-name.invariant.so_far
     (ap (λ l. entries_read c.args.passes_arrays (listed (members_view l))) c.in-Some.ensures.steps ∙ at_an_entry (string_bytes c.in-Some.name.now, view c.in-Some.schema.now)
     (listed (members_view c.next.new.self)) c.args.passes_arrays (sym c.is_read.ensures ∙ c.if-is_read.true))
-    (c.in_ok-location.ensures ∙ ap (λ n. c.args.place.now // n) c.as_str.ensures.value) e q c.in_err-node.ensures.refused)
+    (c.in_ok-location.ensures ∙ ap (λ n. c.args.place.now // n) c.as_str.ensures.value) c.in_err-node.ensures.refused)
 
 pub compile_entries-loop-name-preserved-in-Continue-branch-4 : goal.compile_entries-loop-name-preserved-in-Continue-branch-4
 compile_entries-loop-name-preserved-in-Continue-branch-4 g t c =
@@ -79,10 +79,10 @@ compile_entries-returns-in_err-append-clause-built g t c = IfOk-from_err _ _ c.f
 
 pub compile_entries-returns-in_err-append-clause-refused : goal.compile_entries-returns-in_err-append-clause-refused
 compile_entries-returns-in_err-append-clause-refused g t c =
-    exit _ _ _ c.from_residual-in_err-append.ensures.1 (λ e q. entry_memory c.loop-name.invariant.so_far
+    exit _ _ _ c.from_residual-in_err-append.ensures.1 (entry_memory c.loop-name.invariant.so_far
     (ap (λ l. entries_read c.args.passes_arrays (listed (members_view l))) c.in-Some.ensures.steps ∙ at_an_entry (string_bytes c.in-Some.name.now, view c.in-Some.schema.now)
     (listed (members_view c.next.new.self)) c.args.passes_arrays (sym c.is_read.ensures ∙ c.if-is_read.true))
-    (c.in_ok-location.ensures ∙ ap (λ n. c.args.place.now // n) c.as_str.ensures.value) c.in_ok-node.ensures.built e q)
+    (c.in_ok-location.ensures ∙ ap (λ n. c.args.place.now // n) c.as_str.ensures.value) c.in_ok-node.ensures.built)
 
 pub compile_entries-loop-name-preserved : goal.compile_entries-loop-name-preserved
 compile_entries-loop-name-preserved g t c =
@@ -120,23 +120,23 @@ compile_inner_entries-returns-in_err-location-clause-built g t c = IfOk-from_err
 
 pub compile_inner_entries-returns-in_err-location-clause-refused : goal.compile_inner_entries-returns-in_err-location-clause-refused
 compile_inner_entries-returns-in_err-location-clause-refused g t c =
-    exit _ _ _ c.from_residual.ensures.1 (λ e q. inner_memory c.loop-name.invariant.so_far e q)
+    exit _ _ _ c.from_residual.ensures.1 (inner_memory c.loop-name.invariant.so_far)
 
 pub compile_inner_entries-returns-in_err-inner-clause-built : goal.compile_inner_entries-returns-in_err-inner-clause-built
 compile_inner_entries-returns-in_err-inner-clause-built g t c = IfOk-from_err _ _ c.from_residual-in_err-inner.ensures.0
 
 pub compile_inner_entries-returns-in_err-inner-clause-refused : goal.compile_inner_entries-returns-in_err-inner-clause-refused
 compile_inner_entries-returns-in_err-inner-clause-refused g t c =
-    exit _ _ _ c.from_residual-in_err-inner.ensures.1 (λ e q. inner_refused c.loop-name.invariant.so_far (ap (λ l. listed (members_view l)) c.in-Some.ensures.steps)
-    (c.in_ok-location.ensures ∙ ap (λ n. c.args.place.now // n) c.as_str.ensures.value) e q c.in_err-inner.ensures.refused)
+    exit _ _ _ c.from_residual-in_err-inner.ensures.1 (inner_refused c.loop-name.invariant.so_far (ap (λ l. listed (members_view l)) c.in-Some.ensures.steps)
+    (c.in_ok-location.ensures ∙ ap (λ n. c.args.place.now // n) c.as_str.ensures.value) c.in_err-inner.ensures.refused)
 
 pub compile_inner_entries-returns-in_err-append_all-clause-built : goal.compile_inner_entries-returns-in_err-append_all-clause-built
 compile_inner_entries-returns-in_err-append_all-clause-built g t c = IfOk-from_err _ _ c.from_residual-in_err-append_all.ensures.0
 
 pub compile_inner_entries-returns-in_err-append_all-clause-refused : goal.compile_inner_entries-returns-in_err-append_all-clause-refused
 compile_inner_entries-returns-in_err-append_all-clause-refused g t c =
-    exit _ _ _ c.from_residual-in_err-append_all.ensures.1 (λ e q. more_inner_memory c.loop-name.invariant.so_far (ap (λ l. listed (members_view l)) c.in-Some.ensures.steps)
-    (c.in_ok-location.ensures ∙ ap (λ n. c.args.place.now // n) c.as_str.ensures.value) c.in_ok-inner.ensures.built e q)
+    exit _ _ _ c.from_residual-in_err-append_all.ensures.1 (more_inner_memory c.loop-name.invariant.so_far (ap (λ l. listed (members_view l)) c.in-Some.ensures.steps)
+    (c.in_ok-location.ensures ∙ ap (λ n. c.args.place.now // n) c.as_str.ensures.value) c.in_ok-inner.ensures.built)
 
 pub compile_inner_entries-loop-name-preserved : goal.compile_inner_entries-loop-name-preserved
 compile_inner_entries-loop-name-preserved g t c =
@@ -158,7 +158,7 @@ pub compile_branches-returns-in_err-nodes-clause-built : goal.compile_branches-r
 compile_branches-returns-in_err-nodes-clause-built g t c = IfOk-from_err _ _ c.from_residual.ensures.0
 
 pub compile_branches-returns-in_err-nodes-clause-refused : goal.compile_branches-returns-in_err-nodes-clause-refused
-compile_branches-returns-in_err-nodes-clause-refused g t c = exit _ _ _ c.from_residual.ensures.1 (λ e q. refuses_memory e q within_nothing)
+compile_branches-returns-in_err-nodes-clause-refused g t c = exit _ _ _ c.from_residual.ensures.1 (refuses_memory within_nothing)
 
 pub compile_branches-loop-i-init : goal.compile_branches-loop-i-init
 compile_branches-loop-i-init g t c = no_entries c.in_ok-nodes.ensures.items refl
@@ -179,7 +179,8 @@ pub compile_branches-returns-in_err-node-clause-refused : goal.compile_branches-
 compile_branches-returns-in_err-node-clause-refused g t c =
     exit _ _ _ c.from_residual-in_err-node.ensures.1 (λ e q. subst (λ all. RefusesEach (kit g.L.Leaf.Leaf g.M.Engine.RegexEngine) all c.args.place.now c.args.meter.now c.compile_schema.new.meter e)
     (ap (λ l. numbered (map view l)) c.deref-schema-items.ensures.value ∙ ap numbered (sym (items_list-view c.args.items.now.items)))
-    (entry_refused c.loop-i.invariant (next_branch c.loop-i.i c.deref-schema-items.result.now c.schema-item.result c.loop-i-test.true c.schema-item.is) c.in_ok-location.ensures e q c.in_err-node.ensures.refused))
+    (entry_refused c.loop-i.invariant (next_branch c.loop-i.i c.deref-schema-items.result.now c.schema-item.result c.loop-i-test.true c.schema-item.is) c.in_ok-location.ensures
+    c.in_err-node.ensures.refused e q))
 
 pub compile_branches-returns-in_err-append-clause-built : goal.compile_branches-returns-in_err-append-clause-built
 compile_branches-returns-in_err-append-clause-built g t c = IfOk-from_err _ _ c.from_residual-in_err-append.ensures.0
@@ -188,7 +189,8 @@ pub compile_branches-returns-in_err-append-clause-refused : goal.compile_branche
 compile_branches-returns-in_err-append-clause-refused g t c =
     exit _ _ _ c.from_residual-in_err-append.ensures.1 (λ e q. subst (λ all. RefusesEach (kit g.L.Leaf.Leaf g.M.Engine.RegexEngine) all c.args.place.now c.args.meter.now c.compile_schema.new.meter e)
     (ap (λ l. numbered (map view l)) c.deref-schema-items.ensures.value ∙ ap numbered (sym (items_list-view c.args.items.now.items)))
-    (entry_memory c.loop-i.invariant (next_branch c.loop-i.i c.deref-schema-items.result.now c.schema-item.result c.loop-i-test.true c.schema-item.is) c.in_ok-location.ensures c.in_ok-node.ensures.built e q))
+    (entry_memory c.loop-i.invariant (next_branch c.loop-i.i c.deref-schema-items.result.now c.schema-item.result c.loop-i-test.true c.schema-item.is) c.in_ok-location.ensures
+    c.in_ok-node.ensures.built e q))
 
 pub compile_branches-loop-i-smaller : goal.compile_branches-loop-i-smaller
 compile_branches-loop-i-smaller g t c = falls _ _ c.loop-i-test.true
@@ -258,7 +260,7 @@ compile_object-returns-in_err-keywords-clause-built g t c = IfOk-from_err _ _ c.
 
 pub compile_object-returns-in_err-keywords-clause-refused : goal.compile_object-returns-in_err-keywords-clause-refused
 compile_object-returns-in_err-keywords-clause-refused g t c =
-    exit _ _ _ c.from_residual-in_err-keywords.ensures.1 (λ e q. refuses_memory e q (within_exactly c.in_ok-parts.ensures.built.spends))
+    exit _ _ _ c.from_residual-in_err-keywords.ensures.1 (refuses_memory (within_exactly c.in_ok-parts.ensures.built.spends))
 
 pub compile_object-returns-clause-built : goal.compile_object-returns-clause-built
 compile_object-returns-clause-built g t c =
@@ -276,7 +278,7 @@ pub compile_parts-returns-in_err-parts-clause-built : goal.compile_parts-returns
 compile_parts-returns-in_err-parts-clause-built g t c = IfOk-from_err _ _ c.from_residual.ensures.0
 
 pub compile_parts-returns-in_err-parts-clause-refused : goal.compile_parts-returns-in_err-parts-clause-refused
-compile_parts-returns-in_err-parts-clause-refused g t c = exit _ _ _ c.from_residual.ensures.1 (λ e q. refuses_memory e q within_nothing)
+compile_parts-returns-in_err-parts-clause-refused g t c = exit _ _ _ c.from_residual.ensures.1 (refuses_memory within_nothing)
 
 pub compile_parts-loop-name-init : goal.compile_parts-loop-name-init
 compile_parts-loop-name-init g t c =
@@ -294,7 +296,7 @@ compile_parts-returns-in_err-location-clause-built g t c = IfOk-from_err _ _ c.f
 
 pub compile_parts-returns-in_err-location-clause-refused : goal.compile_parts-returns-in_err-location-clause-refused
 compile_parts-returns-in_err-location-clause-refused g t c =
-    exit _ _ _ c.from_residual-in_err-location.ensures.1 (λ e q. memory_so_far c.loop-name.invariant.so_far e q)
+    exit _ _ _ c.from_residual-in_err-location.ensures.1 (memory_so_far c.loop-name.invariant.so_far)
 
 pub compile_parts-compile_part-requires-text-name : goal.compile_parts-compile_part-requires-text-name
 compile_parts-compile_part-requires-text-name g t c κs within = c.as_str-in-loop-name.utf8
@@ -304,8 +306,8 @@ compile_parts-returns-in_err-part-clause-built g t c = IfOk-from_err _ _ c.from_
 
 pub compile_parts-returns-in_err-part-clause-refused : goal.compile_parts-returns-in_err-part-clause-refused
 compile_parts-returns-in_err-part-clause-refused g t c =
-    exit _ _ _ c.from_residual-in_err-part.ensures.1 (λ e q. member_refused c.loop-name.invariant.so_far (ap (λ l. listed (members_view l)) c.in-Some.ensures.steps) c.of-neighbours.ensures
-    (c.in_ok-location.ensures ∙ ap (λ n. c.args.place.now // n) c.as_str.ensures.value) c.as_str-in-loop-name.ensures.value e q c.in_err-part.ensures.refused)
+    exit _ _ _ c.from_residual-in_err-part.ensures.1 (member_refused c.loop-name.invariant.so_far (ap (λ l. listed (members_view l)) c.in-Some.ensures.steps) c.of-neighbours.ensures
+    (c.in_ok-location.ensures ∙ ap (λ n. c.args.place.now // n) c.as_str.ensures.value) c.as_str-in-loop-name.ensures.value c.in_err-part.ensures.refused)
 
 pub compile_parts-loop-name-preserved : goal.compile_parts-loop-name-preserved
 compile_parts-loop-name-preserved g t c =
@@ -321,8 +323,8 @@ compile_parts-returns-in_err-append-clause-built g t c = IfOk-from_err _ _ c.fro
 
 pub compile_parts-returns-in_err-append-clause-refused : goal.compile_parts-returns-in_err-append-clause-refused
 compile_parts-returns-in_err-append-clause-refused g t c =
-    exit _ _ _ c.from_residual-in_err-append.ensures.1 (λ e q. memory_so_far (one_more_so_far c.loop-name.invariant.so_far (ap (λ l. listed (members_view l)) c.in-Some.ensures.steps) c.of-neighbours.ensures
-    (c.in_ok-location.ensures ∙ ap (λ n. c.args.place.now // n) c.as_str.ensures.value) c.as_str-in-loop-name.ensures.value c.in_ok-part.ensures.built refl) e q)
+    exit _ _ _ c.from_residual-in_err-append.ensures.1 (memory_so_far (one_more_so_far c.loop-name.invariant.so_far (ap (λ l. listed (members_view l)) c.in-Some.ensures.steps) c.of-neighbours.ensures
+    (c.in_ok-location.ensures ∙ ap (λ n. c.args.place.now // n) c.as_str.ensures.value) c.as_str-in-loop-name.ensures.value c.in_ok-part.ensures.built refl))
 
 pub compile_parts-returns-clause-built : goal.compile_parts-returns-clause-built
 compile_parts-returns-clause-built g t c = parts_are_built c.loop-name.invariant.so_far (ap (λ l. listed (members_view l)) c.in-None.ensures.steps.0)
@@ -334,7 +336,7 @@ pub compile_each-returns-in_err-keywords-clause-built : goal.compile_each-return
 compile_each-returns-in_err-keywords-clause-built g t c = IfOk-from_err _ _ c.from_residual.ensures.0
 
 pub compile_each-returns-in_err-keywords-clause-refused : goal.compile_each-returns-in_err-keywords-clause-refused
-compile_each-returns-in_err-keywords-clause-refused g t c = exit _ _ _ c.from_residual.ensures.1 (λ e q. refuses_memory e q within_nothing)
+compile_each-returns-in_err-keywords-clause-refused g t c = exit _ _ _ c.from_residual.ensures.1 (refuses_memory within_nothing)
 
 pub compile_each-loop-name-init : goal.compile_each-loop-name-init
 compile_each-loop-name-init g t c =
@@ -354,7 +356,7 @@ compile_each-returns-in_err-location-clause-built g t c = IfOk-from_err _ _ c.fr
 
 pub compile_each-returns-in_err-location-clause-refused : goal.compile_each-returns-in_err-location-clause-refused
 compile_each-returns-in_err-location-clause-refused g t c =
-    exit _ _ _ c.from_residual-in_err-location.ensures.1 (λ e q. memory_so_far c.loop-name.invariant.so_far.built e q)
+    exit _ _ _ c.from_residual-in_err-location.ensures.1 (memory_so_far c.loop-name.invariant.so_far.built)
 
 pub compile_each-compile_part-requires : goal.compile_each-compile_part-requires
 compile_each-compile_part-requires g t c κs within =
@@ -367,8 +369,8 @@ compile_each-returns-in_err-part-clause-built g t c = IfOk-from_err _ _ c.from_r
 
 pub compile_each-returns-in_err-part-clause-refused : goal.compile_each-returns-in_err-part-clause-refused
 compile_each-returns-in_err-part-clause-refused g t c =
-    exit _ _ _ c.from_residual-in_err-part.ensures.1 (λ e q. member_refused c.loop-name.invariant.so_far.built (ap (λ l. listed (members_view l)) c.in-Some.ensures.steps) c.of-neighbours.ensures
-    (c.in_ok-location.ensures ∙ ap (λ n. c.args.place.now // n) c.as_str-name.ensures.value) c.as_str-name.ensures.value e q c.in_err-part.ensures.refused)
+    exit _ _ _ c.from_residual-in_err-part.ensures.1 (member_refused c.loop-name.invariant.so_far.built (ap (λ l. listed (members_view l)) c.in-Some.ensures.steps) c.of-neighbours.ensures
+    (c.in_ok-location.ensures ∙ ap (λ n. c.args.place.now // n) c.as_str-name.ensures.value) c.as_str-name.ensures.value c.in_err-part.ensures.refused)
 
 pub compile_each-loop-name-preserved : goal.compile_each-loop-name-preserved
 compile_each-loop-name-preserved g t c = record {
@@ -386,8 +388,9 @@ compile_each-returns-in_err-append_keyword-clause-built g t c = IfOk-from_err _ 
 
 pub compile_each-returns-in_err-append_keyword-clause-refused : goal.compile_each-returns-in_err-append_keyword-clause-refused
 compile_each-returns-in_err-append_keyword-clause-refused g t c =
-    exit _ _ _ c.from_residual-in_err-append_keyword.ensures.1 (λ e q. memory_so_far (one_more_so_far c.loop-name.invariant.so_far.built (ap (λ l. listed (members_view l)) c.in-Some.ensures.steps) c.of-neighbours.ensures
-    (c.in_ok-location.ensures ∙ ap (λ n. c.args.place.now // n) c.as_str-name.ensures.value) c.as_str-name.ensures.value c.in_ok-part.ensures.built refl) e q)
+    exit _ _ _ c.from_residual-in_err-append_keyword.ensures.1 (memory_so_far (one_more_so_far c.loop-name.invariant.so_far.built (ap (λ l. listed
+    (members_view l)) c.in-Some.ensures.steps) c.of-neighbours.ensures
+    (c.in_ok-location.ensures ∙ ap (λ n. c.args.place.now // n) c.as_str-name.ensures.value) c.as_str-name.ensures.value c.in_ok-part.ensures.built refl))
 
 pub compile_each-returns-clause-built : goal.compile_each-returns-clause-built
 compile_each-returns-clause-built g t c = each_is_built c.loop-name.invariant.so_far (ap (λ l. listed (members_view l)) c.in-None.ensures.steps.0)
@@ -399,23 +402,23 @@ pub compile_places-returns-in_err-place-in-Itself-clause-built : goal.compile_pl
 compile_places-returns-in_err-place-in-Itself-clause-built g t c = IfOk-from_err _ _ c.from_residual.ensures.0
 
 pub compile_places-returns-in_err-place-in-Itself-clause-refused : goal.compile_places-returns-in_err-place-in-Itself-clause-refused
-compile_places-returns-in_err-place-in-Itself-clause-refused g t c = exit _ _ _ c.from_residual.ensures.1 (λ e q. refuses_memory e q within_nothing)
+compile_places-returns-in_err-place-in-Itself-clause-refused g t c = exit _ _ _ c.from_residual.ensures.1 (refuses_memory within_nothing)
 
 pub compile_places-returns-in_err-node-in-Itself-clause-built : goal.compile_places-returns-in_err-node-in-Itself-clause-built
 compile_places-returns-in_err-node-in-Itself-clause-built g t c = IfOk-from_err _ _ c.from_residual-in_err-node-in-Itself.ensures.0
 
 pub compile_places-returns-in_err-node-in-Itself-clause-refused : goal.compile_places-returns-in_err-node-in-Itself-clause-refused
 compile_places-returns-in_err-node-in-Itself-clause-refused g t c =
-    exit _ _ _ c.from_residual-in_err-node-in-Itself.ensures.1 (λ e q. itself_is_refused (kit g.L.Leaf.Leaf g.M.Engine.RegexEngine) g.N.BuiltNode.answers
-    (view c.args.value.now) c.args.location.now c.args.meter.now c.args.reads [] c.compile_schema.new.meter _ c.in_ok-place-in-Itself.ensures c.in-Itself.is e q c.in_err-node-in-Itself.ensures.refused)
+    exit _ _ _ c.from_residual-in_err-node-in-Itself.ensures.1 (itself_is_refused (kit g.L.Leaf.Leaf g.M.Engine.RegexEngine) g.N.BuiltNode.answers
+    (view c.args.value.now) c.args.location.now c.args.meter.now c.args.reads [] c.compile_schema.new.meter _ c.in_ok-place-in-Itself.ensures c.in-Itself.is c.in_err-node-in-Itself.ensures.refused)
 
 pub compile_places-returns-in_err-one-in-Itself-clause-built : goal.compile_places-returns-in_err-one-in-Itself-clause-built
 compile_places-returns-in_err-one-in-Itself-clause-built g t c = IfOk-from_err _ _ c.from_residual-in_err-one-in-Itself.ensures.0
 
 pub compile_places-returns-in_err-one-in-Itself-clause-refused : goal.compile_places-returns-in_err-one-in-Itself-clause-refused
 compile_places-returns-in_err-one-in-Itself-clause-refused g t c =
-    exit _ _ _ c.from_residual-in_err-one-in-Itself.ensures.1 (λ e q. itself_lost (kit g.L.Leaf.Leaf g.M.Engine.RegexEngine) g.N.BuiltNode.answers
-    (view c.args.value.now) c.args.location.now c.args.meter.now c.args.reads [] c.compile_schema.new.meter _ c.in_ok-place-in-Itself.ensures c.in-Itself.is _ c.in_ok-node-in-Itself.ensures.built e q)
+    exit _ _ _ c.from_residual-in_err-one-in-Itself.ensures.1 (itself_lost (kit g.L.Leaf.Leaf g.M.Engine.RegexEngine) g.N.BuiltNode.answers
+    (view c.args.value.now) c.args.location.now c.args.meter.now c.args.reads [] c.compile_schema.new.meter _ c.in_ok-place-in-Itself.ensures c.in-Itself.is _ c.in_ok-node-in-Itself.ensures.built)
 
 pub compile_places-returns-in_default : goal.compile_places-returns-in_default
 compile_places-returns-in_default g t c =

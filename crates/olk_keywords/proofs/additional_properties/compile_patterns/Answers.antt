@@ -27,12 +27,15 @@ returns-in_err-location g c = record {
 
 pub unreachable-requires : goal.unreachable-requires
 unreachable-requires g c =
-    no_other_patterns (kit g.L.Leaf.Leaf g.M.Engine.RegexEngine) g.N.BuiltNode.answers (members_view c.args.parent.now.entries) c.args.ctx.now.place c.in_ok-location.ensures.built c.in_default-shape.not-PatternProperties
+    no_other_patterns (kit g.L.Leaf.Leaf g.M.Engine.RegexEngine) g.N.BuiltNode.answers
+    (members_view c.args.parent.now.entries) c.args.ctx.now.place c.in_ok-location.ensures.built c.in_default-shape.not-PatternProperties
 
 pub returns : goal.returns
 returns g c = record {
   builds = (
-    patterns_built (kit g.L.Leaf.Leaf g.M.Engine.RegexEngine) g.N.BuiltNode.answers (members_view c.args.parent.now.entries) c.args.ctx.now.place c.in_ok-location.ensures.built c.in-PatternProperties.patterns c.in-PatternProperties.table c.in-PatternProperties.is (sym c.in-Some.ensures),
+    patterns_built (kit g.L.Leaf.Leaf g.M.Engine.RegexEngine) g.N.BuiltNode.answers
+        (members_view c.args.parent.now.entries) c.args.ctx.now.place c.in_ok-location.ensures.built c.in-PatternProperties.patterns c.in-PatternProperties.table c.in-PatternProperties.is
+        (sym c.in-Some.ensures),
     tt,
   );
   place = c.compile_member.ensures.place;

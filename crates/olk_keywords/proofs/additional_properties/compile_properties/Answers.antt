@@ -24,12 +24,14 @@ returns-in_err-shape g c = record {
 
 pub unreachable-requires : goal.unreachable-requires
 unreachable-requires g c =
-    no_other_declared (kit g.L.Leaf.Leaf g.M.Engine.RegexEngine) g.N.BuiltNode.answers (members_view c.args.parent.now.entries) c.args.ctx.now.place c.in_ok-shape.ensures.built c.in_default-shape.not-Properties
+    no_other_declared (kit g.L.Leaf.Leaf g.M.Engine.RegexEngine) g.N.BuiltNode.answers
+    (members_view c.args.parent.now.entries) c.args.ctx.now.place c.in_ok-shape.ensures.built c.in_default-shape.not-Properties
 
 pub returns : goal.returns
 returns g c = record {
   builds = (
-    declared_built (kit g.L.Leaf.Leaf g.M.Engine.RegexEngine) g.N.BuiltNode.answers (members_view c.args.parent.now.entries) c.args.ctx.now.place c.in_ok-shape.ensures.built c.in-Properties.names c.in-Properties.is (sym c.in-Some.ensures),
+    declared_built (kit g.L.Leaf.Leaf g.M.Engine.RegexEngine) g.N.BuiltNode.answers
+        (members_view c.args.parent.now.entries) c.args.ctx.now.place c.in_ok-shape.ensures.built c.in-Properties.names c.in-Properties.is (sym c.in-Some.ensures),
     tt,
   );
   place = c.compile_member.ensures.place;

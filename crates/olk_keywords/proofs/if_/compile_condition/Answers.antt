@@ -10,25 +10,25 @@ use Rattle.olk_keywords.proofs.if_.compile_condition.Goals as goal
 
 pub returns-in_err-location-clause-builds : goal.returns-in_err-location-clause-builds
 returns-in_err-location-clause-builds g c =
-    left_by _ _ _ _ c.from_residual.ensures.1 (λ e q. if_refused (members_view c.args.parent.now.entries) c.requires.read c.args.ctx.now.place (kit g.L.Leaf.Leaf g.M.Engine.RegexEngine) g.N.BuiltNode.answers
-    (view c.args.schema.now) e q c.in_err-location.ensures.refused)
+    left_by _ _ _ _ c.from_residual.ensures.1 (if_refused (members_view c.args.parent.now.entries) c.requires.read c.args.ctx.now.place (kit g.L.Leaf.Leaf g.M.Engine.RegexEngine) g.N.BuiltNode.answers
+    (view c.args.schema.now) c.in_err-location.ensures.refused)
 
 pub returns-in_err-then_schema-clause-builds : goal.returns-in_err-then_schema-clause-builds
 returns-in_err-then_schema-clause-builds g c =
-    left_by _ _ _ _ c.from_residual-in_err-then_schema.ensures.1 (λ e q. then_refused (members_view c.args.parent.now.entries) c.requires.read c.args.ctx.now.place c.in_ok-location.ensures.built
-    c.compile_member.ensures.place e q (c.in_err-then_schema.ensures.builds refl c.requires.read).1)
+    left_by _ _ _ _ c.from_residual-in_err-then_schema.ensures.1 (then_refused (members_view c.args.parent.now.entries) c.requires.read c.args.ctx.now.place c.in_ok-location.ensures.built
+    c.compile_member.ensures.place (c.in_err-then_schema.ensures.builds refl c.requires.read).1)
 
 pub returns-in_err-else_schema-clause-builds : goal.returns-in_err-else_schema-clause-builds
 returns-in_err-else_schema-clause-builds g c =
-    left_by _ _ _ _ c.from_residual-in_err-else_schema.ensures.1 (λ e q. else_refused (members_view c.args.parent.now.entries) c.requires.read c.args.ctx.now.place c.in_ok-location.ensures.built
+    left_by _ _ _ _ c.from_residual-in_err-else_schema.ensures.1 (else_refused (members_view c.args.parent.now.entries) c.requires.read c.args.ctx.now.place c.in_ok-location.ensures.built
     (case_there c.compile_member.ensures.place (c.in_ok-then_schema.ensures.builds refl c.requires.read).0)
-    (c.compile_case.ensures.place ∙ c.compile_member.ensures.place) e q (c.in_err-else_schema.ensures.builds refl c.requires.read).1)
+    (c.compile_case.ensures.place ∙ c.compile_member.ensures.place) (c.in_err-else_schema.ensures.builds refl c.requires.read).1)
 
 pub returns-in_err-keyword-clause-builds : goal.returns-in_err-keyword-clause-builds
 returns-in_err-keyword-clause-builds g c =
-    left_by _ _ _ _ c.from_residual-in_err-keyword.ensures.1 (λ e q. condition_lost (members_view c.args.parent.now.entries) c.requires.read c.args.ctx.now.place c.in_ok-location.ensures.built
+    left_by _ _ _ _ c.from_residual-in_err-keyword.ensures.1 (condition_lost (members_view c.args.parent.now.entries) c.requires.read c.args.ctx.now.place c.in_ok-location.ensures.built
     (case_there c.compile_member.ensures.place (c.in_ok-then_schema.ensures.builds refl c.requires.read).0)
-    (case_there (c.compile_case.ensures.place ∙ c.compile_member.ensures.place) (c.in_ok-else_schema.ensures.builds refl c.requires.read).0) e q)
+    (case_there (c.compile_case.ensures.place ∙ c.compile_member.ensures.place) (c.in_ok-else_schema.ensures.builds refl c.requires.read).0))
 
 pub returns-in_err-keyword-clause-place : goal.returns-in_err-keyword-clause-place
 returns-in_err-keyword-clause-place g c = c.compile_case-2.ensures.place ∙ c.compile_case.ensures.place ∙ c.compile_member.ensures.place

@@ -12,14 +12,16 @@ unreachable-requires g c =
 pub returns-in-Ok-make-clause-gives : goal.returns-in-Ok-make-clause-gives
 returns-in-Ok-make-clause-gives g c = (
   pattern_properties_built
-      (none_known (members_view c.args.parent.now.entries) (search rules)) _ c.in-Ok.ensures.built c.in-PatternProperties.patterns c.in-PatternProperties._table c.in-PatternProperties.is (c.in-Ok-make.ensures.makes c.in-PatternProperties._table),
+      (none_known (members_view c.args.parent.now.entries) (search rules)) _ c.in-Ok.ensures.built c.in-PatternProperties.patterns c.in-PatternProperties._table c.in-PatternProperties.is
+      (c.in-Ok-make.ensures.makes c.in-PatternProperties._table),
   tt,
 )
 
 pub returns-in-Ok-make-clause-form : goal.returns-in-Ok-make-clause-form
 returns-in-Ok-make-clause-form g c =
     pattern_properties_is_formed
-    (none_known (members_view c.args.parent.now.entries) (search rules)) _ c.in-Ok.ensures.built c.in-PatternProperties.patterns c.in-PatternProperties._table c.in-PatternProperties.is c.in-Ok-make.keyword c.in-Ok-make.ensures.form
+    (none_known (members_view c.args.parent.now.entries)
+    (search rules)) _ c.in-Ok.ensures.built c.in-PatternProperties.patterns c.in-PatternProperties._table c.in-PatternProperties.is c.in-Ok-make.keyword c.in-Ok-make.ensures.form
 
 pub returns-in-Ok-clause-gives : goal.returns-in-Ok-clause-gives
 returns-in-Ok-clause-gives g c = (

@@ -6,7 +6,7 @@ use Rattle.olk_read.proofs.PatternsSoFar.{no_patterns, patterns_read, pattern_re
 use Rattle.olk_read.proofs.patterns.patterns_of_entries.Goals as goal
 
 pub returns-in_err-patterns-clause-refused : goal.returns-in_err-patterns-clause-refused
-returns-in_err-patterns-clause-refused g c = exit _ _ _ c.from_residual.ensures.1 (λ e q. refuses_memory e q within_nothing)
+returns-in_err-patterns-clause-refused g c = exit _ _ _ c.from_residual.ensures.1 (refuses_memory within_nothing)
 
 pub loop-pattern-init : goal.loop-pattern-init
 loop-pattern-init g c =
@@ -18,7 +18,7 @@ loop-pattern-init g c =
 
 pub returns-in_err-compiled-clause-refused : goal.returns-in_err-compiled-clause-refused
 returns-in_err-compiled-clause-refused g c =
-    exit _ _ _ c.from_residual-in_err-compiled.ensures.1 (λ e q. pattern_refused c.loop-pattern.invariant.so_far (ap (λ l. listed (members_view l)) c.in-Some.ensures.steps) e q c.in_err-compiled.ensures.refused)
+    exit _ _ _ c.from_residual-in_err-compiled.ensures.1 (pattern_refused c.loop-pattern.invariant.so_far (ap (λ l. listed (members_view l)) c.in-Some.ensures.steps) c.in_err-compiled.ensures.refused)
 
 pub loop-pattern-preserved : goal.loop-pattern-preserved
 loop-pattern-preserved g c =
@@ -31,8 +31,8 @@ loop-pattern-preserved g c =
 
 pub returns-in_err-append-clause-refused : goal.returns-in_err-append-clause-refused
 returns-in_err-append-clause-refused g c =
-    exit _ _ _ c.from_residual-in_err-append.ensures.1 (λ e q. pattern_memory c.loop-pattern.invariant.so_far (ap (λ l. listed (members_view l)) c.in-Some.ensures.steps)
-    c.in_ok-compiled.ensures.right c.in_ok-compiled.ensures.spends e q)
+    exit _ _ _ c.from_residual-in_err-append.ensures.1 (pattern_memory c.loop-pattern.invariant.so_far (ap (λ l. listed (members_view l)) c.in-Some.ensures.steps)
+    c.in_ok-compiled.ensures.right c.in_ok-compiled.ensures.spends)
 
 pub returns-clause-read : goal.returns-clause-read
 returns-clause-read g c = patterns_read c.loop-pattern.invariant.so_far (ap (λ l. listed (members_view l)) c.in-None.ensures.steps.0)

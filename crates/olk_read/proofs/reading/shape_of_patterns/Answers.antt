@@ -25,12 +25,12 @@ returns-in_err-patterns-clause-refused g c =
 
 pub returns-in_err-table-clause-refused : goal.returns-in_err-table-clause-refused
 returns-in_err-table-clause-refused g c =
-    exit _ _ _ c.from_residual-in_err-table.ensures.1 (λ e q. table_without_memory (kit g.L.Leaf.Leaf g.M.Engine.RegexEngine) (known c.args.neighbours)
+    exit _ _ _ c.from_residual-in_err-table.ensures.1 (table_without_memory (kit g.L.Leaf.Leaf g.M.Engine.RegexEngine) (known c.args.neighbours)
     (view c.args.value.now) c.args.location.now (ap is_object c.in_ok-entries.ensures.object) c.args.meter.now c.patterns_of_entries.new.meter c.in_ok-patterns.patterns
     (subst (λ d. PatternsAreRead (kit g.L.Leaf.Leaf g.M.Engine.RegexEngine) c.in_ok-patterns.patterns.items
     (members d) c.args.location.now c.args.meter.now c.patterns_of_entries.new.meter)
     (sym c.in_ok-entries.ensures.object) c.in_ok-patterns.ensures.read) c.as_slice.result.now c.as_slice.ensures.value
-    c.table_of_declared.new.meter e q c.in_err-table.ensures.asked_at_most)
+    c.table_of_declared.new.meter c.in_err-table.ensures.asked_at_most)
 
 pub returns-clause-built : goal.returns-clause-built
 returns-clause-built g c =
