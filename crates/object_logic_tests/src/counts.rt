@@ -1,10 +1,7 @@
 //! What building and asking count.
 use crate::asked::{Asked, Question, told_by};
 use crate::rows::{Form, Table, expect, refusal};
-use object_logic::{
-    Leaf, MakeError, MakeLeaf, Meter, Node, ValidateError, ValidationContext, Validator,
-    holds_whole_numbers,
-};
+use object_logic::{Meter, ValidateError, ValidationContext, Validator, holds_whole_numbers};
 use olk_base_tests::counting::Counting;
 use olk_bench::{BenchLeaves, BenchRegexes};
 use serde_json::Value;
@@ -208,81 +205,6 @@ fn a_table_of_65_patterns(rt: HostRuntime) -> Result<(), Fail> {
 
 // ---- leaves that are asked
 
-/// Makes the leaves of its maker, which count in a cell how often they are asked whether they
-/// accept.
-#[derive(Drop)]
-struct Asking<'c, M> {
-    maker: M,
-    asked: &'c Cell<u64>,
-}
-
-/// A leaf that counts so.
-#[derive(Drop)]
-struct AskedLeaf<'c, K> {
-    leaf: K,
-    asked: &'c Cell<u64>,
-}
-
-impl<K: Leaf> Leaf for AskedLeaf<'_, K> {
-    ghost reads = { K.reads };
-
-    ghost fits = { K.fits };
-
-    ghost faults = { K.faults };
-
-    ghost keyword_of = { λ l. K.keyword_of l.leaf };
-
-    ghost finds = { λ l v. K.finds l.leaf v };
-
-    fn keyword(&self) -> &str {
-        self.leaf.keyword()
-    }
-
-    fn is_valid(&self, node: Node<'_>) -> bool {
-        self.asked.set(self.asked.get().saturating_add(1));
-        self.leaf.is_valid(node)
-    }
-
-    fn validate(&self, alloc: Global, node: Node<'_>) -> Result<Option<String>, AllocError> {
-        self.leaf.validate(alloc, node)
-    }
-
-    fn collect_errors(
-        &self,
-        alloc: Global,
-        node: Node<'_>,
-        texts: &mut Vec<String>,
-    ) -> Result<(), AllocError> {
-        self.leaf.collect_errors(alloc, node, texts)
-    }
-
-    fn evaluate(&self, alloc: Global, node: Node<'_>) -> Result<Vec<String>, AllocError> {
-        self.leaf.evaluate(alloc, node)
-    }
-}
-
-impl<'c, M: MakeLeaf> MakeLeaf for Asking<'c, M> {
-    type Leaf = AskedLeaf<'c, M::Leaf>;
-
-    fn reads(&self, keyword: &str) -> bool {
-        self.maker.reads(keyword)
-    }
-
-    fn make(
-        &self,
-        alloc: Global,
-        keyword: &str,
-        value: &Value,
-        meter: &mut Meter,
-    ) -> Result<AskedLeaf<'c, M::Leaf>, MakeError> {
-        let leaf = self.maker.make(alloc, keyword, value, meter)?;
-        Ok(AskedLeaf {
-            leaf,
-            asked: self.asked,
-        })
-    }
-}
-
 /// How often a verdict asks leaves, which count in the cell.
 #[derive(Drop)]
 struct AskedLeaves<'c> {
@@ -311,9 +233,10 @@ impl Form for LeafAsks {
         schema: &Value,
         instance: &Value,
     ) -> Result<String, AllocError> {
-        let asked = Cell::new(0);
-        let leaves = Asking {
+        let (made, asked) = (Cell::new(0), Cell::new(0));
+        let leaves = Counting {
             maker: BenchLeaves,
+            made: &made,
             asked: &asked,
         };
         let question = AskedLeaves { asked: &asked };

@@ -137,15 +137,14 @@ module _ (W : World) where
   step_prints : (d : Data) → IsPlain d → GoodSchema Good (schema_read (malformations_step W) d) → Good d (malformations_step W (schema_read (malformations_step W) d))
   step_prints null s g = (s, λ P. (refl, tt))
   step_prints (boolean b) s g = (s, λ P. tt)
-  step_prints (number n) s g = (s, λ P. (s, tt))
   step_prints (string t) s g = (s, λ P. (refl, tt))
-  step_prints (array ds) s g = (s, λ P. (s, tt))
   step_prints (object ms) s g =
       let S : Keywords Told = read_members (malformations_step W) ms in (
         s,
         λ P. Each-flat_map PrintsNone (λ m. keyword_malformations W S m.0 m.1 P (keyword_named W m.0)) S
             (Each-implies (λ m. GoodPart Good m.1) _ (λ m h. keyword_prints S m.0 m.1 P h (keyword_named W m.0)) S g),
       )
+  step_prints _ s g = (s, λ P. (s, tt))
 
   each_prints : (S : Data) → IsPlain S → (P : Path) → Each PrintsNone (malformations_at W S P)
   unfolding malformations_at

@@ -273,12 +273,9 @@ module _ (W : World) (u : Bool) where
       (Each-implies (λ m. GoodPart Good m.1) _ (λ m h. child_plain S g v fine P Q m.0 m.1 h (keyword_named W m.0)) S g))
 
   step_prints : (d : Data) → IsPlain d → GoodSchema Good (schema_read (meaning_step W u) d) → Good d (meaning_step W u (schema_read (meaning_step W u) d))
-  step_prints null s g = (s, λ v fine P Q. tt, λ v fine P Q. (tt, tt))
   step_prints (boolean b) s g = (s, λ v fine P Q. put_prints (not b) (fault FalseSchema v Q P) fine, λ v fine P Q. erring_plain P Q _ (put_prints (not b) (fault FalseSchema v Q P) fine))
-  step_prints (number n) s g = (s, λ v fine P Q. tt, λ v fine P Q. (tt, tt))
-  step_prints (string t) s g = (s, λ v fine P Q. tt, λ v fine P Q. (tt, tt))
-  step_prints (array ds) s g = (s, λ v fine P Q. tt, λ v fine P Q. (tt, tt))
   step_prints (object ms) s g = let S = read_members (meaning_step W u) ms in (s, keywords_print S g, keywords_show S g)
+  step_prints _ s g = (s, λ v fine P Q. tt, λ v fine P Q. (tt, tt))
 
   all_print_none : (S : Data) → IsPlain S → Good S (meaning W u S)
   unfolding meaning
@@ -314,9 +311,8 @@ mutual
 mutual
   cut_kind_prints : (k : Kind) (v : Data) → kind_prints_fraction (cut_kind k) v ≡ kind_prints_fraction k v
   cut_kind_prints (AdditionalProperties []) v = refl
-  cut_kind_prints (AdditionalProperties (n ∷ ns)) v = refl
   cut_kind_prints (PropertyNames f) v = cut_fault_prints f
-  cut_kind_prints k v = refl
+  cut_kind_prints _ v = refl
 
   cut_fault_prints : (f : Fault) → prints_fraction (cut f) ≡ prints_fraction f
   cut_fault_prints (fault k v Q P) = cut_kind_prints k v

@@ -40,13 +40,12 @@ longer_text m (string s) h = unless_text _ _ h
 longer_text m v h = absurd (true≢false h)
 
 pub finds_text : (l : BenchLeaf) (v : Data) → is_empty (leaf_finds l v) ≡ false → leaf_finds l v ≡ leaf_text l v ∷ []
-finds_text (leaf.Type k) v h = unless_text _ _ h
-finds_text (leaf.Const c) v h = unless_text _ _ h
 finds_text (leaf.Minimum n) v h = minimum_text _ v h
 finds_text (leaf.Maximum n) v h = maximum_text _ v h
 finds_text (leaf.MultipleOf d) v h = multiple_text _ v h
 finds_text (leaf.MinLength n) v h = shorter_text n v h
 finds_text (leaf.MaxLength n) v h = longer_text n v h
+finds_text _ v h = unless_text _ _ h
 
 pub Contains-only : (texts : List Text) (t s : Text) → texts ≡ t ∷ [] → s ≡ t → Contains texts s
 Contains-only texts t s e f = rw (e, f) (0, omega arith, refl)

@@ -13,11 +13,7 @@ use Rattle.olk_bench.specs.Leaves.{kind_name}
 kind_name-plain : (k : ValueKind) → list_all is_plain (kind_name k) ≡ true
 kind_name-plain kind.Integer = refl
 kind_name-plain (kind.Of type.Null) = refl
-kind_name-plain (kind.Of type.Boolean) = refl
-kind_name-plain (kind.Of type.Number) = refl
-kind_name-plain (kind.Of type.String) = refl
-kind_name-plain (kind.Of type.Array) = refl
-kind_name-plain (kind.Of type.Object) = refl
+kind_name-plain _ = refl
 
 pub kind_in_quotes : (k : ValueKind) → compact_text (string (kind_name k)) ≡ 34 ∷ (kind_name k ++ 34 ∷ [])
 kind_in_quotes k = compact_text-plain (kind_name k) (kind_name-plain k)

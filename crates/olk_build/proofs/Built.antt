@@ -65,7 +65,7 @@ pub refuses_no_schema : (W : World) (d : Data) (P : Path) (a b : Counts) (e : Bu
     → TellsOneOf (fault MultipleTypes d [] P ∷ []) e → Refuses (malformations_at W d P) (cost W d) a b e
 refuses_no_schema W d P a b e h c t = record {
   tells = tells_same (sym (no_schema_malformed W d P h)) e t;
-  spends = within_same a b one_place (cost W d) (sym (no_schema_cost W d h)) (within_exactly a b one_place (spends_place a b c));
+  spends = within_same (sym (no_schema_cost W d h)) (within_exactly (spends_place a b c));
 }
 
 pub refuses_object : (W : World) (ms : Members) (d : Data) (P : Path) (a m b : Counts) (e : BuildError) → d ≡ object ms → m ≡ count_compiled a
@@ -73,7 +73,7 @@ pub refuses_object : (W : World) (ms : Members) (d : Data) (P : Path) (a m b : C
     → Refuses (malformations_at W d P) (cost W d) a b e
 refuses_object W ms d P a m b e p c r = subst (λ x. Refuses (malformations_at W x P) (cost W x) a b e) (sym p) record {
   tells = tells_same (sym (object_malformed W ms P)) e r.tells;
-  spends = within_same a b _ (cost W (object ms)) (sym (object_cost W ms)) (within_after a m b one_place _ (spends_place a m c) r.spends);
+  spends = within_same (sym (object_cost W ms)) (within_after a m b one_place _ (spends_place a m c) r.spends);
 }
 
 module _ {K R N : Type 0} (o : Kit K R) (answers : N → Answers) where
@@ -127,9 +127,8 @@ module _ {K R N : Type 0} (o : Kit K R) (answers : N → Answers) where
   each_push : (P : Path) (ns : List N) (es : List (Name × Data)) (n : N) (e : Name × Data) → StandEach o answers ns es P → Stands o answers n e.1 (P // e.0)
       → StandEach o answers (ns ++ n ∷ []) (es ++ e ∷ []) P
   each_push P [] [] n e h s = (s, tt)
-  each_push P [] (x ∷ es) n e h s = absurd h
-  each_push P (y ∷ ns) [] n e h s = absurd h
   each_push P (y ∷ ns) (x ∷ es) n e h s = (h.0, each_push P ns es n e h.1 s)
+  each_push P _ _ n e h s = absurd h
 
   -- what is wrong with an entry, what it costs, and what stands for entries
   abbrev pub entry_wrong : Path → Name × Data → List Fault
@@ -142,31 +141,8 @@ module _ {K R N : Type 0} (o : Kit K R) (answers : N → Answers) where
   entries_stand P ns es = StandEach o answers ns es P
 
   -- nodes for the entries so far
-  abbrev pub EntriesSoFar : Path → List (Name × Data) → Counts → List N → List (Name × Data) → Counts → Type 0
-  EntriesSoFar P all a ns left m = SoFar (entry_wrong P) entry_costs (entries_stand P) all a ns left m
-
-  module _ (P : Path) (all : List (Name × Data)) (a : Counts) where
-    pub no_entries : (ns : List N) (left : List (Name × Data)) → ns ≡ [] → left ≡ all → EntriesSoFar P all a ns left a
-    no_entries ns left e w = none_so_far (entry_wrong P) entry_costs (entries_stand P) all a ns left (subst (λ x. StandEach o answers x [] P) (sym e) tt) w
-
-    pub entries_built : (ns : List N) (left : List (Name × Data)) (m : Counts) → left ≡ [] → EntriesSoFar P all a ns left m → AreBuilt o answers ns all P a m
-    entries_built ns left m e h = let r = all_so_far (entry_wrong P) entry_costs (entries_stand P) all a ns left m e h in record { stand = r.stand; clean = r.clean; spends = r.spends }
-
-    pub entries_memory : (ns : List N) (left : List (Name × Data)) (m : Counts) (e : BuildError) (w : AllocError) → e ≡ Memory w → EntriesSoFar P all a ns left m → RefusesEach o all P a m e
-    entries_memory ns left m e w q h = memory_so_far (entry_wrong P) entry_costs (entries_stand P) all a ns left m e w q h
-
-    module _ (x : Name × Data) (left rest : List (Name × Data)) (next : left ≡ x ∷ rest) (ns : List N) (m b : Counts) (L : Path) (place : L ≡ P // x.0) (h : EntriesSoFar P all a ns left m) where
-      pub entry_refused : (e f : BuildError) → e ≡ f → RefusesSchema o x.1 L m b f → RefusesEach o all P a b e
-      entry_refused e f q r = refused_so_far (entry_wrong P) entry_costs (entries_stand P) all a x left rest next ns m b e h (subst₂ (λ M y. RefusesSchema o x.1 M m b y) place (sym q) r)
-
-      module _ (n : N) (built : IsBuilt o answers n x.1 L m b) where
-        pub one_more_entry : (new : List N) → new ≡ ns ++ n ∷ [] → EntriesSoFar P all a new rest b
-        one_more_entry new q = one_more_so_far (entry_wrong P) entry_costs (entries_stand P) all a x left rest next ns new m b h
-            (subst (λ y. StandEach o answers y (h.done ++ x ∷ []) P) (sym q) (each_push P ns h.done n x h.built.stand (subst (Stands o answers n x.1) place built.stands)))
-            (ap (malformations_at o.world x.1) (sym place) ∙ built.clean) built.spends
-
-        pub entry_memory : (e : BuildError) (w : AllocError) → e ≡ Memory w → RefusesEach o all P a b e
-        entry_memory e w q = memory_past (entry_wrong P) entry_costs (entries_stand P) all a x left rest next ns m b e w q h built.spends
+  pub record EntriesSoFar (P : Path) (all : List (Name × Data)) (a : Counts) (ns : List N) (left : List (Name × Data)) (m : Counts) : Type 0 where
+    pub so_far : SoFar (entry_wrong P) entry_costs (entries_stand P) all a ns left m
 
   -- ---- nodes for the entries of each of these
 
@@ -185,31 +161,61 @@ module _ {K R N : Type 0} (o : Kit K R) (answers : N → Answers) where
   inner_stand P ns es = StandInner o answers ns es P
 
   -- and for the entries of those so far
-  abbrev pub InnerSoFar : Path → List (Name × Data) → Counts → List N → List (Name × Data) → Counts → Type 0
-  InnerSoFar P all a ns left m = SoFar (inner_wrong P) inner_costs (inner_stand P) all a ns left m
+  pub record InnerSoFar (P : Path) (all : List (Name × Data)) (a : Counts) (ns : List N) (left : List (Name × Data)) (m : Counts) : Type 0 where
+    pub so_far : SoFar (inner_wrong P) inner_costs (inner_stand P) all a ns left m
 
-  module _ (P : Path) (all : List (Name × Data)) (a : Counts) where
-    pub no_inner : (ns : List N) (left : List (Name × Data)) → ns ≡ [] → left ≡ all → InnerSoFar P all a ns left a
-    no_inner ns left e w = none_so_far (inner_wrong P) inner_costs (inner_stand P) all a ns left e w
+module _ {K R N : Type 0} {o : Kit K R} {answers : N → Answers} {P : Path} {all : List (Name × Data)} {a : Counts} where
+  pub no_entries : {ns : List N} {left : List (Name × Data)} → ns ≡ [] → left ≡ all → EntriesSoFar o answers P all a ns left a
+  no_entries {ns} {left} e w = record { so_far = none_so_far _ _ (entries_stand o answers P) all a ns left (subst (λ x. StandEach o answers x [] P) (sym e) tt) w }
 
-    pub inner_built : (ns : List N) (left : List (Name × Data)) (m : Counts) → left ≡ [] → InnerSoFar P all a ns left m → InnerAreBuilt o answers ns all P a m
-    inner_built ns left m e h = let r = all_so_far (inner_wrong P) inner_costs (inner_stand P) all a ns left m e h in record { stand = r.stand; clean = r.clean; spends = r.spends }
+  module _ {ns : List N} {left : List (Name × Data)} {m : Counts} (h : EntriesSoFar o answers P all a ns left m) where
+    pub entries_built : left ≡ [] → AreBuilt o answers ns all P a m
+    entries_built e = let r = all_so_far _ _ (entries_stand o answers P) all a ns left m e h.so_far in record { stand = r.stand; clean = r.clean; spends = r.spends }
 
-    pub inner_memory : (ns : List N) (left : List (Name × Data)) (m : Counts) (e : BuildError) (w : AllocError) → e ≡ Memory w → InnerSoFar P all a ns left m → RefusesInner o all P a m e
-    inner_memory ns left m e w q h = memory_so_far (inner_wrong P) inner_costs (inner_stand P) all a ns left m e w q h
+    pub entries_memory : {w : AllocError} (e : BuildError) → e ≡ Memory w → RefusesEach o all P a m e
+    entries_memory e q = memory_so_far _ _ (entries_stand o answers P) all a ns left m e q h.so_far
 
-    module _ (x : Name × Data) (left rest : List (Name × Data)) (next : left ≡ x ∷ rest) (ns : List N) (m b : Counts) (L : Path) (place : L ≡ P // x.0) (h : InnerSoFar P all a ns left m) where
-      pub inner_refused : (e f : BuildError) → e ≡ f → RefusesPlaces o Entries x.1 L m b f → RefusesInner o all P a b e
-      inner_refused e f q r = refused_so_far (inner_wrong P) inner_costs (inner_stand P) all a x left rest next ns m b e h (subst₂ (λ M y. RefusesPlaces o Entries x.1 M m b y) place (sym q) r)
+    module _ {x : Name × Data} {rest : List (Name × Data)} (next : left ≡ x ∷ rest) {L : Path} (place : L ≡ P // x.0) {b : Counts} where
+      pub entry_refused : {f : BuildError} → RefusesSchema o x.1 L m b f → (e : BuildError) → e ≡ f → RefusesEach o all P a b e
+      entry_refused r e q = refused_so_far _ _ (entries_stand o answers P) all a x left rest next ns m b e h.so_far (subst₂ (λ M y. RefusesSchema o x.1 M m b y) place (sym q) r)
 
-      module _ (here : List N) (built : PlacesAreBuilt o answers Entries here x.1 L m b) where
-        pub one_more_inner : (new : List N) → new ≡ ns ++ here → InnerSoFar P all a new rest b
-        one_more_inner new q = one_more_so_far (inner_wrong P) inner_costs (inner_stand P) all a x left rest next ns new m b h
-            (subst (λ y. StandInner o answers y (h.done ++ x ∷ []) P) (sym q) (inner_push P ns here h.done x h.built.stand (subst (StandEach o answers here (members x.1)) place built.stand)))
-            (ap (λ M. each_malformed o M (members x.1)) (sym place) ∙ built.clean) built.spends
+      module _ {n : N} (built : IsBuilt o answers n x.1 L m b) where
+        pub one_more_entry : {new : List N} → new ≡ ns ++ n ∷ [] → EntriesSoFar o answers P all a new rest b
+        one_more_entry {new} q = record {
+          so_far = one_more_so_far _ _ (entries_stand o answers P) all a x left rest next ns new m b h.so_far
+              (subst (λ y. StandEach o answers y (h.so_far.done ++ x ∷ []) P) (sym q) (each_push o answers P ns h.so_far.done n x h.so_far.built.stand (subst
+              (Stands o answers n x.1) place built.stands)))
+              (ap (malformations_at o.world x.1) (sym place) ∙ built.clean) built.spends;
+        }
 
-        pub more_inner_memory : (e : BuildError) (w : AllocError) → e ≡ Memory w → RefusesInner o all P a b e
-        more_inner_memory e w q = memory_past (inner_wrong P) inner_costs (inner_stand P) all a x left rest next ns m b e w q h built.spends
+        pub entry_memory : {w : AllocError} (e : BuildError) → e ≡ Memory w → RefusesEach o all P a b e
+        entry_memory e q = memory_past _ _ (entries_stand o answers P) all a x left rest next ns m b e q h.so_far built.spends
+
+  pub no_inner : {ns : List N} {left : List (Name × Data)} → ns ≡ [] → left ≡ all → InnerSoFar o answers P all a ns left a
+  no_inner {ns} {left} e w = record { so_far = none_so_far _ _ (inner_stand o answers P) all a ns left e w }
+
+  module _ {ns : List N} {left : List (Name × Data)} {m : Counts} (h : InnerSoFar o answers P all a ns left m) where
+    pub inner_built : left ≡ [] → InnerAreBuilt o answers ns all P a m
+    inner_built e = let r = all_so_far _ _ (inner_stand o answers P) all a ns left m e h.so_far in record { stand = r.stand; clean = r.clean; spends = r.spends }
+
+    pub inner_memory : {w : AllocError} (e : BuildError) → e ≡ Memory w → RefusesInner o all P a m e
+    inner_memory e q = memory_so_far _ _ (inner_stand o answers P) all a ns left m e q h.so_far
+
+    module _ {x : Name × Data} {rest : List (Name × Data)} (next : left ≡ x ∷ rest) {L : Path} (place : L ≡ P // x.0) {b : Counts} where
+      pub inner_refused : {f : BuildError} → RefusesPlaces o Entries x.1 L m b f → (e : BuildError) → e ≡ f → RefusesInner o all P a b e
+      inner_refused r e q = refused_so_far _ _ (inner_stand o answers P) all a x left rest next ns m b e h.so_far (subst₂ (λ M y. RefusesPlaces o Entries x.1 M m b y) place (sym q) r)
+
+      module _ {here : List N} (built : PlacesAreBuilt o answers Entries here x.1 L m b) where
+        pub one_more_inner : {new : List N} → new ≡ ns ++ here → InnerSoFar o answers P all a new rest b
+        one_more_inner {new} q = record {
+          so_far = one_more_so_far _ _ (inner_stand o answers P) all a x left rest next ns new m b h.so_far
+              (subst (λ y. StandInner o answers y (h.so_far.done ++ x ∷ []) P) (sym q) (inner_push o answers P ns here h.so_far.done x h.so_far.built.stand (subst (StandEach o answers here
+              (members x.1)) place built.stand)))
+              (ap (λ M. each_malformed o M (members x.1)) (sym place) ∙ built.clean) built.spends;
+        }
+
+        pub more_inner_memory : {w : AllocError} (e : BuildError) → e ≡ Memory w → RefusesInner o all P a b e
+        more_inner_memory e q = memory_past _ _ (inner_stand o answers P) all a x left rest next ns m b e q h.so_far built.spends
 
 -- ---- entries that are read
 

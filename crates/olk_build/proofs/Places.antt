@@ -32,22 +32,14 @@ use Rattle.olk_build.specs.Placing.{PlacesAreBuilt, RefusesPlaces}
 
 no_members_layer : (x : Value-F Value) → ((m : BTreeMap (String Global) Value) → roll-Value x ≡ Object m → ⊥) → members (view (roll-Value x)) ≡ []
 no_members_layer (Value-F.Object m) h = absurd (h m (rolls-Object m))
-no_members_layer Value-F.Null h = search (rules, the_lemmas)
-no_members_layer (Value-F.Bool b) h = search (rules, the_lemmas)
-no_members_layer (Value-F.Number n) h = search (rules, the_lemmas)
-no_members_layer (Value-F.String s) h = search (rules, the_lemmas)
-no_members_layer (Value-F.Array ds) h = search (rules, the_lemmas)
+no_members_layer _ h = search (rules, the_lemmas)
 
 pub no_object_no_members : (v : Value) → ((m : BTreeMap (String Global) Value) → v ≡ Object m → ⊥) → members (view v) ≡ []
 no_object_no_members v = subst (λ x. ((m : BTreeMap (String Global) Value) → x ≡ Object m → ⊥) → members (view x) ≡ []) (rolled v) (no_members_layer (out-Value v))
 
 no_items_layer : (x : Value-F Value) → ((ds : Vec Value Global) → roll-Value x ≡ Array ds → ⊥) → items_of_array (view (roll-Value x)) ≡ []
 no_items_layer (Value-F.Array ds) h = absurd (h ds (rolls-Array ds))
-no_items_layer Value-F.Null h = search (rules, the_lemmas)
-no_items_layer (Value-F.Bool b) h = search (rules, the_lemmas)
-no_items_layer (Value-F.Number n) h = search (rules, the_lemmas)
-no_items_layer (Value-F.String s) h = search (rules, the_lemmas)
-no_items_layer (Value-F.Object m) h = search (rules, the_lemmas)
+no_items_layer _ h = search (rules, the_lemmas)
 
 pub no_array_no_items : (v : Value) → ((ds : Vec Value Global) → v ≡ Array ds → ⊥) → items_of_array (view v) ≡ []
 no_array_no_items v = subst (λ x. ((ds : Vec Value Global) → x ≡ Array ds → ⊥) → items_of_array (view x) ≡ []) (rolled v) (no_items_layer (out-Value v))
@@ -93,11 +85,11 @@ module _ {K R N : Type 0} (o : Kit K R) (answers : N → Answers) (d : Data) (L 
     itself_is_built n one h = subst₂ (λ s x. PlacesAreBuilt o answers s x d L a b) (sym q) (sym one)
         (subst (λ M. PlacesAreBuilt o answers Itself (n ∷ []) d M a b) place record { stand = h.stands; clean = h.clean; spends = h.spends })
 
-    pub itself_is_refused : (e f : BuildError) → e ≡ f → RefusesSchema o d l a b f → RefusesPlaces o r d L a b e
-    itself_is_refused e f p h = subst₂ (λ s x. RefusesPlaces o s d L a b x) (sym q) (sym p) (subst (λ M. RefusesSchema o d M a b f) place h)
+    pub itself_is_refused : {f : BuildError} → RefusesSchema o d l a b f → (e : BuildError) → e ≡ f → RefusesPlaces o r d L a b e
+    itself_is_refused {f} h e p = subst₂ (λ s x. RefusesPlaces o s d L a b x) (sym q) (sym p) (subst (λ M. RefusesSchema o d M a b f) place h)
 
-    pub itself_lost : (n : N) → IsBuilt o answers n d l a b → (e : BuildError) (w : AllocError) → e ≡ Memory w → RefusesPlaces o r d L a b e
-    itself_lost n h e w p = subst (λ s. RefusesPlaces o s d L a b e) (sym q) (refuses_memory _ _ a b e w p (within_exactly a b _ h.spends))
+    pub itself_lost : (n : N) → IsBuilt o answers n d l a b → {w : AllocError} (e : BuildError) → e ≡ Memory w → RefusesPlaces o r d L a b e
+    itself_lost n h e p = subst (λ s. RefusesPlaces o s d L a b e) (sym q) (refuses_memory (within_exactly h.spends) e p)
 
 -- ---- entries and branches, as the results of what builds them tell
 

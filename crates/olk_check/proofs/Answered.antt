@@ -33,8 +33,8 @@ module _ {X : Type 0} (f : X → Question) (a b : Asking) where
   two_first x y xs One h = absurd h
   two_first x y xs Two h = h
 
-  pub first_one : {x : X} {xs ys : List X} (s : Accepted) → ys ≡ x ∷ xs → AsksOne a b (f x) s → AsksFirst a b f ys s
-  first_one {x} {xs} s e h = subst (λ l. AsksFirst a b f l s) (sym e) (one_first x xs s h)
+  pub first_one : {x y : X} {xs ys : List X} (s : Accepted) → ys ≡ x ∷ xs → x ≡ y → AsksOne a b (f y) s → AsksFirst a b f ys s
+  first_one {x} {y} {xs} s e is h = subst (λ l. AsksFirst a b f l s) (sym e) (one_first x xs s (subst (λ k. AsksOne a b (f k) s) (sym is) h))
 
   pub first_two : {x y : X} {xs ys : List X} (s : Accepted) → ys ≡ x ∷ y ∷ xs → AsksTwo a b (f x) (f y) s → AsksFirst a b f ys s
   first_two {x} {y} {xs} s e h = subst (λ l. AsksFirst a b f l s) (sym e) (two_first x y xs s h)
@@ -53,9 +53,8 @@ module _ {X : Type 0} {f : X → Question} {all : List X} {a b c : Asking} where
   one_left (x ∷ xs) h k = all_go_on h refl k
 
   two_left : (rest : List X) → AllLeft f all rest a b → AsksFirst b c f rest Two → AllLeft f all (drop 1 (drop 1 rest)) a c
-  two_left [] h k = absurd k
-  two_left (x ∷ []) h k = absurd k
   two_left (x ∷ y ∷ xs) h k = record { goes_on = λ d r l. h.goes_on d r (subst (λ q. Asks b d q r) (both_around (f x) (f y) (every f xs)) (both_go_on k l)) }
+  two_left _ h k = absurd k
 
   pub go_on_behind_one : {rest : List X} {s : Accepted} → AllLeft f all rest a b → s ≡ One → AsksFirst b c f rest s → AllLeft f all (drop 1 rest) a c
   go_on_behind_one {rest} h is k = one_left rest h (subst (AsksFirst b c f rest) is k)
@@ -65,9 +64,8 @@ module _ {X : Type 0} {f : X → Question} {all : List X} {a b c : Asking} where
 
 module _ {X : Type 0} (f : X → Question) (b c : Asking) where
   two_there : (rest : List X) → AsksFirst b c f rest Two → 1 < length rest
-  two_there [] k = absurd k
-  two_there (x ∷ []) k = absurd k
   two_there (x ∷ y ∷ xs) k = omega arith
+  two_there _ k = absurd k
 
   pub two_are_left : (rest : List X) {s : Accepted} → s ≡ Two → AsksFirst b c f rest s → 1 < length rest
   two_are_left rest is k = two_there rest (subst (AsksFirst b c f rest) is k)

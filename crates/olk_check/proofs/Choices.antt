@@ -12,13 +12,6 @@ use Rattle.olk_check.specs.Asks.{Asks}
 use Rattle.olk_check.proofs.Asked.{unasked}
 use Rattle.olk_check.proofs.Walks.{both_go_on, both_stop, accepted_then, refused_then}
 
--- what is left decides about all
-pub record Leaves (all left : Question) (a b : Asking) : Type 0 where
-  pub goes_on : (end : Asking) (result : Bool) → Asks b end left result → Asks a end all result
-
-pub leaves_all : {q : Question} {a : Asking} → Leaves q q a a
-leaves_all = record { goes_on = λ c r h. h }
-
 -- a member, and what speaks of it
 pub record Spoken (R N : Type 0) : Type 0 where
   pub answers : R → Name → Says
@@ -52,38 +45,40 @@ module _ {R N : Type 0} (w : Spoken R N) where
     pub nothing_matches : {a : Asking} {spoken : Bool} → spoken ≡ true → Asks a a (patterns_from spoken 0 w.sides.patterns) true
     nothing_matches {a} {spoken} e = subst (λ b. Asks a a (patterns_from b 0 w.sides.patterns) true) (sym e) (subst (λ q. Asks a a q true) (sym (none_left 0 w.sides.patterns)) (unasked a true))
 
-  module _ (spoken : Bool) (i : ℕ) where
-    module _ {e : CompiledPattern R × N} (here : drop i w.sides.patterns ≡ e ∷ drop (i + 1) w.sides.patterns) {known : Says} (is : known ≡ known_at w.sides w.declared i) where
-      abbrev matched : Question
-      matched = both (w.means e.1 w.value) (patterns_left true (i + 1))
+-- the patterns from an index on decide about all
+pub record Leaves {R N : Type 0} (w : Spoken R N) (all : Question) (spoken : Bool) (i : ℕ) (a b : Asking) : Type 0 where
+  pub goes_on : (end : Asking) (result : Bool) → Asks b end (patterns_left w spoken i) result → Asks a end all result
 
-      abbrev match_is_asked : Question
-      match_is_asked = known_or_asked known (match_question w.answers w.costs e.0 w.name)
+module _ {R N : Type 0} {w : Spoken R N} {all : Question} {spoken : Bool} {i : ℕ} {a b : Asking} (h : Leaves w all spoken i a b) where
+  module _ {e : CompiledPattern R × N} (here : drop i w.sides.patterns ≡ e ∷ drop (i + 1) w.sides.patterns) {known : Says} (is : known ≡ known_at w.sides w.declared i) where
+    abbrev matched : Question
+    matched = both (w.means e.1 w.value) (patterns_left w true (i + 1))
 
-      asked : {b c : Asking} {r : Bool} → Asks b c match_is_asked r → Asks b c (match_asked w.answers w.costs w.means w.sides w.declared w.name i e.0) r
-      asked {b} {c} {r} k = subst (λ s. Asks b c (known_or_asked s (match_question w.answers w.costs e.0 w.name)) r) is k
+    abbrev match_is_asked : Question
+    match_is_asked = known_or_asked known (match_question w.answers w.costs e.0 w.name)
 
-      at_this : {all : Question} {a b end : Asking} {r : Bool} → Leaves all (patterns_left spoken i) a b
-          → Asks b end (conditional (match_asked w.answers w.costs w.means w.sides w.declared w.name i e.0) matched (patterns_left spoken (i + 1))) r → Asks a end all r
-      at_this {b = b} {end = end} {r = r} h k = h.goes_on end r (subst (λ l. Asks b end (patterns_from spoken i l) r) (sym here) k)
+    asked : {c : Asking} {r : Bool} → Asks b c match_is_asked r → Asks b c (match_asked w.answers w.costs w.means w.sides w.declared w.name i e.0) r
+    asked {c} {r} k = subst (λ s. Asks b c (known_or_asked s (match_question w.answers w.costs e.0 w.name)) r) is k
 
-      module _ {all : Question} {a b c : Asking} (h : Leaves all (patterns_left spoken i) a b) where
-        pub unmatched_goes_on : Asks b c match_is_asked false → Leaves all (patterns_left spoken (i + 1)) a c
-        unmatched_goes_on k = record { goes_on = λ end r l. at_this h (refused_then matched (patterns_left spoken (i + 1)) (asked k) l) }
+    at_this : {end : Asking} {r : Bool} → Asks b end (conditional (match_asked w.answers w.costs w.means w.sides w.declared w.name i e.0) matched (patterns_left w spoken (i + 1))) r → Asks a end all r
+    at_this {end} {r} k = h.goes_on end r (subst (λ l. Asks b end (patterns_from w spoken i l) r) (sym here) k)
 
-        module _ {f : Asking} (k : Asks b c match_is_asked true) where
-          pub matched_goes_on : Asks c f (w.means e.1 w.value) true → Leaves all (patterns_left true (i + 1)) a f
-          matched_goes_on j = record { goes_on = λ end r l. at_this h (accepted_then matched (patterns_left spoken (i + 1)) (asked k) (both_go_on j l)) }
+    pub unmatched_goes_on : {c : Asking} → Asks b c match_is_asked false → Leaves w all spoken (i + 1) a c
+    unmatched_goes_on k = record { goes_on = λ end r l. at_this (refused_then matched (patterns_left w spoken (i + 1)) (asked k) l) }
 
-          pub matched_stops : Asks c f (w.means e.1 w.value) false → Asks a f all false
-          matched_stops j = at_this h (accepted_then matched (patterns_left spoken (i + 1)) (asked k) (both_stop (patterns_left true (i + 1)) j))
+    module _ {c f : Asking} (k : Asks b c match_is_asked true) where
+      pub matched_goes_on : Asks c f (w.means e.1 w.value) true → Leaves w all true (i + 1) a f
+      matched_goes_on j = record { goes_on = λ end r l. at_this (accepted_then matched (patterns_left w spoken (i + 1)) (asked k) (both_go_on j l)) }
 
-    module _ {all : Question} {a b : Asking} (none : drop i w.sides.patterns ≡ []) (h : Leaves all (patterns_left spoken i) a b) where
-      at_end : {end : Asking} {r : Bool} → Asks b end (rest_left spoken) r → Asks a end all r
-      at_end {end} {r} k = h.goes_on end r (subst (λ l. Asks b end (patterns_from spoken i l) r) (sym none) k)
+      pub matched_stops : Asks c f (w.means e.1 w.value) false → Asks a f all false
+      matched_stops j = at_this (accepted_then matched (patterns_left w spoken (i + 1)) (asked k) (both_stop (patterns_left w true (i + 1)) j))
 
-      pub spoken_ends : spoken ≡ true → Asks a b all spoken
-      spoken_ends e = subst (λ r. Asks a b all r) (sym e) (at_end (subst (λ z. Asks b b (rest_left z) true) (sym e) (unasked b true)))
+  module _ (none : drop i w.sides.patterns ≡ []) where
+    at_end : {end : Asking} {r : Bool} → Asks b end (rest_left w spoken) r → Asks a end all r
+    at_end {end} {r} k = h.goes_on end r (subst (λ l. Asks b end (patterns_from w spoken i l) r) (sym none) k)
 
-      pub rest_ends : {c : Asking} {r : Bool} → spoken ≡ false → Asks b c (rest_means w.means w.value w.sides.rest) r → Asks a c all r
-      rest_ends {c} {r} e k = at_end (subst (λ z. Asks b c (rest_left z) r) (sym e) k)
+    pub spoken_ends : spoken ≡ true → Asks a b all spoken
+    spoken_ends e = subst (λ r. Asks a b all r) (sym e) (at_end (subst (λ z. Asks b b (rest_left w z) true) (sym e) (unasked b true)))
+
+    pub rest_ends : {c : Asking} {r : Bool} → spoken ≡ false → Asks b c (rest_means w.means w.value w.sides.rest) r → Asks a c all r
+    rest_ends {c} {r} e k = at_end (subst (λ z. Asks b c (rest_left w z) r) (sym e) k)

@@ -8,11 +8,8 @@ use Rattle.olk_check.specs.Asks.{OnlyAsks, Asks}
 module _ (a : Asking) where
   only_matches : (costs : Bool) (s : Says) → OnlyAsks a (asked_of costs s a)
   only_matches true matched = record { answer = refl; compiled = refl; leaves = refl; made = refl; asked = omega arith; unfinished = omega arith }
-  only_matches true unmatched = record { answer = refl; compiled = refl; leaves = refl; made = refl; asked = omega arith; unfinished = omega arith }
-  only_matches true unfinished = record { answer = refl; compiled = refl; leaves = refl; made = refl; asked = omega arith; unfinished = omega arith }
   only_matches false matched = record { answer = refl; compiled = refl; leaves = refl; made = refl; asked = omega arith; unfinished = omega arith }
-  only_matches false unmatched = record { answer = refl; compiled = refl; leaves = refl; made = refl; asked = omega arith; unfinished = omega arith }
-  only_matches false unfinished = record { answer = refl; compiled = refl; leaves = refl; made = refl; asked = omega arith; unfinished = omega arith }
+  only_matches _ _ = record { answer = refl; compiled = refl; leaves = refl; made = refl; asked = omega arith; unfinished = omega arith }
 
   asks_matcher : (costs : Bool) (s : Says) → Asks a (asked_of costs s a) (said_to costs s) (reads_as a.answer s)
   asks_matcher true matched = record { only = only_matches true matched; asked_to = omega arith; unfinished_to = omega arith; verdict = refl; certain = λ e l u. refl }

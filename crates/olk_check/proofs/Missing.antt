@@ -47,8 +47,7 @@ one_met {p} n e = e ∙ one_there p n
 
 both_there : (p q : Bool) (m n : Name) → (p && q) ≡ is_empty (put_if (not p) m (put_if (not q) n []))
 both_there true true m n = refl
-both_there true false m n = refl
-both_there false q m n = refl
+both_there _ _ m n = refl
 
 pub both_met : {p q x y : Bool} (m n : Name) → x ≡ p → y ≡ q → (x && y) ≡ is_empty (put_if (not p) m (put_if (not q) n []))
 both_met {p} {q} m n e f = (λ i. e i && f i) ∙ both_there p q m n

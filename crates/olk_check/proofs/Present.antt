@@ -1,5 +1,5 @@
 -- A name that is looked for among the members of an object.
-use Rattle.std.proofs.Common.{◌≡◌, Bool, true, ◌||◌, List, [], ◌∷◌, bytes_eq, is_some, refl, sym, ap, ◌∙◌, Ordering, Less, Equal, Greater, Option}
+use Rattle.std.proofs.Common.{◌≡◌, Bool, true, ◌||◌, List, [], ◌∷◌, bytes_eq, is_some, refl, sym, ap, ◌∙◌, Ordering, Less, Option}
 use Rattle.std.specs.Ordering.{nat_cmp, is_eq}
 use Rattle.std.specs.Cmp.Lexicographic.{slice_cmp}
 use Rattle.std.proofs.Math.Bool.{or-false}
@@ -14,8 +14,7 @@ pub record Sought (n : Name) (all rest : List (Name × Data)) (met : Bool) : Typ
 
 first_or_later : (n : Name) (x : Data) (o : Ordering) (r : Option Data) → is_some (first_if_equal o x r) ≡ (is_eq o || is_some r)
 first_or_later n x Less r = refl
-first_or_later n x Equal r = refl
-first_or_later n x Greater r = refl
+first_or_later n x _ r = refl
 
 module _ {n : Name} {all : List (Name × Data)} where
   module _ {rest : List (Name × Data)} {met : Bool} where

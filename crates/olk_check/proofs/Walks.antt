@@ -1,6 +1,12 @@
 -- Walks over lists of questions.
 use Rattle.std.proofs.Common.{◌≡◌, Bool, true, false, not, cond, ◌&&◌, ◌||◌, List, [], ◌∷◌, sym, ap, subst, ◌∙◌, arith}
+use Rattle.std.specs.Prelude.{Option, option_to_list, Vec}
+use Rattle.std.specs.declared.alloc.Global.{Global}
+use Rattle.serde_json.specs.Data.{Data}
 use Rattle.olk_base.specs.Lawful.{Asking}
+use Rattle.olk_tree.specs.Bodies.{body_means}
+use Rattle.olk_tree.specs.declared.node.Body.{Body}
+use Rattle.olk_tree.specs.declared.node.Body.TheVariants.{Keywords}
 use Rattle.olk_tree.specs.Questions.{Question, always, both, either, opposite, conditional, every, some}
 use Rattle.olk_check.specs.Asks.{Asks}
 use Rattle.olk_check.proofs.Asked.{join, settles, unasked}
@@ -74,3 +80,12 @@ module _ {X : Type 0} {f : X → Question} {all : List X} where
 pub ruleset list_walks = (all_start, any_start)
 
 pub ruleset conditional_answers = (accepted_then, refused_then, accepted_alone, refused_alone)
+
+-- the keywords of a body, as what reads them hands them over
+pub keywords_asked : {W : Type 0} (q : W → Data → Question) (v : Data) {body : Body W} {ks : Vec W Global} {l : List W} {a b : Asking} {r : Bool} → body ≡ Keywords ks
+    → l ≡ ks.items → Asks a b (every (λ k. q k v) l) r → Asks a b (body_means q body v) r
+keywords_asked q v {a = a} {b} {r} is same h = subst (λ x. Asks a b (body_means q x v) r) (sym is) (subst (λ x. Asks a b (every (λ k. q k v) x) r) same h)
+
+-- what is found under a name, as another look-up finds it
+pub found_asked : {N : Type 0} (f : N → Question) {o p : Option N} {a b : Asking} {r : Bool} → o ≡ p → Asks a b (every f (option_to_list o)) r → Asks a b (every f (option_to_list p)) r
+found_asked f {a = a} {b} {r} e h = subst (λ x. Asks a b (every f (option_to_list x)) r) e h

@@ -46,7 +46,7 @@ module _ {K R N : Type 0} {o : Kit K R} {answers : N → Answers} {ms : Members}
       → NeighbourIsBuilt o ms (λ m. PatternsStand o answers (known_of ms) m (P // codes "patternProperties")) x (codes "patternProperties") P a b
   patterns_there {x} = subst (λ W. NeighbourIsBuilt o ms (λ m. PatternsStand o answers (known_of ms) m (W // codes "patternProperties")) x (codes "patternProperties") W a b) place
 
-module _ {K R N : Type 0} (o : Kit K R) (answers : N → Answers) (ms : Members) (P : Path) where
+module _ (ms : Members) where
   pub others_known : IsKnown (known_of ms) ms (codes "additionalProperties")
   others_known = known_alone (known_of ms) ms (codes "additionalProperties") refl
 
@@ -56,14 +56,15 @@ module _ {K R N : Type 0} (o : Kit K R) (answers : N → Answers) (ms : Members)
   pub patterns_known : IsKnown (known_of ms) ms (codes "patternProperties")
   patterns_known = ((λ e. absurd (true≢false (sym e))), λ e. refl)
 
+module _ {K R N : Type 0} (o : Kit K R) (answers : N → Answers) (ms : Members) (P : Path) where
   -- ---- `properties`
 
-  module _ (p : Part K R N) (d : Data) (a b : Counts) (part : IsPart o answers p (known_of ms) (codes "properties") d (P // codes "properties") a b) where
+  module _ {p : Part K R N} {d : Data} {a b : Counts} (part : IsPart o answers p (known_of ms) (codes "properties") d (P // codes "properties") a b) where
     declared_part : PartsAreBuilt o answers ms (p ∷ []) ((codes "properties", d) ∷ []) P a b
-    declared_part = part ms P refl declared_known
+    declared_part = part ms P refl (declared_known ms)
 
     pub no_other_declared : ((n : List Name) → p.shape ≡ shape.Properties n → ⊥) → ⊥
-    no_other_declared f = let r = only_properties o answers p.shape (shape_named o answers p.shape (codes "properties") d declared_part.stand.0.shape refl) in f r.0 r.1
+    no_other_declared f = let r = only_properties p.shape (shape_named o p.shape (codes "properties") d declared_part.stand.0.shape refl) in f r.0 r.1
 
     pub declared_built : (n : List Name) → p.shape ≡ shape.Properties n → lookup_name (codes "properties") (listed ms) ≡ Some d → NeighbourIsBuilt o ms
         (λ x. DeclaredStand o answers x (P // codes "properties")) (Some (record { names = n; nodes = p.nodes })) (codes "properties") P a b
@@ -75,12 +76,12 @@ module _ {K R N : Type 0} (o : Kit K R) (answers : N → Answers) (ms : Members)
 
   -- ---- `patternProperties`
 
-  module _ (p : Part K R N) (d : Data) (a b : Counts) (part : IsPart o answers p (known_of ms) (codes "patternProperties") d (P // codes "patternProperties") a b) where
+  module _ {p : Part K R N} {d : Data} {a b : Counts} (part : IsPart o answers p (known_of ms) (codes "patternProperties") d (P // codes "patternProperties") a b) where
     patterns_part : PartsAreBuilt o answers ms (p ∷ []) ((codes "patternProperties", d) ∷ []) P a b
-    patterns_part = part ms P refl patterns_known
+    patterns_part = part ms P refl (patterns_known ms)
 
     pub no_other_patterns : ((v : Vec (CompiledPattern R) Global) (t : Table) → p.shape ≡ shape.PatternProperties v t → ⊥) → ⊥
-    no_other_patterns f = let r = only_pattern_properties o answers p.shape (shape_named o answers p.shape (codes "patternProperties") d patterns_part.stand.0.shape refl) in f r.0 r.1 r.2
+    no_other_patterns f = let r = only_pattern_properties p.shape (shape_named o p.shape (codes "patternProperties") d patterns_part.stand.0.shape refl) in f r.0 r.1 r.2
 
     pub patterns_built : (v : Vec (CompiledPattern R) Global) (t : Table) → p.shape ≡ shape.PatternProperties v t → lookup_name (codes "patternProperties") (listed ms) ≡ Some d
         → NeighbourIsBuilt o ms (λ x. PatternsStand o answers (known_of ms) x (P // codes "patternProperties"))
@@ -106,20 +107,18 @@ module _ {K R N : Type 0} (o : Kit K R) (answers : N → Answers) (ms : Members)
       → option_map (λ (m : DeclaredNodes N). length m.names) x ≡ option_map (λ d. length (members d)) a
   declared_counted None None L h = refl
   declared_counted (Some m) (Some d) L h = ap Some (ap length h.names ∙ length-map (members d) (λ e. e.0))
-  declared_counted None (Some d) L h = absurd h
-  declared_counted (Some m) None L h = absurd h
+  declared_counted _ _ L h = absurd h
 
   patterns_counted : (x : Option (Patterns R N)) (a : Option Data) (L : Path) → Fills (λ x. PatternsStand o answers (known_of ms) x L) x a
       → option_map (λ (p : Patterns R N). length (zip p.patterns.items p.nodes.items)) x ≡ option_map (λ d. length (members d)) a
   patterns_counted None None L h = refl
   patterns_counted (Some p) (Some d) L h = ap Some (zip_length o answers p.patterns.items p.nodes.items (members d) L h.patterns h.nodes)
-  patterns_counted None (Some d) L h = absurd h
-  patterns_counted (Some p) None L h = absurd h
+  patterns_counted _ _ L h = absurd h
 
   -- ---- `additionalProperties`, where it is not true
 
   -- the last node is that for the rest
-  rest_there : (x : Shape K R) (d : Data) (ns : List N) (r : Option N) (L : Path) → additional_properties ≡ which_of o answers x
+  rest_there : (x : Shape K R) (d : Data) (ns : List N) (r : Option N) (L : Path) → additional_properties ≡ which_of x
       → IsShape o (codes "additionalProperties") d x → is_truth true d ≡ false → IsLast ns r → StandAt o answers (reads_of x) ns d L → RestStands o answers r d L × (is_some r ≡ is_object d)
   rest_there shape.AdditionalProperties d ns (Some n) L e s not_true last h = by last.0 (subst (λ l. StandAt o answers Itself l d L) last.1 h)
     where
@@ -137,19 +136,19 @@ module _ {K R N : Type 0} (o : Kit K R) (answers : N → Answers) (ms : Members)
   rest_there shape.AnyOthers d ns r L e s not_true last h = absurd (true≢false (sym s.1 ∙ not_true))
   rest_there x d ns r L e s not_true last h = absurd (cc)
 
-  module _ (p : Part K R N) (d : Data) (a m : Counts) (part : IsPart o answers p (known_of ms) (codes "additionalProperties") d (P // codes "additionalProperties") a m)
+  module _ {p : Part K R N} {d : Data} {a m : Counts} (part : IsPart o answers p (known_of ms) (codes "additionalProperties") d (P // codes "additionalProperties") a m)
       (not_true : is_truth true d ≡ false) (r : Option N) (last : IsLast p.nodes.items r) where
     others_part : PartsAreBuilt o answers ms (p ∷ []) ((codes "additionalProperties", d) ∷ []) P a m
-    others_part = part ms P refl others_known
+    others_part = part ms P refl (others_known ms)
 
     rest_is : RestStands o answers r d (P // codes "additionalProperties") × (is_some r ≡ is_object d)
     rest_is =
         let s = others_part.stand.0 in rest_there p.shape d p.nodes.items r (P // codes "additionalProperties")
-        (shape_named o answers p.shape (codes "additionalProperties") d s.shape refl) s.shape not_true last s.nodes
+        (shape_named o p.shape (codes "additionalProperties") d s.shape refl) s.shape not_true last s.nodes
 
-    module _ (b : Beside R N) (n e : Counts) (declared : NeighbourIsBuilt o ms (λ x. DeclaredStand o answers x (P // codes "properties")) b.properties (codes "properties") P m n)
+    module _ (b : Beside R N) {n e : Counts} (declared : NeighbourIsBuilt o ms (λ x. DeclaredStand o answers x (P // codes "properties")) b.properties (codes "properties") P m n)
         (patterns : NeighbourIsBuilt o ms (λ x. PatternsStand o answers (known_of ms) x (P // codes "patternProperties")) b.patterns (codes "patternProperties") P n e)
-        (plan : Planned) (chosen : plan ≡ plan_of ms) where
+        {plan : Planned} (chosen : plan ≡ plan_of ms) where
       pub restriction_is_built : (ks : List (KeywordOver K R N)) → has_repeat (names_of (listed ms)) ≡ false → MakesRestriction o answers p.location r b P plan ks
           → lookup_name (codes "additionalProperties") (listed ms) ≡ Some d → TogetherAreBuilt o answers ms (codes "additionalProperties") d (restriction_members ms d) ks P a e
       restriction_is_built ks distinct make there = record {

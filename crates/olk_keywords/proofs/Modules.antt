@@ -75,12 +75,18 @@ module _ {K R N : Type 0} (L : Path) (ns : List N) (d : Data) (e : length ns ≡
 module _ {K R N : Type 0} (o : Kit K R) (answers : N → Answers) where
   stand_length : (ns : List N) (es : List (Name × Data)) (P : Path) → StandEach o answers ns es P → length ns ≡ length es
   stand_length [] [] P h = refl
-  stand_length [] (e ∷ es) P h = absurd h
-  stand_length (n ∷ ns) [] P h = absurd h
   stand_length (n ∷ ns) (e ∷ es) P h = ap (λ k. suc k) (stand_length ns es P h.1)
+  stand_length _ _ P h = absurd h
 
-  -- ---- the shape, by the name
+  pub zip_length : (ps : List (CompiledPattern R)) (ns : List N) (es : List (Name × Data)) (L : Path) → ArePatterns o ps es → StandEach o answers ns es L → length (zip ps ns) ≡ length es
+  zip_length [] ns [] L h s = refl
+  zip_length (p ∷ ps) [] (e ∷ es) L h s = absurd s
+  zip_length (p ∷ ps) (n ∷ ns) (e ∷ es) L h s = ap (λ k. suc k) (zip_length ps ns es L h.1 s.1)
+  zip_length _ ns _ L h s = absurd h
 
+-- ---- the shape, by the name
+
+module _ {K R : Type 0} where
   abbrev pub which_of : Shape K R → Keyword
   which_of (shape.Properties n) = properties
   which_of (shape.PatternProperties v t) = pattern_properties
@@ -105,15 +111,6 @@ module _ {K R N : Type 0} (o : Kit K R) (answers : N → Answers) where
   which_of shape.Unpaired = unread
   which_of (shape.Leaf l) = leaf
   which_of shape.Unread = unread
-
-  pub shape_named : (x : Shape K R) (k : Name) (d : Data) → IsShape o k d x → is_conditional_name k ≡ false → keyword_named o.world k ≡ which_of x
-  shape_named shape.If k d s other = ap (keyword_named o.world) s
-  shape_named shape.Then k d s other = ap (keyword_named o.world) s
-  shape_named shape.Else k d s other = ap (keyword_named o.world) s
-  shape_named shape.Unpaired k d s other = absurd (true≢false (sym s ∙ other))
-  shape_named (shape.Leaf l) k d s other = s.0
-  shape_named shape.Unread k d s other = s
-  shape_named x k d s other = ap (keyword_named o.world) s.0
 
   only_all_of : (x : Shape K R) → all_of ≡ which_of x → x ≡ shape.AllOf
   only_all_of shape.AllOf e = refl
@@ -159,15 +156,26 @@ module _ {K R N : Type 0} (o : Kit K R) (answers : N → Answers) where
   only_property_dependencies (shape.PropertyDependencies n v) e = (n, v, refl)
   only_property_dependencies x e = absurd (cc)
 
-  -- ---- a part at its name, below P
+module _ {K R : Type 0} (o : Kit K R) where
+  pub shape_named : (x : Shape K R) (k : Name) (d : Data) → IsShape o k d x → is_conditional_name k ≡ false → keyword_named o.world k ≡ which_of x
+  shape_named shape.If k d s other = ap (keyword_named o.world) s
+  shape_named shape.Then k d s other = ap (keyword_named o.world) s
+  shape_named shape.Else k d s other = ap (keyword_named o.world) s
+  shape_named shape.Unpaired k d s other = absurd (true≢false (sym s ∙ other))
+  shape_named (shape.Leaf l) k d s other = s.0
+  shape_named shape.Unread k d s other = s
+  shape_named x k d s other = ap (keyword_named o.world) s.0
 
+-- ---- a part at its name, below P
+
+module _ {K R N : Type 0} {o : Kit K R} {answers : N → Answers} where
   -- in an object of which it knows enough
-  module _ (p : Part K R N) (c : Known) (k : Name) (d : Data) (P : Path) (a b : Counts) (h : IsPart o answers p c k d (P // k) a b) (ms : Members) (known : IsKnown c ms k) where
+  module _ {p : Part K R N} {c : Known} {k : Name} {d : Data} (P : Path) {a b : Counts} (h : IsPart o answers p c k d (P // k) a b) (ms : Members) (known : IsKnown c ms k) where
     stands_there : PartStands o answers (known_of ms) p (k, d) P
     stands_there = (h ms P refl known).stand.0
 
-    built_there : (ks : List (KeywordOver K R N)) → MakesMember o answers p.shape p.location p.nodes.items ks → (Q : Path) → P // k ≡ Q // k → MemberIsBuilt o answers ms ks (k, d) Q a b
-    built_there ks make Q e =
+    built_there : {ks : List (KeywordOver K R N)} → MakesMember o answers p.shape p.location p.nodes.items ks → (Q : Path) → P // k ≡ Q // k → MemberIsBuilt o answers ms ks (k, d) Q a b
+    built_there make Q e =
         let built = h ms Q e known in
         let s = built.stand.0 in
         record {
@@ -177,25 +185,25 @@ module _ {K R N : Type 0} (o : Kit K R) (answers : N → Answers) where
         }
 
     -- what is built is lost where there is no memory
-    memory_there : (e : BuildError) (m : AllocError) → e ≡ Memory m → (Q : Path) → P // k ≡ Q // k → Refuses (member_malformations o.world ms (k, d) (which o ms (k, d)) Q)
+    memory_there : {m : AllocError} (e : BuildError) → e ≡ Memory m → (Q : Path) → P // k ≡ Q // k → Refuses (member_malformations o.world ms (k, d) (which o ms (k, d)) Q)
         (member_cost o.world ms (k, d) (which o ms (k, d))) a b e
-    memory_there e m q Q f = refuses_memory _ _ a b e m q (within_exactly a b _ (spends_same a b _ _ (sum_last _) (h ms Q f known).spends))
+    memory_there e q Q f = refuses_memory (within_exactly (spends_same a b _ _ (sum_last _) (h ms Q f known).spends)) e q
 
   -- in any object
-  module _ (p : Part K R N) (c : Known) (k : Name) (d : Data) (P : Path) (a b : Counts) (h : IsPart o answers p c k d (P // k) a b) (other : is_read_beside k ≡ false) where
+  module _ {p : Part K R N} {c : Known} {k : Name} {d : Data} (P : Path) {a b : Counts} (h : IsPart o answers p c k d (P // k) a b) (other : is_read_beside k ≡ false) where
     known : (ms : Members) → IsKnown c ms k
     known ms = known_alone c ms k other
 
     stands : PartStands o answers (known_of no_members) p (k, d) P
-    stands = stands_there p c k d P a b h no_members (known no_members)
+    stands = stands_there P h no_members (known no_members)
 
-    member_built : (ks : List (KeywordOver K R N)) → MakesMember o answers p.shape p.location p.nodes.items ks → (ms : Members) (Q : Path) → P // k ≡ Q // k
+    member_built : {ks : List (KeywordOver K R N)} → MakesMember o answers p.shape p.location p.nodes.items ks → (ms : Members) (Q : Path) → P // k ≡ Q // k
         → MemberIsBuilt o answers ms ks (k, d) Q a b
-    member_built ks make ms Q e = built_there p c k d P a b h ms (known ms) ks make Q e
+    member_built make ms Q e = built_there P h ms (known ms) make Q e
 
-    claims_built : (ks : List (KeywordOver K R N)) (q : Planned) → MakesClaims o answers p.shape p.location p.nodes.items P q ks → (ms : Members)
+    claims_built : {ks : List (KeywordOver K R N)} {q : Planned} → MakesClaims o answers p.shape p.location p.nodes.items P q ks → (ms : Members)
         → has_repeat (map (λ m. m.0) (listed ms)) ≡ false → q ≡ plan_of ms → is_taken q k ≡ false → lookup_name k (listed ms) ≡ Some d → ClaimsAreBuilt o answers ms ks (k, d) P a b
-    claims_built ks q make ms distinct chosen untaken there =
+    claims_built {ks} make ms distinct chosen untaken there =
         let built = h ms P refl (known ms) in
         let s = built.stand.0 in
         record {
@@ -207,13 +215,13 @@ module _ {K R N : Type 0} (o : Kit K R) (answers : N → Answers) where
         }
 
     -- the shape that the part has
-    module _ (x : Shape K R) (q : p.shape ≡ x) where
+    module _ {x : Shape K R} (q : p.shape ≡ x) where
       pub shape_is : IsShape o k d x
       shape_is = subst (IsShape o k d) q stands.shape
 
-      pub built_of_shape : (ks : List (KeywordOver K R N)) → MakesMember o answers x p.location p.nodes.items ks → (ms : Members) (Q : Path) → P // k ≡ Q // k
+      pub built_of_shape : {ks : List (KeywordOver K R N)} → MakesMember o answers x p.location p.nodes.items ks → (ms : Members) (Q : Path) → P // k ≡ Q // k
           → MemberIsBuilt o answers ms ks (k, d) Q a b
-      built_of_shape ks make = member_built ks (subst (λ y. MakesMember o answers y p.location p.nodes.items ks) (sym q) make)
+      built_of_shape {ks} make = member_built (subst (λ y. MakesMember o answers y p.location p.nodes.items ks) (sym q) make)
 
       nodes_stand : StandAt o answers (reads_of x) p.nodes.items d p.location
       nodes_stand = subst₂ (λ y L. StandAt o answers (reads_of y) p.nodes.items d L) q (sym stands.place) stands.nodes
@@ -234,65 +242,65 @@ module _ {K R N : Type 0} (o : Kit K R) (answers : N → Answers) where
       -- there are as many nodes as branches
       pub branches_counted : reads_of x ≡ Branches → length p.nodes.items ≡ length (items_of_array d)
       branches_counted r =
-          stand_length p.nodes.items (numbered (items_of_array d)) (P // k) (subst (λ y. StandAt o answers y p.nodes.items d (P // k)) (ap reads_of q ∙ r) stands.nodes)
+          stand_length o answers p.nodes.items (numbered (items_of_array d)) (P // k) (subst (λ y. StandAt o answers y p.nodes.items d (P // k)) (ap reads_of q ∙ r) stands.nodes)
           ∙ length-numbered (items_of_array d)
 
-      pub built_without_nodes : reads_of x ≡ Nothing → (ks : List (KeywordOver K R N)) → MakesMember o answers x p.location [] ks → (ms : Members) (Q : Path)
+      pub built_without_nodes : reads_of x ≡ Nothing → {ks : List (KeywordOver K R N)} → MakesMember o answers x p.location [] ks → (ms : Members) (Q : Path)
           → P // k ≡ Q // k → MemberIsBuilt o answers ms ks (k, d) Q a b
-      built_without_nodes r ks make = built_of_shape ks (subst (λ ns. MakesMember o answers x p.location ns ks) (sym none) make)
+      built_without_nodes r {ks} make = built_of_shape (subst (λ ns. MakesMember o answers x p.location ns ks) (sym none) make)
         where
           none : p.nodes.items ≡ []
           none = subst (λ y. StandAt o answers y p.nodes.items d (P // k)) (ap reads_of q ∙ r) stands.nodes
 
     -- what is built is lost where there is no memory
-    pub memory_after : (e : BuildError) (m : AllocError) → e ≡ Memory m → RefusesMember o k d (P // k) a b e
-    memory_after e m q ms Q f = memory_there p c k d P a b h ms (known ms) e m q Q f
+    pub memory_after : {m : AllocError} (e : BuildError) → e ≡ Memory m → RefusesMember o k d (P // k) a b e
+    memory_after e q ms Q f = memory_there P h ms (known ms) e q Q f
 
   -- ---- keyword by keyword
 
-  module _ (p : Part K R N) (c : Known) (d : Data) (P : Path) (a b : Counts) where
+  module _ {p : Part K R N} {c : Known} {d : Data} (P : Path) {a b : Counts} where
     module _ (h : IsPart o answers p c (codes "allOf") d (P // codes "allOf") a b) where
       all_of_shape : p.shape ≡ shape.AllOf
-      all_of_shape = only_all_of p.shape (shape_named p.shape (codes "allOf") d (stands p c (codes "allOf") d P a b h refl).shape refl)
+      all_of_shape = only_all_of p.shape (shape_named o p.shape (codes "allOf") d (stands P h refl).shape refl)
 
-      pub all_of_built : (ks : List (KeywordOver K R N)) → MakesMember o answers shape.AllOf p.location p.nodes.items ks → (ms : Members) (Q : Path)
+      pub all_of_built : {ks : List (KeywordOver K R N)} → MakesMember o answers shape.AllOf p.location p.nodes.items ks → (ms : Members) (Q : Path)
           → P // codes "allOf" ≡ Q // codes "allOf" → MemberIsBuilt o answers ms ks (codes "allOf", d) Q a b
-      all_of_built = built_of_shape p c (codes "allOf") d P a b h refl shape.AllOf all_of_shape
+      all_of_built = built_of_shape P h refl all_of_shape
 
       pub all_of_is_formed : (k : KeywordOver K R N) → IsFormOfAllOf p.location p.nodes.items k → IsAllOf (P // codes "allOf") d k
       all_of_is_formed k f =
-          subst (λ L. IsAllOf L d k) (stands p c (codes "allOf") d P a b h refl).place
-          (all_of_form p.location p.nodes.items d (branches_counted p c (codes "allOf") d P a b h refl shape.AllOf all_of_shape refl) k f)
+          subst (λ L. IsAllOf L d k) (stands P h refl).place
+          (all_of_form p.location p.nodes.items d (branches_counted P h refl all_of_shape refl) k f)
 
     module _ (h : IsPart o answers p c (codes "anyOf") d (P // codes "anyOf") a b) where
       any_of_shape : p.shape ≡ shape.AnyOf
-      any_of_shape = only_any_of p.shape (shape_named p.shape (codes "anyOf") d (stands p c (codes "anyOf") d P a b h refl).shape refl)
+      any_of_shape = only_any_of p.shape (shape_named o p.shape (codes "anyOf") d (stands P h refl).shape refl)
 
-      pub any_of_built : (ks : List (KeywordOver K R N)) → MakesMember o answers shape.AnyOf p.location p.nodes.items ks → (ms : Members) (Q : Path)
+      pub any_of_built : {ks : List (KeywordOver K R N)} → MakesMember o answers shape.AnyOf p.location p.nodes.items ks → (ms : Members) (Q : Path)
           → P // codes "anyOf" ≡ Q // codes "anyOf" → MemberIsBuilt o answers ms ks (codes "anyOf", d) Q a b
-      any_of_built = built_of_shape p c (codes "anyOf") d P a b h refl shape.AnyOf any_of_shape
+      any_of_built = built_of_shape P h refl any_of_shape
 
       pub any_of_is_formed : (k : KeywordOver K R N) → IsFormOfAnyOf p.location p.nodes.items k → IsAnyOf (P // codes "anyOf") d k
       any_of_is_formed k f =
-          subst (λ L. IsAnyOf L d k) (stands p c (codes "anyOf") d P a b h refl).place
-          (any_of_form p.location p.nodes.items d (branches_counted p c (codes "anyOf") d P a b h refl shape.AnyOf any_of_shape refl) k f)
+          subst (λ L. IsAnyOf L d k) (stands P h refl).place
+          (any_of_form p.location p.nodes.items d (branches_counted P h refl any_of_shape refl) k f)
 
     module _ (h : IsPart o answers p c (codes "oneOf") d (P // codes "oneOf") a b) where
       one_of_shape : p.shape ≡ shape.OneOf
-      one_of_shape = only_one_of p.shape (shape_named p.shape (codes "oneOf") d (stands p c (codes "oneOf") d P a b h refl).shape refl)
+      one_of_shape = only_one_of p.shape (shape_named o p.shape (codes "oneOf") d (stands P h refl).shape refl)
 
-      pub one_of_built : (ks : List (KeywordOver K R N)) → MakesMember o answers shape.OneOf p.location p.nodes.items ks → (ms : Members) (Q : Path)
+      pub one_of_built : {ks : List (KeywordOver K R N)} → MakesMember o answers shape.OneOf p.location p.nodes.items ks → (ms : Members) (Q : Path)
           → P // codes "oneOf" ≡ Q // codes "oneOf" → MemberIsBuilt o answers ms ks (codes "oneOf", d) Q a b
-      one_of_built = built_of_shape p c (codes "oneOf") d P a b h refl shape.OneOf one_of_shape
+      one_of_built = built_of_shape P h refl one_of_shape
 
       pub one_of_is_formed : (k : KeywordOver K R N) → IsFormOfOneOf p.location p.nodes.items k → IsOneOf (P // codes "oneOf") d k
       one_of_is_formed k f =
-          subst (λ L. IsOneOf L d k) (stands p c (codes "oneOf") d P a b h refl).place
-          (one_of_form p.location p.nodes.items d (branches_counted p c (codes "oneOf") d P a b h refl shape.OneOf one_of_shape refl) k f)
+          subst (λ L. IsOneOf L d k) (stands P h refl).place
+          (one_of_form p.location p.nodes.items d (branches_counted P h refl one_of_shape refl) k f)
 
     module _ (h : IsPart o answers p c (codes "not") d (P // codes "not") a b) where
       not_shape : (v : Value) × (p.shape ≡ shape.Not v)
-      not_shape = only_not p.shape (shape_named p.shape (codes "not") d (stands p c (codes "not") d P a b h refl).shape refl)
+      not_shape = only_not p.shape (shape_named o p.shape (codes "not") d (stands P h refl).shape refl)
 
       pub no_other_not : ((v : Value) → p.shape ≡ shape.Not v → ⊥) → ⊥
       no_other_not f = f not_shape.0 not_shape.1
@@ -301,20 +309,20 @@ module _ {K R N : Type 0} (o : Kit K R) (answers : N → Answers) where
         pub not_without_node : p.nodes.items ≡ [] → ⊥
         not_without_node e =
             subst (λ ns. StandAt o answers Itself ns d (P // codes "not")) e
-            (subst (λ x. StandAt o answers (reads_of x) p.nodes.items d (P // codes "not")) q (stands p c (codes "not") d P a b h refl).nodes)
+            (subst (λ x. StandAt o answers (reads_of x) p.nodes.items d (P // codes "not")) q (stands P h refl).nodes)
 
-        pub not_built : (ks : List (KeywordOver K R N)) → MakesMember o answers (shape.Not v) p.location p.nodes.items ks → (ms : Members) (Q : Path)
+        pub not_built : {ks : List (KeywordOver K R N)} → MakesMember o answers (shape.Not v) p.location p.nodes.items ks → (ms : Members) (Q : Path)
             → P // codes "not" ≡ Q // codes "not" → MemberIsBuilt o answers ms ks (codes "not", d) Q a b
-        not_built = built_of_shape p c (codes "not") d P a b h refl (shape.Not v) q
+        not_built = built_of_shape P h refl q
 
         pub not_is_formed : (k : KeywordOver K R N) → IsNot p.location (view v) k → IsNot (P // codes "not") d k
         not_is_formed k f =
-            let s = stands p c (codes "not") d P a b h refl in
+            let s = stands P h refl in
             subst₂ (λ L x. IsNot L x k) s.place (subst (IsShape o (codes "not") d) q s.shape).1 f
 
     module _ (h : IsPart o answers p c (codes "required") d (P // codes "required") a b) where
       required_shape : (v : Vec (String Global) Global) × (p.shape ≡ shape.Required v)
-      required_shape = only_required p.shape (shape_named p.shape (codes "required") d (stands p c (codes "required") d P a b h refl).shape refl)
+      required_shape = only_required p.shape (shape_named o p.shape (codes "required") d (stands P h refl).shape refl)
 
       pub no_other_required : ((v : Vec (String Global) Global) → p.shape ≡ shape.Required v → ⊥) → ⊥
       no_other_required f = f required_shape.0 required_shape.1
@@ -325,99 +333,94 @@ module _ {K R N : Type 0} (o : Kit K R) (answers : N → Answers) where
 
         pub required_built : (ms : Members) (Q : Path) → P // codes "required" ≡ Q // codes "required" → MemberIsBuilt o answers ms (required_keyword ∷ []) (codes "required", d) Q a b
         required_built =
-            member_built p c (codes "required") d P a b h refl (required_keyword ∷ [])
+            member_built P h refl
             (subst (λ x. MakesMember o answers x p.location p.nodes.items (required_keyword ∷ [])) (sym q) (makes_required o answers v p.location p.nodes.items))
 
         pub required_is_formed : IsRequired (P // codes "required") d required_keyword
-        required_is_formed = let s = stands p c (codes "required") d P a b h refl in ((subst (IsShape o (codes "required") d) q s.shape).2, s.place)
+        required_is_formed = let s = stands P h refl in ((subst (IsShape o (codes "required") d) q s.shape).2, s.place)
 
     module _ (h : IsPart o answers p c (codes "properties") d (P // codes "properties") a b) where
       properties_shape : (n : List Name) × (p.shape ≡ shape.Properties n)
-      properties_shape = only_properties p.shape (shape_named p.shape (codes "properties") d (stands p c (codes "properties") d P a b h refl).shape refl)
+      properties_shape = only_properties p.shape (shape_named o p.shape (codes "properties") d (stands P h refl).shape refl)
 
       pub no_other_properties : ((n : List Name) → p.shape ≡ shape.Properties n → ⊥) → ⊥
       no_other_properties f = f properties_shape.0 properties_shape.1
 
-      pub properties_memory : (e : BuildError) (m : AllocError) → e ≡ Memory m → RefusesMember o (codes "properties") d (P // codes "properties") a b e
-      properties_memory = memory_after p c (codes "properties") d P a b h refl
+      pub properties_memory : {m : AllocError} (e : BuildError) → e ≡ Memory m → RefusesMember o (codes "properties") d (P // codes "properties") a b e
+      properties_memory = memory_after P h refl
 
       module _ (n : List Name) (q : p.shape ≡ shape.Properties n) (ms : Members) (r : Planned) (chosen : r ≡ plan_of ms) (free : r.restricted ≡ false) where
         untaken : is_taken r (codes "properties") ≡ false
         untaken = (λ i. (free i && true) || (r.condition && false)) ∙ and-false r.condition
 
-        pub properties_built : (ks : List (KeywordOver K R N)) → MakesClaims o answers (shape.Properties n) p.location p.nodes.items P r ks
+        pub properties_built : {ks : List (KeywordOver K R N)} → MakesClaims o answers (shape.Properties n) p.location p.nodes.items P r ks
             → has_repeat (map (λ m. m.0) (listed ms)) ≡ false → lookup_name (codes "properties") (listed ms) ≡ Some d → ClaimsAreBuilt o answers ms ks (codes "properties", d) P a b
-        properties_built ks make distinct there =
-            claims_built p c (codes "properties") d P a b h refl ks r (subst (λ x. MakesClaims o answers x p.location p.nodes.items P r ks) (sym q) make) ms distinct chosen untaken there
+        properties_built {ks} make distinct there =
+            claims_built P h refl (subst (λ x. MakesClaims o answers x p.location p.nodes.items P r ks) (sym q) make) ms distinct chosen untaken there
 
         properties_counted : length n ≡ length (members d)
-        properties_counted = ap length (shape_is p c (codes "properties") d P a b h refl _ q).2 ∙ length-map (members d) (λ e. e.0)
+        properties_counted = ap length (shape_is P h refl q).2 ∙ length-map (members d) (λ e. e.0)
 
         pub properties_is_formed : (k : KeywordOver K R N) → IsProperties P p.location (length n) r.fused_pair k → IsProperties P (P // codes "properties")
             (length (members d)) (plan_of ms).fused_pair k
-        properties_is_formed k = subst (λ T. T) (λ i. IsProperties P ((stands p c (codes "properties") d P a b h refl).place i) (properties_counted i) ((chosen i).fused_pair) k)
+        properties_is_formed k = subst (λ T. T) (λ i. IsProperties P ((stands P h refl).place i) (properties_counted i) ((chosen i).fused_pair) k)
 
     module _ (h : IsPart o answers p c (codes "dependentRequired") d (P // codes "dependentRequired") a b) where
       pub no_other_dependent_required : ((n : List Name) (v : Vec (Vec (String Global) Global) Global) → p.shape ≡ shape.DependentRequired n v → ⊥) → ⊥
       no_other_dependent_required f =
-          let r = only_dependent_required p.shape (shape_named p.shape (codes "dependentRequired") d (stands p c (codes "dependentRequired") d P a b h refl).shape refl) in f r.0 r.1 r.2
+          let r = only_dependent_required p.shape (shape_named o p.shape (codes "dependentRequired") d (stands P h refl).shape refl) in f r.0 r.1 r.2
 
     module _ (h : IsPart o answers p c (codes "dependentSchemas") d (P // codes "dependentSchemas") a b) where
       pub no_other_dependent_schemas : ((n : List Name) → p.shape ≡ shape.DependentSchemas n → ⊥) → ⊥
       no_other_dependent_schemas f =
-          let r = only_dependent_schemas p.shape (shape_named p.shape (codes "dependentSchemas") d (stands p c (codes "dependentSchemas") d P a b h refl).shape refl) in f r.0 r.1
+          let r = only_dependent_schemas p.shape (shape_named o p.shape (codes "dependentSchemas") d (stands P h refl).shape refl) in f r.0 r.1
 
     module _ (h : IsPart o answers p c (codes "dependencies") d (P // codes "dependencies") a b) where
       pub no_other_dependencies : ((n : List Name) (v : Vec (Option (Vec (String Global) Global)) Global) → p.shape ≡ shape.Dependencies n v → ⊥) → ⊥
-      no_other_dependencies f = let r = only_dependencies p.shape (shape_named p.shape (codes "dependencies") d (stands p c (codes "dependencies") d P a b h refl).shape refl) in f r.0 r.1 r.2
+      no_other_dependencies f = let r = only_dependencies p.shape (shape_named o p.shape (codes "dependencies") d (stands P h refl).shape refl) in f r.0 r.1 r.2
 
     module _ (h : IsPart o answers p c (codes "propertyDependencies") d (P // codes "propertyDependencies") a b) where
       pub no_other_property_dependencies : ((n : List Name) (v : Vec (List Name) Global) → p.shape ≡ shape.PropertyDependencies n v → ⊥) → ⊥
       no_other_property_dependencies f =
-          let r = only_property_dependencies p.shape (shape_named p.shape (codes "propertyDependencies") d (stands p c (codes "propertyDependencies") d P a b h refl).shape refl) in f r.0 r.1 r.2
+          let r = only_property_dependencies p.shape (shape_named o p.shape (codes "propertyDependencies") d (stands P h refl).shape refl) in f r.0 r.1 r.2
 
-  -- ---- patterns, where nothing is restricted
+-- ---- patterns, where nothing is restricted
 
-  pub zip_length : (ps : List (CompiledPattern R)) (ns : List N) (es : List (Name × Data)) (L : Path) → ArePatterns o ps es → StandEach o answers ns es L → length (zip ps ns) ≡ length es
-  zip_length [] ns [] L h s = refl
-  zip_length [] ns (e ∷ es) L h s = absurd h
-  zip_length (p ∷ ps) ns [] L h s = absurd h
-  zip_length (p ∷ ps) [] (e ∷ es) L h s = absurd s
-  zip_length (p ∷ ps) (n ∷ ns) (e ∷ es) L h s = ap (λ k. suc k) (zip_length ps ns es L h.1 s.1)
+patterns_known : (c : Known) (ms : Members) → c.declared ≡ [] → is_restricted ms ≡ false → IsKnown c ms (codes "patternProperties")
+patterns_known c ms none free = ((λ e. absurd (true≢false (sym e))), λ e. none ∙ sym (ap (λ b. cond b (declared_beside ms) []) free))
 
-  patterns_known : (c : Known) (ms : Members) → c.declared ≡ [] → is_restricted ms ≡ false → IsKnown c ms (codes "patternProperties")
-  patterns_known c ms none free = ((λ e. absurd (true≢false (sym e))), λ e. none ∙ sym (ap (λ b. cond b (declared_beside ms) []) free))
+pub none_known : (ms : Members) → is_restricted ms ≡ false → (known_of ms).declared ≡ []
+none_known ms free = ap (λ b. cond b (declared_beside ms) []) free
 
-  pub none_known : (ms : Members) → is_restricted ms ≡ false → (known_of ms).declared ≡ []
-  none_known ms free = ap (λ b. cond b (declared_beside ms) []) free
-
-  module _ (p : Part K R N) (c : Known) (none : c.declared ≡ []) (d : Data) (P : Path) (a b : Counts)
+module _ {K R N : Type 0} {o : Kit K R} {answers : N → Answers} where
+  module _ {p : Part K R N} {c : Known} (none : c.declared ≡ []) {d : Data} (P : Path) {a b : Counts}
       (h : IsPart o answers p c (codes "patternProperties") d (P // codes "patternProperties") a b) where
     alone_stands : PartStands o answers (known_of no_members) p (codes "patternProperties", d) P
-    alone_stands = stands_there p c (codes "patternProperties") d P a b h no_members (patterns_known c no_members none refl)
+    alone_stands = stands_there P h no_members (patterns_known c no_members none refl)
 
     pub no_other_pattern_properties : ((v : Vec (CompiledPattern R) Global) (t : Table) → p.shape ≡ shape.PatternProperties v t → ⊥) → ⊥
-    no_other_pattern_properties f = let r = only_pattern_properties p.shape (shape_named p.shape (codes "patternProperties") d alone_stands.shape refl) in f r.0 r.1 r.2
+    no_other_pattern_properties f = let r = only_pattern_properties p.shape (shape_named o p.shape (codes "patternProperties") d alone_stands.shape refl) in f r.0 r.1 r.2
 
-    pub pattern_properties_memory : (e : BuildError) (m : AllocError) → e ≡ Memory m → RefusesFreeMember o (codes "patternProperties") d (P // codes "patternProperties") a b e
-    pattern_properties_memory e m q ms Q f free = memory_there p c (codes "patternProperties") d P a b h ms (patterns_known c ms none free) e m q Q f
+    pub pattern_properties_memory : {m : AllocError} (e : BuildError) → e ≡ Memory m → RefusesFreeMember o (codes "patternProperties") d (P // codes "patternProperties") a b e
+    pattern_properties_memory e q ms Q f free = memory_there P h ms (patterns_known c ms none free) e q Q f
 
     module _ (v : Vec (CompiledPattern R) Global) (t : Table) (q : p.shape ≡ shape.PatternProperties v t) where
-      pub pattern_properties_built : (ks : List (KeywordOver K R N)) → MakesMember o answers (shape.PatternProperties v t) p.location p.nodes.items ks
+      pub pattern_properties_built : {ks : List (KeywordOver K R N)} → MakesMember o answers (shape.PatternProperties v t) p.location p.nodes.items ks
           → (ms : Members) (Q : Path) → P // codes "patternProperties" ≡ Q // codes "patternProperties" → is_restricted ms ≡ false → MemberIsBuilt o answers ms ks (codes "patternProperties", d) Q a b
-      pattern_properties_built ks make ms Q e free =
-          built_there p c (codes "patternProperties") d P a b h ms (patterns_known c ms none free) ks (subst (λ x. MakesMember o answers x p.location p.nodes.items ks) (sym q) make) Q e
+      pattern_properties_built {ks} make ms Q e free =
+          built_there P h ms (patterns_known c ms none free) (subst (λ x. MakesMember o answers x p.location p.nodes.items ks) (sym q) make) Q e
 
       pub pattern_properties_is_formed : (k : KeywordOver K R N) → IsPatternProperties p.location (length (zip v.items p.nodes.items)) k
           → IsPatternProperties (P // codes "patternProperties") (length (members d)) k
       pattern_properties_is_formed k f = subst₂ (λ L n. IsPatternProperties L n k) alone_stands.place
-          (zip_length v.items p.nodes.items (members d) (P // codes "patternProperties") (subst (IsShape o (codes "patternProperties") d) q alone_stands.shape).2
+          (zip_length o answers v.items p.nodes.items (members d) (P // codes "patternProperties") (subst (IsShape o (codes "patternProperties") d) q alone_stands.shape).2
           (subst (λ x. StandAt o answers (reads_of x) p.nodes.items d (P // codes "patternProperties")) q alone_stands.nodes)) f
 
-  pub refuses_free_member : (c : Known) → c.declared ≡ [] → (d : Data) (P : Path) (a b : Counts) (e : BuildError) → RefusesPart o c (codes "patternProperties") d
+module _ {K R : Type 0} (o : Kit K R) where
+  pub refuses_free_member : (c : Known) → c.declared ≡ [] → (d : Data) (P : Path) {a b : Counts} {e : BuildError} → RefusesPart o c (codes "patternProperties") d
       (P // codes "patternProperties") a b e → RefusesFreeMember o (codes "patternProperties") d (P // codes "patternProperties") a b e
-  refuses_free_member c none d P a b e r ms Q f free = r ms Q f (patterns_known c ms none free)
+  refuses_free_member c none d P r ms Q f free = r ms Q f (patterns_known c ms none free)
 
   -- of a keyword that is read alike beside all neighbours, in each object
-  pub refuses_member : (c : Known) (k : Name) (d : Data) (L : Path) (a b : Counts) (e : BuildError) → is_read_beside k ≡ false → RefusesPart o c k d L a b e → RefusesMember o k d L a b e
-  refuses_member c k d L a b e other h ms P p = h ms P p (known_alone c ms k other)
+  pub refuses_member : (c : Known) (k : Name) (d : Data) {L : Path} {a b : Counts} {e : BuildError} → is_read_beside k ≡ false → RefusesPart o c k d L a b e → RefusesMember o k d L a b e
+  refuses_member c k d other h ms P p = h ms P p (known_alone c ms k other)

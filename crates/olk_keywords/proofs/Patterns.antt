@@ -19,8 +19,8 @@ use Rattle.olk_build.specs.Building.{AreBuilt, RefusesEach, PatternsAreBuilt, Re
 
 module _ {K R N : Type 0} (o : Kit K R) (answers : N → Answers) (es : List (Name × Data)) (l L : Path) (place : l ≡ L) (a : Counts) where
   -- a pattern is refused
-  pub refuses_pattern : (b : Counts) (e x : BuildError) → e ≡ x → RefusesPatterns o es l a b x → RefusesPatternEntries o es L a b e
-  refuses_pattern b e x q h = subst₂ (λ M y. RefusesPatternEntries o es M a b y) place (sym q) record {
+  pub refuses_pattern : (b : Counts) {x : BuildError} → RefusesPatterns o es l a b x → (e : BuildError) → e ≡ x → RefusesPatternEntries o es L a b e
+  refuses_pattern b {x} h e q = subst₂ (λ M y. RefusesPatternEntries o es M a b y) place (sym q) record {
     tells = tells_left _ _ x h.tells;
     spends = within_before a b _ _ h.spends;
   }
@@ -30,8 +30,8 @@ module _ {K R N : Type 0} (o : Kit K R) (answers : N → Answers) (es : List (Na
     there = subst (λ M. PatternsAreRead o ps es M a m) place read
 
     -- the patterns are read, and a subschema is refused
-    pub refuses_node : (e x : BuildError) → e ≡ x → RefusesEach o es L m b x → RefusesPatternEntries o es L a b e
-    refuses_node e x q h = subst (RefusesPatternEntries o es L a b) (sym q) record {
+    pub refuses_node : {x : BuildError} → RefusesEach o es L m b x → (e : BuildError) → e ≡ x → RefusesPatternEntries o es L a b e
+    refuses_node {x} h e q = subst (RefusesPatternEntries o es L a b) (sym q) record {
       tells = tells_right _ _ x h.tells;
       spends = within_after a m b _ _ there.spends h.spends;
     }
@@ -45,5 +45,5 @@ module _ {K R N : Type 0} (o : Kit K R) (answers : N → Answers) (es : List (Na
       }
 
       -- there is no memory for the entries
-      pub refuses_entries : (e : BuildError) (x : AllocError) → e ≡ Memory x → RefusesPatternEntries o es L a b e
-      refuses_entries e x q = refuses_memory _ _ a b e x q (within_exactly a b _ (spends_append a m b _ _ there.spends built.spends))
+      pub refuses_entries : {x : AllocError} (e : BuildError) → e ≡ Memory x → RefusesPatternEntries o es L a b e
+      refuses_entries e q = refuses_memory (within_exactly (spends_append a m b _ _ there.spends built.spends)) e q

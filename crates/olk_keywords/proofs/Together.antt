@@ -6,6 +6,7 @@ use Rattle.std.proofs.lemmas.List.{append-nil}
 use Rattle.std.specs.List.{flat_map}
 use Rattle.std.specs.declared.alloc.AllocError.{AllocError}
 use Rattle.std.proofs.Common.{refl, sym, ◌∙◌, ap, subst}
+use mathlib.Core.Path.{subst₂}
 use Rattle.std.proofs.lemmas.Grind.{flat_map-append}
 use Rattle.serde_json.specs.Data.{Data, Members}
 use Rattle.olk_spec.specs.Names.{Name, Path, ◌//◌, lookup_name}
@@ -35,13 +36,13 @@ module _ {X : Type 0} (f : X → List Fault) (c : X → Cost) (xs ys : List X) (
   refuses_first : Refuses (flat_map f xs) (total_cost c xs) a b e → Refuses (flat_map f (xs ++ ys)) (total_cost c (xs ++ ys)) a b e
   refuses_first h = record {
     tells = tells_same (sym (flat_map-append f xs ys)) e (tells_left (flat_map f xs) (flat_map f ys) e h.tells);
-    spends = within_same a b _ _ (sym (total_cost-append c xs ys)) (within_before a b (total_cost c xs) (total_cost c ys) h.spends);
+    spends = within_same (sym (total_cost-append c xs ys)) (within_before a b (total_cost c xs) (total_cost c ys) h.spends);
   }
 
   refuses_later : Spends a m (total_cost c xs) → Refuses (flat_map f ys) (total_cost c ys) m b e → Refuses (flat_map f (xs ++ ys)) (total_cost c (xs ++ ys)) a b e
   refuses_later s h = record {
     tells = tells_same (sym (flat_map-append f xs ys)) e (tells_right (flat_map f xs) (flat_map f ys) e h.tells);
-    spends = within_same a b _ _ (sym (total_cost-append c xs ys)) (within_after a m b (total_cost c xs) (total_cost c ys) s h.spends);
+    spends = within_same (sym (total_cost-append c xs ys)) (within_after a m b (total_cost c xs) (total_cost c ys) s h.spends);
   }
 
 -- a result that leaves by a `?` is an error
@@ -96,16 +97,21 @@ module _ {K R N : Type 0} (o : Kit K R) (answers : N → Answers) (ms : Members)
     abbrev three : List (Name × Data)
     three = (k, d) ∷ both
 
-    pub first_refused : (c : Known) (a b : Counts) (e : BuildError) → IsKnown c ms k → RefusesPart o c k d (P // k) a b e → RefusesAll three a b e
-    first_refused c a b e known h = refuses_among malformed_of cost_of three a b [] (k, d) both a e refl (spends_nothing a) (h ms P refl known)
+    pub first_refused : (c : Known) {a b : Counts} {f : BuildError} → IsKnown c ms k → RefusesPart o c k d (P // k) a b f → (e : BuildError) → e ≡ f → RefusesAll three a b e
+    first_refused c {a} {b} {f} known h e q = subst (RefusesAll three a b) (sym q) (refuses_among malformed_of cost_of three a b [] (k, d) both a f refl (spends_nothing a) (h ms P refl known))
 
     module _ (a m : Counts) (first : Spends a m (all_cost o ms ((k, d) ∷ []))) where
-      pub second_refused : (b : Counts) (e : BuildError) → RefusesAll (member_at x ms) m b e → RefusesAll three a b e
-      second_refused b e h = refuses_later malformed_of cost_of ((k, d) ∷ []) both a m b e first (refuses_first malformed_of cost_of (member_at x ms) (member_at y ms) m m b e h)
+      -- the place of a neighbour may be known under another name
+      pub second_refused : {Q : Path} → Q ≡ P → {b : Counts} {f : BuildError} → Refuses (all_malformed o ms Q (member_at x ms)) (all_cost o ms (member_at x ms)) m b f → (e : BuildError)
+          → e ≡ f → RefusesAll three a b e
+      second_refused place {b} h e q = refuses_later malformed_of cost_of ((k, d) ∷ []) both a m b e first (refuses_first malformed_of cost_of (member_at x ms) (member_at y ms) m m b e
+          (subst₂ (λ L f. Refuses (all_malformed o ms L (member_at x ms)) (all_cost o ms (member_at x ms)) m b f) place (sym q) h))
 
       module _ (n : Counts) (second : Spends m n (all_cost o ms (member_at x ms))) where
-        pub third_refused : (b : Counts) (e : BuildError) → RefusesAll (member_at y ms) n b e → RefusesAll three a b e
-        third_refused b e h = refuses_later malformed_of cost_of ((k, d) ∷ []) both a m b e first (refuses_later malformed_of cost_of (member_at x ms) (member_at y ms) m n b e second h)
+        pub third_refused : {Q : Path} → Q ≡ P → {b : Counts} {f : BuildError} → Refuses (all_malformed o ms Q (member_at y ms)) (all_cost o ms (member_at y ms)) n b f → (e : BuildError)
+            → e ≡ f → RefusesAll three a b e
+        third_refused place {b} h e q = refuses_later malformed_of cost_of ((k, d) ∷ []) both a m b e first (refuses_later malformed_of cost_of (member_at x ms) (member_at y ms) m n b e second
+            (subst₂ (λ L f. Refuses (all_malformed o ms L (member_at y ms)) (all_cost o ms (member_at y ms)) n b f) place (sym q) h))
 
         module _ (b : Counts) (third : Spends n b (all_cost o ms (member_at y ms))) where
           pub all_spent : Spends a b (all_cost o ms three)
@@ -113,8 +119,8 @@ module _ {K R N : Type 0} (o : Kit K R) (answers : N → Answers) (ms : Members)
               (spends_same m b _ _ (sym (total_cost-append cost_of (member_at x ms) (member_at y ms))) (spends_append m n b _ _ second third)))
 
           -- what is built is lost where there is no memory
-          pub memory_lost : (e : BuildError) (w : AllocError) → e ≡ Memory w → RefusesAll three a b e
-          memory_lost e w q = refuses_memory _ _ a b e w q (within_exactly a b _ all_spent)
+          pub memory_lost : {w : AllocError} (e : BuildError) → e ≡ Memory w → RefusesAll three a b e
+          memory_lost e q = refuses_memory (within_exactly all_spent) e q
 
     pub all_clean : all_malformed o ms P ((k, d) ∷ []) ≡ [] → all_malformed o ms P (member_at x ms) ≡ [] → all_malformed o ms P (member_at y ms) ≡ [] → all_malformed o ms P three ≡ []
     all_clean f g h = λ i. (sym (append-nil _) ∙ f) i ++ (flat_map-append malformed_of (member_at x ms) (member_at y ms) ∙ (λ j. g j ++ h j)) i

@@ -2,3 +2,4 @@ pub mod Parts
 pub mod Together
 pub mod Conditions
 pub mod AdditionalProperties
+pub mod Words

@@ -16,7 +16,6 @@ use Rattle.olk_spec.specs.Faults.{Fault, ◌∼◌}
 use Rattle.olk_spec.specs.Malformed.{has_repeat}
 use Rattle.olk_spec.specs.Meaning.{meaning_step}
 use Rattle.olk_spec.specs.Tree.{Tree}
-use Rattle.olk_spec.proofs.Order.{∼_same}
 use Rattle.olk_spec.proofs.Truth.{and_from, and_first, and_second}
 use Rattle.olk_base.specs.Kit.{Kit}
 use Rattle.olk_base.specs.Compiled.{pattern_answers}
@@ -57,6 +56,7 @@ use Rattle.olk_make.specs.declared.part.Beside.{Beside}
 use Rattle.olk_make.specs.declared.part.DeclaredNodes.{DeclaredNodes}
 use Rattle.olk_make.specs.declared.part.Patterns.{Patterns}
 use Rattle.olk_make.specs.declared.part.Taken.{Taken}
+use Rattle.olk_make.proofs.Together.{means_nothing}
 use Rattle.olk_make.proofs.Entries.{schema_answers, schemas_answer}
 use Rattle.olk_make.proofs.Formed.{has_form, is_formed, just_one_formed, stand_formed, each_keys, each_nodes, each_long, each_held_formed, map_formed, entry_formed, case_formed}
 use Rattle.olk_tree.specs.Formed.{is_map_formed, names_beside, is_table_formed}
@@ -95,9 +95,8 @@ module _ {K R N : Type 0} (o : Kit K R) (answers : N → Answers) where
 
   entries_answer : (ns : List N) (es : List (Name × Data)) (L : Path) → StandEach o answers ns es L → EntriesAnswer o means report tree ns es L
   entries_answer [] [] L h = tt
-  entries_answer [] (e ∷ es) L h = absurd h
-  entries_answer (n ∷ ns) [] L h = absurd h
   entries_answer (n ∷ ns) (e ∷ es) L h = (answers_as n e.1 (L // e.0) h.0, entries_answer ns es L h.1)
+  entries_answer _ _ L h = absurd h
 
   patterns_answer : (ps : List (CompiledPattern R)) (ns : List N) (es : List (Name × Data)) (L : Path) → ArePatterns o ps es → StandEach o answers ns es L
       → PatternsAnswer o means report tree (zip ps ns) es L
@@ -105,8 +104,7 @@ module _ {K R N : Type 0} (o : Kit K R) (answers : N → Answers) where
   patterns_answer (p ∷ ps) (n ∷ ns) (e ∷ es) L h k = (record { answers = h.0.answers; costs = h.0.costs }, answers_as n e.1 (L // e.0) k.0, patterns_answer ps ns es L h.1 k.1)
   patterns_answer [] ns (e ∷ es) L h k = absurd h
   patterns_answer (p ∷ ps) ns [] L h k = absurd h
-  patterns_answer ps [] (e ∷ es) L h k = absurd k
-  patterns_answer ps (n ∷ ns) [] L h k = absurd k
+  patterns_answer ps _ _ L h k = absurd k
 
   -- as many patterns stand there as nodes
   patterns_kept : (ps : List (CompiledPattern R)) (ns : List N) (es : List (Name × Data)) (L : Path) → ArePatterns o ps es → StandEach o answers ns es L → map (λ e. e.0) (zip ps ns) ≡ ps
@@ -114,8 +112,7 @@ module _ {K R N : Type 0} (o : Kit K R) (answers : N → Answers) where
   patterns_kept (p ∷ ps) (n ∷ ns) (e ∷ es) L h k = ap (λ l. p ∷ l) (patterns_kept ps ns es L h.1 k.1)
   patterns_kept [] ns (e ∷ es) L h k = absurd h
   patterns_kept (p ∷ ps) ns [] L h k = absurd h
-  patterns_kept ps [] (e ∷ es) L h k = absurd k
-  patterns_kept ps (n ∷ ns) [] L h k = absurd k
+  patterns_kept ps _ _ L h k = absurd k
 
   rest_answers : (x : Option N) (d : Data) (L : Path) → RestStands o answers x d L → RestAnswers o means report tree x d L
   rest_answers None d L h = h
@@ -198,8 +195,7 @@ module _ {K R N : Type 0} (o : Kit K R) (answers : N → Answers) where
   declared_names (Some b) (Some m) (Some d) L form h = each_keys o answers (mapped m) b.nodes.items (members d) L (form.0 ∙ ap (λ ks. zip ks b.nodes.items) h.names) (schema_answers o answers) (schemas_answer o answers b.nodes.items (members d) L h.nodes)
   declared_names None (Some m) a L form h = absurd form
   declared_names (Some b) None a L form h = absurd form
-  declared_names None x (Some d) L form h = absurd h
-  declared_names (Some b) x None L form h = absurd h
+  declared_names _ x _ L form h = absurd h
 
   declared_formed : (b : Option (DeclaredNodes N)) (x : Option (PropertiesMap N)) (a : Option Data) (L : Path) → IsMapOf b x → Fills (λ m. DeclaredStand o answers m L) b a
       → option_map_or (λ m. is_map_formed m && list_all (has_form o answers) (nodes_in (mapped m))) x true ≡ true
@@ -210,15 +206,13 @@ module _ {K R N : Type 0} (o : Kit K R) (answers : N → Answers) where
       (each_held_formed o answers (mapped m) b.nodes.items (members d) L held (schema_answers o answers) (schemas_answer o answers b.nodes.items (members d) L h.nodes))
   declared_formed None (Some m) a L form h = absurd form
   declared_formed (Some b) None a L form h = absurd form
-  declared_formed None x (Some d) L form h = absurd h
-  declared_formed (Some b) x None L form h = absurd h
+  declared_formed _ x _ L form h = absurd h
 
   zipped_formed : (ps : List (CompiledPattern R)) (ns : List N) → list_all (has_form o answers) ns ≡ true → list_all (entry_formed o answers) (zip ps ns) ≡ true
-  zipped_formed [] ns h = refl
-  zipped_formed (p ∷ ps) [] h = refl
   zipped_formed (p ∷ ps) (n ∷ ns) h =
       and_from (has_form o answers n) (list_all (entry_formed o answers) (zip ps ns)) (and_first (has_form o answers n) (list_all (has_form o answers) ns) h)
       (zipped_formed ps ns (and_second (has_form o answers n) (list_all (has_form o answers) ns) h))
+  zipped_formed _ _ h = refl
 
   module _ (k : AdditionalProperties R N) (ms : Members) (restricted : is_restricted ms ≡ true) (names : List Name) (declared : names ≡ map (λ e. e.0) (declared_beside ms)) where
     abbrev are_formed_beside : Vec (CompiledPattern R × N) Global → Bool
@@ -239,8 +233,7 @@ module _ {K R N : Type 0} (o : Kit K R) (answers : N → Answers) where
             and_from _ _
             ((λ i. is_table_formed o.answers names (patterns i) (form.1 i)) ∙ table_formed o.answers names x.patterns.items x.table same_names h.table)
             (ap (list_all (entry_formed o answers)) items ∙ zipped_formed x.patterns.items x.nodes.items (stand_formed o answers x.nodes.items (members d) L h.nodes))
-    beside_formed None (Some d) L form h = absurd h
-    beside_formed (Some x) None L form h = absurd h
+    beside_formed _ _ L form h = absurd h
 
   rest_formed : (x : Option N) (d : Data) (L : Path) → RestStands o answers x d L → case_formed o answers x ≡ true
   rest_formed None d L h = refl
@@ -249,8 +242,7 @@ module _ {K R N : Type 0} (o : Kit K R) (answers : N → Answers) where
   required_there : (P : Path) (n : Option Name) (r : Option RequiredName) → IsRequiredName P n r → (required_text r ≡ option_to_list n) × (is_some r ≡ true → required_place r ≡ P // codes "required")
   required_there P None None h = (refl, λ e. absurd (true≢false (sym e)))
   required_there P (Some n) (Some r) h = (ap (λ t. t ∷ []) h.0, λ e. h.1)
-  required_there P None (Some r) h = absurd h
-  required_there P (Some n) None h = absurd h
+  required_there P _ _ h = absurd h
 
   -- ---- the validator
 
@@ -322,8 +314,7 @@ module _ {K R N : Type 0} (o : Kit K R) (answers : N → Answers) where
   map_for : (b : Option (DeclaredNodes N)) (x : Option (PropertiesMap N)) → IsMapOf b x → HasMapFor (option_map (λ (m : DeclaredNodes N). length m.names) b) x
   map_for None None h = tt
   map_for (Some b) (Some m) h = h.1
-  map_for None (Some m) h = absurd h
-  map_for (Some b) None h = absurd h
+  map_for _ _ h = absurd h
 
   many_patterns : (b : Option (Patterns R N)) (k : AdditionalProperties R N) → HasPatterns b k
       → option_map (λ (v : Vec (CompiledPattern R × N) Global). length v.items) k.patterns ≡ option_map (λ (x : Patterns R N). length (zip x.patterns.items x.nodes.items)) b
@@ -374,15 +365,7 @@ module _ {K R N : Type 0} (o : Kit K R) (answers : N → Answers) where
         (subst (λ rows. KeywordsMean o answers ms [] rows ((codes "additionalProperties", m.1) ∷ []) P)
         (sym (claims_itself ms distinct (head (plan_of ms)) (codes "additionalProperties", m.1)
         (heads_elsewhere (plan_of ms) (codes "additionalProperties") refl refl (λ e. (refl, refl)) (free_takes_nothing ms (codes "additionalProperties") free))
-        (ap (λ k. lookup_name k (listed ms)) (sym named.0) ∙ there))) record {
-          covers = record {
-            verdict = λ u v. sym (and-true _ ∙ nothing.verdict u v);
-            asks_within = λ u v. omega arith;
-            faults = λ u v Q. ∼_same (sym (append-nil _ ∙ nothing.report u v P Q));
-          };
-          shows = λ clean u v Q. sym (append-nil _ ∙ nothing.child u v P Q);
-          formed = refl;
-        })
+        (ap (λ k. lookup_name k (listed ms)) (sym named.0) ∙ there))) (means_nothing o answers ms P _ nothing))
       where
         allowed : (d : Data) → is_truth true d ≡ true → is_restriction (Some d) ≡ false
         allowed (boolean true) e = refl

@@ -17,7 +17,6 @@ use Rattle.olk_spec.specs.Schemas.{listed}
 use Rattle.olk_spec.specs.Malformed.{has_repeat}
 use Rattle.olk_spec.specs.Meaning.{accepts, asks, report, tree}
 use Rattle.olk_spec.specs.Tree.{Tree, plain}
-use Rattle.olk_spec.proofs.Order.{∼_same}
 use Rattle.olk_base.specs.Kit.{Kit}
 use Rattle.olk_tree.specs.Questions.{Question, always, conditional}
 use Rattle.olk_tree.specs.Validators.{answers_of}
@@ -42,7 +41,7 @@ use Rattle.olk_read.specs.declared.shape.ReadPlaces.TheVariants.{Itself}
 use Rattle.olk_make.specs.declared.part.Cases.{Cases}
 use Rattle.olk_make.specs.declared.part.Taken.{Taken}
 use Rattle.olk_make.proofs.Held.{question, shown, found}
-use Rattle.olk_make.proofs.Together.{means_permuted}
+use Rattle.olk_make.proofs.Together.{means_permuted, means_nothing}
 use Rattle.olk_make.proofs.Formed.{just_one_formed, case_formed, if_formed}
 
 pub form_is_if : {K R N : Type 0} (L : Path) (n : N) (t e : Option N) (k : KeywordOver K R N) → IsFormOfIf L n t e k → IsIf L (is_some t) (is_some e) k
@@ -65,8 +64,7 @@ module _ {K R N : Type 0} (o : Kit K R) (answers : N → Answers) where
   filled_formed : (c : Option N) (a : Option Data) (L : Path) → Fills (Case L) c a → case_formed o answers c ≡ true
   filled_formed None None L h = refl
   filled_formed (Some n) (Some d) L h = h.formed
-  filled_formed None (Some d) L h = absurd h
-  filled_formed (Some n) None L h = absurd h
+  filled_formed _ _ L h = absurd h
 
   abbrev case_question : Option N → Data → Question
   case_question None v = always true
@@ -122,26 +120,22 @@ module _ {K R N : Type 0} (o : Kit K R) (answers : N → Answers) where
     case_accepts : (t : Option N) (a : Option Data) (L : Path) → Fills (Case L) t a → (case_question t v).accepts u ≡ case_verdict a
     case_accepts None None L h = refl
     case_accepts (Some n) (Some d) L h = h.verdict u v
-    case_accepts None (Some d) L h = absurd h
-    case_accepts (Some n) None L h = absurd h
+    case_accepts _ _ L h = absurd h
 
     case_asks : (t : Option N) (a : Option Data) (L : Path) → Fills (Case L) t a → (case_question t v).asks u ≤ case_asked a
     case_asks None None L h = omega arith
     case_asks (Some n) (Some d) L h = h.asks_within u v
-    case_asks None (Some d) L h = absurd h
-    case_asks (Some n) None L h = absurd h
+    case_asks _ _ L h = absurd h
 
     case_finds : (t : Option N) (a : Option Data) (L Q : Path) → Fills (Case L) t a → case_found u t v Q ∼ case_report a L Q
     case_finds None None L Q h = like_empty
     case_finds (Some n) (Some d) L Q h = h.faults u v Q
-    case_finds None (Some d) L Q h = absurd h
-    case_finds (Some n) None L Q h = absurd h
+    case_finds _ _ L Q h = absurd h
 
     case_shows : (t : Option N) (a : Option Data) (L Q : Path) → Fills (Case L) t a → branch_trees (λ n. (answers n).tree u) v Q (option_to_list t) ≡ case_trees a L Q
     case_shows None None L Q h = refl
     case_shows (Some n) (Some d) L Q h = ap (λ t. t ∷ []) (h.evaluation u v Q)
-    case_shows None (Some d) L Q h = absurd h
-    case_shows (Some n) None L Q h = absurd h
+    case_shows _ _ L Q h = absurd h
 
     shown_where : (b : Bool) (a : Option Data) (L Q : Path) → fact.case_shown o.world u v b L Q a ≡ cond b (case_trees a L Q) []
     shown_where true None L Q = refl
@@ -334,15 +328,8 @@ module _ {K R N : Type 0} (o : Kit K R) (answers : N → Answers) where
       (subst (λ rows. KeywordsMean o answers ms [] rows (m ∷ []) P) (sym
       (claims_itself ms distinct (head (plan_of ms)) m (heads_elsewhere (plan_of ms) m.0 (apart_from (codes "properties") refl refl refl)
       (apart_from (codes "required") refl refl refl) (λ e. absurd (true≢false (sym e ∙ fits)))
-      (never_taken (plan_of ms) m.0 (apart_from (codes "additionalProperties") refl refl refl) (apart_from (codes "properties") refl refl refl) (apart_from (codes "patternProperties") refl refl refl) (apart_from (codes "required") refl refl refl))) there)) record {
-        covers = record {
-          verdict = λ u v. sym (and-true _ ∙ nothing.verdict u v);
-          asks_within = λ u v. omega arith;
-          faults = λ u v Q. ∼_same (sym (append-nil _ ∙ nothing.report u v P Q));
-        };
-        shows = λ clean u v Q. sym (append-nil _ ∙ nothing.child u v P Q);
-        formed = refl;
-      })
+      (never_taken (plan_of ms) m.0 (apart_from (codes "additionalProperties") refl refl refl) (apart_from (codes "properties") refl refl refl) (apart_from
+          (codes "patternProperties") refl refl refl) (apart_from (codes "required") refl refl refl))) there)) (means_nothing o answers ms P m nothing))
     where
       apart_from : (n : Name) → bytes_eq n (codes "if") ≡ false → bytes_eq n (codes "then") ≡ false → bytes_eq n (codes "else") ≡ false → bytes_eq n m.0 ≡ false
       apart_from n a b c = by (fact.conditional_named m.0 named)

@@ -61,14 +61,13 @@ module _ {K R N : Type 0} (o : Kit K R) (answers : N → Answers) where
     due_answer : (v : Data) (ns : List N) (es : List (Name × Data)) (L : Path) → AnswerEach o answers w ns es L → AnswerEach o answers w
         (due_nodes (zip (map (λ e. e.0) es) ns) v) (filter_once (λ e. has e.0 v) es) L
     due_answer v [] [] L h = tt
-    due_answer v [] (e ∷ es) L h = absurd h
-    due_answer v (n ∷ ns) [] L h = absurd h
     due_answer v (n ∷ ns) (e ∷ es) L h = by (has e.0 v) (due_answer v ns es L h.1)
       where
         by : (b : Bool) → AnswerEach o answers w (due_nodes (zip (map (λ e. e.0) es) ns) v) (filter_once (λ e. has e.0 v) es) L
             → AnswerEach o answers w (map (λ e. e.1) (put_if b (e.0, n) (filter_once (λ e. has e.0 v) (zip (map (λ e. e.0) es) ns)))) (put_if b e (filter_once (λ e. has e.0 v) es)) L
         by true k = (h.0, k)
         by false k = k
+    due_answer v _ _ L h = absurd h
 
   -- ---- the validator
 
@@ -181,10 +180,9 @@ module _ {K R N : Type 0} (o : Kit K R) (answers : N → Answers) where
       → map names_in vs ≡ map (λ e. texts e.1) es → AnswerEach o answers list_answers ns es L
   lists_answer [] [] [] L h q = tt
   lists_answer [] [] (e ∷ es) L h q = absurd (true≢false (ap is_empty q))
-  lists_answer [] (n ∷ ns) es L h q = absurd h
-  lists_answer (v ∷ vs) [] es L h q = absurd h
   lists_answer (v ∷ vs) (n ∷ ns) [] L h q = absurd (true≢false (sym (ap is_empty q)))
   lists_answer (v ∷ vs) (n ∷ ns) (e ∷ es) L h q = (list_answer v n e L h.0 (ap (λ l. get_or l 0 []) q), lists_answer vs ns es L h.1 (ap (drop 1) q))
+  lists_answer _ _ es L h q = absurd h
 
   -- the node of a list, or of a schema, is that of an entry of `dependencies`
   list_is_dependency : (n : N) (e : Name × Data) (L : Path) → is_array e.1 ≡ true → AnswersFor o answers list_answers n e L → AnswersFor o answers dependency_answers n e L

@@ -34,41 +34,35 @@ module _ {K R N : Type 0} (o : Kit K R) (answers : N → Answers) where
 
     abbrev pub AnswerEach : List N → List (Name × Data) → Path → Type 0
     AnswerEach [] [] L = ⊤
-    AnswerEach [] (e ∷ es) L = ⊥
-    AnswerEach (n ∷ ns) [] L = ⊥
     AnswerEach (n ∷ ns) (e ∷ es) L = AnswersFor n e L × AnswerEach ns es L
+    AnswerEach _ _ L = ⊥
 
     -- there are as many nodes as entries
     pub each_count : (ns : List N) (es : List (Name × Data)) (L : Path) → AnswerEach ns es L → length ns ≡ length (map {A = Name × Data} (λ e. e.0) es)
     each_count [] [] L h = refl
-    each_count [] (e ∷ es) L h = absurd h
-    each_count (n ∷ ns) [] L h = absurd h
     each_count (n ∷ ns) (e ∷ es) L h = ap suc (each_count ns es L h.1)
+    each_count _ _ L h = absurd h
 
     module _ (u : Bool) (v : Data) where
       pub each_accept : (ns : List N) (es : List (Name × Data)) (L : Path) → AnswerEach ns es L → (every (λ n. (answers n).means v) ns).accepts u ≡ list_all (λ e. w.verdict u e v) es
       each_accept [] [] L h = refl
-      each_accept [] (e ∷ es) L h = absurd h
-      each_accept (n ∷ ns) [] L h = absurd h
       each_accept (n ∷ ns) (e ∷ es) L h = λ i. h.0.verdict u v i && each_accept ns es L h.1 i
+      each_accept _ _ L h = absurd h
 
       pub each_ask : (ns : List N) (es : List (Name × Data)) (L : Path) → AnswerEach ns es L → (every (λ n. (answers n).means v) ns).asks u ≤ sum_by (λ e. w.asked u e v) es
       each_ask [] [] L h = omega arith
-      each_ask [] (e ∷ es) L h = absurd h
-      each_ask (n ∷ ns) [] L h = absurd h
       each_ask (n ∷ ns) (e ∷ es) L h = more_within _ _ _ _ _ (h.0.asks_within u v) (each_ask ns es L h.1) (sum_by-cons (λ e. w.asked u e v) e es)
+      each_ask _ _ L h = absurd h
 
       pub each_find : (Q : Path) (ns : List N) (es : List (Name × Data)) (L : Path) → AnswerEach ns es L → flat_map (λ n. (answers n).report u v Q) ns ∼ flat_map (λ e. w.faults u e v L Q) es
       each_find Q [] [] L h = like_empty
-      each_find Q [] (e ∷ es) L h = absurd h
-      each_find Q (n ∷ ns) [] L h = absurd h
       each_find Q (n ∷ ns) (e ∷ es) L h = ∼_append (h.0.faults u v Q) (each_find Q ns es L h.1)
+      each_find Q _ _ L h = absurd h
 
       pub each_show : (Q : Path) (ns : List N) (es : List (Name × Data)) (L : Path) → AnswerEach ns es L → map (λ n. (answers n).tree u v Q) ns ≡ map (λ e. w.shown u e v L Q) es
       each_show Q [] [] L h = refl
-      each_show Q [] (e ∷ es) L h = absurd h
-      each_show Q (n ∷ ns) [] L h = absurd h
       each_show Q (n ∷ ns) (e ∷ es) L h = λ i. h.0.evaluation u v Q i ∷ each_show Q ns es L h.1 i
+      each_show Q _ _ L h = absurd h
 
   -- ---- entries that are schemas
 
@@ -86,6 +80,5 @@ module _ {K R N : Type 0} (o : Kit K R) (answers : N → Answers) where
 
   pub schemas_answer : (ns : List N) (es : List (Name × Data)) (L : Path) → StandEach o answers ns es L → AnswerEach schema_answers ns es L
   schemas_answer [] [] L h = tt
-  schemas_answer [] (e ∷ es) L h = absurd h
-  schemas_answer (n ∷ ns) [] L h = absurd h
   schemas_answer (n ∷ ns) (e ∷ es) L h = (schema_answer n e L h.0, schemas_answer ns es L h.1)
+  schemas_answer _ _ L h = absurd h

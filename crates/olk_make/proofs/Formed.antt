@@ -55,9 +55,8 @@ module _ {K R N : Type 0} (o : Kit K R) (answers : N → Answers) where
 
   pub each_formed : (w : EntryAnswers) (ns : List N) (es : List (Name × Data)) (L : Path) → AnswerEach o answers w ns es L → list_all has_form ns ≡ true
   each_formed w [] [] L h = refl
-  each_formed w [] (e ∷ es) L h = absurd h
-  each_formed w (n ∷ ns) [] L h = absurd h
   each_formed w (n ∷ ns) (e ∷ es) L h = and_from (has_form n) (list_all has_form ns) h.0.formed (each_formed w ns es L h.1)
+  each_formed w _ _ L h = absurd h
 
   pub stand_formed : (ns : List N) (es : List (Name × Data)) (L : Path) → StandEach o answers ns es L → list_all has_form ns ≡ true
   stand_formed ns es L h = each_formed (schema_answers o answers) ns es L (schemas_answer o answers ns es L h)

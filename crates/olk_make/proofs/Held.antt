@@ -107,48 +107,42 @@ module _ {K R N : Type 0} (o : Kit K R) (answers : N → Answers) where
     members_accept : (ns : List N) (es : List (Name × Data)) (L : Path) → StandEach o answers ns es L → (every each_at (zip (map (λ e. e.0) es) ns)).accepts u ≡ list_all
         (λ e. list_all (accepts o.world u e.1) (at e.0 v)) es
     members_accept [] [] L h = refl
-    members_accept [] (e ∷ es) L h = absurd h
-    members_accept (n ∷ ns) [] L h = absurd h
     members_accept (n ∷ ns) (e ∷ es) L h = λ i. node_accepts n e.1 (L // e.0) h.0 u (at e.0 v) i && members_accept ns es L h.1 i
+    members_accept _ _ L h = absurd h
 
     members_ask : (ns : List N) (es : List (Name × Data)) (L : Path) → StandEach o answers ns es L → (every each_at (zip (map (λ e. e.0) es) ns)).asks u ≤ sum_by
         (λ e. sum_by (asks o.world u e.1) (at e.0 v)) es
     members_ask [] [] L h = omega arith
-    members_ask [] (e ∷ es) L h = absurd h
-    members_ask (n ∷ ns) [] L h = absurd h
     members_ask (n ∷ ns) (e ∷ es) L h = more_within _ _ _ _ _ (node_asks n e.1 (L // e.0) h.0 u (at e.0 v)) (members_ask ns es L h.1) (sum_by-cons (λ e. sum_by (asks o.world u e.1) (at e.0 v)) e es)
+    members_ask _ _ L h = absurd h
 
     members_find : (Q : Path) (ns : List N) (es : List (Name × Data)) (L : Path) → StandEach o answers ns es L
         → flat_map (λ e. flat_map (λ x. (answers e.1).report u x (Q // e.0)) (at e.0 v)) (zip (map (λ e. e.0) es) ns) ∼ flat_map
         (λ e. flat_map (λ x. report o.world u e.1 x (L // e.0) (Q // e.0)) (at e.0 v)) es
     members_find Q [] [] L h = like_empty
-    members_find Q [] (e ∷ es) L h = absurd h
-    members_find Q (n ∷ ns) [] L h = absurd h
     members_find Q (n ∷ ns) (e ∷ es) L h = ∼_append (node_finds n e.1 (L // e.0) h.0 u (Q // e.0) (at e.0 v)) (members_find Q ns es L h.1)
+    members_find Q _ _ L h = absurd h
 
     abbrev pub at_value : N → Question
     at_value n = (answers n).means v
 
     any_accept : (ns : List N) (es : List (Name × Data)) (L : Path) → StandEach o answers ns es L → (some at_value ns).accepts u ≡ list_any (λ e. accepts o.world u e.1 v) es
     any_accept [] [] L h = refl
-    any_accept [] (e ∷ es) L h = absurd h
-    any_accept (n ∷ ns) [] L h = absurd h
     any_accept (n ∷ ns) (e ∷ es) L h = λ i. h.0.verdict u v i || any_accept ns es L h.1 i
+    any_accept _ _ L h = absurd h
 
     pub any_ask : (ns : List N) (es : List (Name × Data)) (L : Path) → StandEach o answers ns es L → (some at_value ns).asks u ≤ sum_by (λ e. asks o.world u e.1 v) es
     any_ask [] [] L h = omega arith
-    any_ask [] (e ∷ es) L h = absurd h
-    any_ask (n ∷ ns) [] L h = absurd h
     any_ask (n ∷ ns) (e ∷ es) L h = more_within _ _ _ _ _ (h.0.asks_within u v) (any_ask ns es L h.1) (sum_by-cons (λ e. asks o.world u e.1 v) e es)
+    any_ask _ _ L h = absurd h
 
     pub any_context : (Q : Path) (ns : List N) (es : List (Name × Data)) (L : Path) → StandEach o answers ns es L
         → IsLikeContext (context (map (λ n. (answers n).report u v Q) ns)) (context (map (λ e. report o.world u e.1 v (L // e.0) Q) es))
     any_context Q [] [] L h = like_none
-    any_context Q [] (e ∷ es) L h = absurd h
-    any_context Q (n ∷ ns) [] L h = absurd h
     any_context Q (n ∷ ns) (e ∷ es) L h =
         like_branch (subst₂ (λ x y. x ∼ y) (sym (faults_in-from ((answers n).report u v Q))) (sym (faults_in-from (report o.world u e.1 v (L // e.0) Q)))
         (h.0.faults u v Q)) (any_context Q ns es L h.1)
+    any_context Q _ _ L h = absurd h
 
     pub branches_show : (Q : Path) (ns : List N) (es : List (Name × Data)) (L : Path) → StandEach o answers ns es L → map (λ n. (answers n).tree u v Q) ns ≡ branches_shown o.world u v L Q es
     branches_show Q ns es L h = each_show o answers (schema_answers o answers) u v Q ns es L (schemas_answer o answers ns es L h)
@@ -159,8 +153,6 @@ module _ {K R N : Type 0} (o : Kit K R) (answers : N → Answers) where
     pub accepting_show : (Q : Path) (ns : List N) (es : List (Name × Data)) (L : Path) → StandEach o answers ns es L → map (λ n. (answers n).tree u v Q)
         (filter_once accepts_value ns) ≡ branches_shown o.world u v L Q (accepting_branches o.world u v es)
     accepting_show Q [] [] L h = refl
-    accepting_show Q [] (e ∷ es) L h = absurd h
-    accepting_show Q (n ∷ ns) [] L h = absurd h
     accepting_show Q (n ∷ ns) (e ∷ es) L h =
         ap (λ b. map (λ n. (answers n).tree u v Q) (put_if b n (filter_once accepts_value ns))) (h.0.verdict u v) ∙ by (accepts o.world u e.1 v) (accepting_show Q ns es L h.1)
       where
@@ -168,6 +160,7 @@ module _ {K R N : Type 0} (o : Kit K R) (answers : N → Answers) where
             → map (λ n. (answers n).tree u v Q) (put_if b n (filter_once accepts_value ns)) ≡ branches_shown o.world u v L Q (put_if b e (accepting_branches o.world u v es))
         by true g = λ i. h.0.evaluation u v Q i ∷ g i
         by false g = g
+    accepting_show Q _ _ L h = absurd h
 
     any_show : (Q : Path) (ns : List N) (es : List (Name × Data)) (L : Path) → StandEach o answers ns es L → any_of_tree (λ n. (answers n).tree u) v Q accepts_value L ns ≡ any_shown o.world u v L Q es
     any_show Q ns es L h = λ i. cond (none i) (result L Q None true [] (branches_show Q ns es L h i)) (plain L Q (accepting_show Q ns es L h i))
@@ -186,8 +179,6 @@ module _ {K R N : Type 0} (o : Kit K R) (answers : N → Answers) where
     member_shows : (Q : Path) (m : Name × Data) (ns : List N) (es : List (Name × Data)) (L : Path) → StandEach o answers ns es L
         → map (λ n. (answers n).tree u m.1 (Q // m.0)) (option_to_list (lookup_name m.0 (zip (map (λ e. e.0) es) ns))) ≡ shown_at o.world u v L Q es m
     member_shows Q m [] [] L h = refl
-    member_shows Q m [] (e ∷ es) L h = absurd h
-    member_shows Q m (n ∷ ns) [] L h = absurd h
     member_shows Q m (n ∷ ns) (e ∷ es) L h = by (slice_cmp nat_cmp m.0 e.0) (is_eq-slice_cmp m.0 e.0) (member_shows Q m ns es L h.1)
       where
         by : (c : Ordering) → is_eq c ≡ bytes_eq m.0 e.0 → map (λ n. (answers n).tree u m.1 (Q // m.0)) (option_to_list (lookup_name m.0 (zip (map (λ e. e.0) es) ns))) ≡ shown_at o.world u v L Q es m
@@ -196,6 +187,7 @@ module _ {K R N : Type 0} (o : Kit K R) (answers : N → Answers) where
         by Less q g = g
         by Equal q g = (λ i. h.0.evaluation u m.1 (Q // m.0) i ∷ []) ∙ ap (λ k. tree o.world u e.1 m.1 (L // k) (Q // m.0) ∷ []) (sym (same_name m.0 e.0 (sym q)))
         by Greater q g = g
+    member_shows Q m _ _ L h = absurd h
 
     members_show : (Q : Path) (ms : List (Name × Data)) (ns : List N) (es : List (Name × Data)) (L : Path) → StandEach o answers ns es L
         → flat_map (λ m. map (λ n. (answers n).tree u m.1 (Q // m.0)) (option_to_list (lookup_name m.0 (zip (map (λ e. e.0) es) ns)))) ms ≡ flat_map (shown_at o.world u v L Q es) ms

@@ -320,12 +320,9 @@ module _ {K R N : Type 0} (o : Kit K R) (answers : N → Answers) where
           by true false true c t e q i j r k l h = inr (inl (q, same_name m.0 (codes "patternProperties") j))
           by true false false true true e q i j r k l h = inr (inr (inl (r, same_name m.0 (codes "then") k)))
           by true false false true false true q i j r k l h = inr (inr (inr (r, same_name m.0 (codes "else") l)))
-          by true false false true false false q i j r k l h = absurd (true≢false (sym h))
-          by true false false false t e q i j r k l h = absurd (true≢false (sym h))
           by false a b true true e q i j r k l h = inr (inr (inl (r, same_name m.0 (codes "then") k)))
           by false a b true false true q i j r k l h = inr (inr (inr (r, same_name m.0 (codes "else") l)))
-          by false a b true false false q i j r k l h = absurd (true≢false (sym h))
-          by false a b false t e q i j r k l h = absurd (true≢false (sym h))
+          by _ _ _ _ _ _ q i j r k l h = absurd (true≢false (sym h))
 
       taken_claims_none : claims heads (listed ms) m ≡ []
       taken_claims_none = by taken_by

@@ -50,12 +50,11 @@ module _ {K R N : Type 0} (o : Kit K R) (answers : N → Answers) where
     -- as many nodes accept as schemas
     counted : (ns : List N) (es : List (Name × Data)) (L : Path) → StandEach o answers ns es L → count_by (accepts_value o answers u v) ns ≡ fact.accepting_count o.world u v es
     counted [] [] L h = refl
-    counted [] (e ∷ es) L h = absurd h
-    counted (n ∷ ns) [] L h = absurd h
     counted (n ∷ ns) (e ∷ es) L h =
         sum_by-cons (λ x. cond (accepts_value o answers u v x) 1 0) n ns
         ∙ (λ i. cond (h.0.verdict u v i) 1 0 + counted ns es L h.1 i)
         ∙ sym (sum_by-cons (λ (x : Name × Data). cond (accepts o.world u x.1 v) 1 0) e es)
+    counted _ _ L h = absurd h
 
     one_show : (Q : Path) (ns : List N) (es : List (Name × Data)) (L : Path) → StandEach o answers ns es L → one_of_tree (λ n. (answers n).tree u) v Q
         (accepts_value o answers u v) L ns ≡ fact.one_shown o.world u v (fact.accepting_count o.world u v es) L Q es

@@ -71,10 +71,9 @@ module _ {K R N : Type 0} (o : Kit K R) (answers : N → Answers) where
 
   pub both_stand : (ps : List (CompiledPattern R)) (ns : List N) (ds : List (Name × Data)) (L : Path) → ArePatterns o ps ds → StandEach o answers ns ds L → EntriesStand o answers (zip ps ns) ds L
   both_stand [] ns [] L h s = tt
-  both_stand [] ns (d ∷ ds) L h s = absurd h
-  both_stand (p ∷ ps) ns [] L h s = absurd h
   both_stand (p ∷ ps) [] (d ∷ ds) L h s = absurd s
   both_stand (p ∷ ps) (n ∷ ns) (d ∷ ds) L h s = (h.0, s.0, both_stand ps ns ds L h.1 s.1)
+  both_stand _ ns _ L h s = absurd h
 
   -- ---- one pattern
 
@@ -135,40 +134,35 @@ module _ {K R N : Type 0} (o : Kit K R) (answers : N → Answers) where
     patterns_accept : (es : List Entry) (ds : List (Name × Data)) → EntriesStand o answers es ds L
         → (patterns_mean o.answers o.costs (λ n. (answers n).means) es v).accepts u ≡ list_all (λ d. list_all (λ x. accepts o.world u d.1 x.1) (matched_members o.world u d.0 v)) ds
     patterns_accept [] [] h = refl
-    patterns_accept [] (d ∷ ds) h = absurd h
-    patterns_accept (e ∷ es) [] h = absurd h
     patterns_accept (e ∷ es) (d ∷ ds) h = λ i. matched_accept e d L h.0 h.1 u (members v) i && patterns_accept es ds h.2 i
+    patterns_accept _ _ h = absurd h
 
     patterns_ask : (es : List Entry) (ds : List (Name × Data)) → EntriesStand o answers es ds L → (patterns_mean o.answers o.costs (λ n. (answers n).means) es v).asks u ≤ sum_by
         (λ d. sum_by (λ x. pattern_asks o.world d.0 + cond (matches o.world u d.0 x.0) (asks o.world u d.1 x.1) 0) (members v)) ds
     patterns_ask [] [] h = omega arith
-    patterns_ask [] (d ∷ ds) h = absurd h
-    patterns_ask (e ∷ es) [] h = absurd h
     patterns_ask (e ∷ es) (d ∷ ds) h =
         more_within _ _ _ _ _ (matched_ask e d L h.0 h.1 u (members v)) (patterns_ask es ds h.2)
         (sum_by-cons (λ d. sum_by (λ x. pattern_asks o.world d.0 + cond (matches o.world u d.0 x.0) (asks o.world u d.1 x.1) 0) (members v)) d ds)
+    patterns_ask _ _ h = absurd h
 
     module _ (Q : Path) where
       patterns_find : (es : List Entry) (ds : List (Name × Data)) → EntriesStand o answers es ds L → patterns_report o.answers (λ n. (answers n).report) u es v Q ∼ flat_map
           (λ d. flat_map (λ x. report o.world u d.1 x.1 (L // d.0) (Q // x.0)) (matched_members o.world u d.0 v)) ds
       patterns_find [] [] h = like_empty
-      patterns_find [] (d ∷ ds) h = absurd h
-      patterns_find (e ∷ es) [] h = absurd h
       patterns_find (e ∷ es) (d ∷ ds) h = ∼_append (matched_find e d L h.0 h.1 u v Q) (patterns_find es ds h.2)
+      patterns_find _ _ h = absurd h
 
       patterns_show : (es : List Entry) (ds : List (Name × Data)) → EntriesStand o answers es ds L → match_trees (λ n. (answers n).tree u) v Q o.answers u es ≡ flat_map
           (λ d. map (λ x. tree o.world u d.1 x.1 (L // d.0) (Q // x.0)) (matched_members o.world u d.0 v)) ds
       patterns_show [] [] h = refl
-      patterns_show [] (d ∷ ds) h = absurd h
-      patterns_show (e ∷ es) [] h = absurd h
       patterns_show (e ∷ es) (d ∷ ds) h = λ i. matched_show e d L h.0 h.1 u v Q i ++ patterns_show es ds h.2 i
+      patterns_show _ _ h = absurd h
 
       patterns_name : (es : List Entry) (ds : List (Name × Data)) → EntriesStand o answers es ds L → match_names (λ n. (answers n).tree u) v Q o.answers u es ≡ flat_map
           (λ d. map (λ x. x.0) (matched_members o.world u d.0 v)) ds
       patterns_name [] [] h = refl
-      patterns_name [] (d ∷ ds) h = absurd h
-      patterns_name (e ∷ es) [] h = absurd h
       patterns_name (e ∷ es) (d ∷ ds) h = λ i. map (λ x. x.0) (matched_same e d L h.0 h.1 u v i) ++ patterns_name es ds h.2 i
+      patterns_name _ _ h = absurd h
 
   -- ---- the keyword, in either form
 
@@ -205,9 +199,8 @@ module _ {K R N : Type 0} (o : Kit K R) (answers : N → Answers) where
 
   entries_formed : (es : List Entry) (ds : List (Name × Data)) (L : Path) → EntriesStand o answers es ds L → list_all (entry_formed o answers) es ≡ true
   entries_formed [] [] L h = refl
-  entries_formed [] (d ∷ ds) L h = absurd h
-  entries_formed (e ∷ es) [] L h = absurd h
   entries_formed (e ∷ es) (d ∷ ds) L h = and_from _ _ h.1.formed (entries_formed es ds L h.2)
+  entries_formed _ _ L h = absurd h
 
   unrestricted : (ms : Members) → (is_restricted ms && true) ≡ false → is_restricted ms ≡ false
   unrestricted ms e = sym (and-true (is_restricted ms)) ∙ e

@@ -74,9 +74,8 @@ module _ {K R N : Type 0} (o : Kit K R) (answers : N → Answers) where
 
   each_append : (ns rs : List N) (es fs : List (Name × Data)) (L : Path) → SchemaEach ns es L → SchemaEach rs fs L → SchemaEach (ns ++ rs) (es ++ fs) L
   each_append [] rs [] fs L h k = k
-  each_append [] rs (e ∷ es) fs L h k = absurd h
-  each_append (n ∷ ns) rs [] fs L h k = absurd h
   each_append (n ∷ ns) rs (e ∷ es) fs L h k = (h.0, each_append ns rs es fs L h.1 k)
+  each_append _ rs _ fs L h k = absurd h
 
   module _ {X : Type 0} (f : X → List N) (g : X → List (Name × Data)) (L : Path) (each : (x : X) → SchemaEach (f x) (g x) L) where
     each_of_all : (xs : List X) → SchemaEach (flat_map f xs) (flat_map g xs) L
@@ -87,8 +86,6 @@ module _ {K R N : Type 0} (o : Kit K R) (answers : N → Answers) where
   found_answers : (t : Name) (ns : List N) (es : List (Name × Data)) (L : Path) → SchemaEach ns es L → SchemaEach (option_to_list (lookup_name t (zip (map (λ e. e.0) es) ns)))
       (map (λ s. (t, s)) (option_to_list (lookup_name t es))) L
   found_answers t [] [] L h = tt
-  found_answers t [] (e ∷ es) L h = absurd h
-  found_answers t (n ∷ ns) [] L h = absurd h
   found_answers t (n ∷ ns) (e ∷ es) L h = by (slice_cmp nat_cmp t e.0) (is_eq-slice_cmp t e.0) (found_answers t ns es L h.1)
     where
       by : (c : Ordering) → is_eq c ≡ bytes_eq t e.0 → SchemaEach (option_to_list (lookup_name t (zip (map (λ e. e.0) es) ns))) (map (λ s. (t, s)) (option_to_list (lookup_name t es))) L
@@ -96,6 +93,7 @@ module _ {K R N : Type 0} (o : Kit K R) (answers : N → Answers) where
       by Less q k = k
       by Equal q k = (subst (λ a. SchemaFor n (a, e.1) L) (sym (same_name t e.0 (sym q))) h.0, tt)
       by Greater q k = k
+  found_answers t _ _ L h = absurd h
 
   -- a map whose nodes stand for what is in the entry
   record MapAnswers (m : SmallMap N) (e : Name × Data) (L : Path) : Type 0 where
@@ -106,23 +104,20 @@ module _ {K R N : Type 0} (o : Kit K R) (answers : N → Answers) where
   -- a map for each entry
   abbrev MapsAnswer : List (SmallMap N) → List (Name × Data) → Path → Type 0
   MapsAnswer [] [] L = ⊤
-  MapsAnswer [] (e ∷ es) L = ⊥
-  MapsAnswer (m ∷ maps) [] L = ⊥
   MapsAnswer (m ∷ maps) (e ∷ es) L = MapAnswers m e L × MapsAnswer maps es L
+  MapsAnswer _ _ L = ⊥
 
   maps_formed : (maps : List (SmallMap N)) (es : List (Name × Data)) (L : Path) → MapsAnswer maps es L → list_all (λ m. list_all (has_form o answers) (nodes_in (named m))) maps ≡ true
   maps_formed [] [] L h = refl
-  maps_formed [] (e ∷ es) L h = absurd h
-  maps_formed (m ∷ maps) [] L h = absurd h
   maps_formed (m ∷ maps) (e ∷ es) L h = and_from _ _ (each_held_formed o answers (named m) h.0.nodes (members e.1) (L // e.0) h.0.held (schema_answers o answers) h.0.each) (maps_formed maps es L h.1)
+  maps_formed _ _ L h = absurd h
 
   -- the names of each
   maps_names : (maps : List (SmallMap N)) (es : List (Name × Data)) (L : Path) → MapsAnswer maps es L → map (λ m. keys_in (named m)) maps ≡ map (λ e. names_of e.1) es
   maps_names [] [] L h = refl
-  maps_names [] (e ∷ es) L h = absurd h
-  maps_names (m ∷ maps) [] L h = absurd h
   maps_names (m ∷ maps) (e ∷ es) L h =
       λ i. each_keys o answers (named m) h.0.nodes (members e.1) (L // e.0) h.0.held (schema_answers o answers) h.0.each i ∷ maps_names maps es L h.1 i
+  maps_names _ _ L h = absurd h
 
   -- as many as entries
   maps_count : (maps : List (SmallMap N)) (es : List (Name × Data)) (L : Path) → MapsAnswer maps es L → length maps ≡ length (map {A = Name × Data} (λ e. e.0) es)
@@ -144,44 +139,40 @@ module _ {K R N : Type 0} (o : Kit K R) (answers : N → Answers) where
       choices_accept : (maps : List (SmallMap N)) (es : List (Name × Data)) (L : Path) → MapsAnswer maps es L
           → (every (λ n. (answers n).means v) (chosen_of maps es)).accepts u ≡ list_all (λ e. list_all (λ c. accepts o.world u c.1 v) (chosen v e)) es
       choices_accept [] [] L h = refl
-      choices_accept [] (e ∷ es) L h = absurd h
-      choices_accept (m ∷ maps) [] L h = absurd h
       choices_accept (m ∷ maps) (e ∷ es) L h =
           ap (λ q. q.accepts u) (every-append (λ n. (answers n).means v) (flat_map (chosen_at m) (at e.0 v)) (chosen_of maps es))
           ∙ (λ i. each_accept o answers (schema_answers o answers) u v (flat_map (chosen_at m) (at e.0 v)) (chosen v e) (L // e.0) (chosen_answer m e L h.0) i
           && choices_accept maps es L h.1 i)
+      choices_accept _ _ L h = absurd h
 
       choices_ask : (maps : List (SmallMap N)) (es : List (Name × Data)) (L : Path) → MapsAnswer maps es L
           → (every (λ n. (answers n).means v) (chosen_of maps es)).asks u ≤ sum_by (λ e. sum_by (λ c. asks o.world u c.1 v) (chosen v e)) es
       choices_ask [] [] L h = omega arith
-      choices_ask [] (e ∷ es) L h = absurd h
-      choices_ask (m ∷ maps) [] L h = absurd h
       choices_ask (m ∷ maps) (e ∷ es) L h =
           subst (λ q. q.asks u ≤ sum_by (λ e. sum_by (λ c. asks o.world u c.1 v) (chosen v e)) (e ∷ es))
           (sym (every-append (λ n. (answers n).means v) (flat_map (chosen_at m) (at e.0 v)) (chosen_of maps es)))
           (more_within _ _ _ _ _ (each_ask o answers (schema_answers o answers) u v (flat_map (chosen_at m) (at e.0 v)) (chosen v e) (L // e.0) (chosen_answer m e L h.0))
           (choices_ask maps es L h.1) (sum_by-cons (λ e. sum_by (λ c. asks o.world u c.1 v) (chosen v e)) e es))
+      choices_ask _ _ L h = absurd h
 
       module _ (Q : Path) where
         choices_find : (maps : List (SmallMap N)) (es : List (Name × Data)) (L : Path) → MapsAnswer maps es L → flat_map (λ n. (answers n).report u v Q)
             (chosen_of maps es) ∼ flat_map (λ e. flat_map (λ c. report o.world u c.1 v (L // e.0 // c.0) Q) (chosen v e)) es
         choices_find [] [] L h = like_empty
-        choices_find [] (e ∷ es) L h = absurd h
-        choices_find (m ∷ maps) [] L h = absurd h
         choices_find (m ∷ maps) (e ∷ es) L h =
             subst (λ fs. fs ∼ flat_map (λ e. flat_map (λ c. report o.world u c.1 v (L // e.0 // c.0) Q) (chosen v e)) (e ∷ es))
             (sym (flat_map-append (λ n. (answers n).report u v Q) (flat_map (chosen_at m) (at e.0 v)) (chosen_of maps es)))
             (∼_append (each_find o answers (schema_answers o answers) u v Q (flat_map (chosen_at m) (at e.0 v)) (chosen v e) (L // e.0) (chosen_answer m e L h.0))
             (choices_find maps es L h.1))
+        choices_find _ _ L h = absurd h
 
         choices_show : (maps : List (SmallMap N)) (es : List (Name × Data)) (L : Path) → MapsAnswer maps es L → map (λ n. (answers n).tree u v Q)
             (chosen_of maps es) ≡ flat_map (λ e. map (λ c. tree o.world u c.1 v (L // e.0 // c.0) Q) (chosen v e)) es
         choices_show [] [] L h = refl
-        choices_show [] (e ∷ es) L h = absurd h
-        choices_show (m ∷ maps) [] L h = absurd h
         choices_show (m ∷ maps) (e ∷ es) L h = map-append (λ n. (answers n).tree u v Q) (flat_map (chosen_at m) (at e.0 v)) (chosen_of maps es)
             ∙ (λ i. each_show o answers (schema_answers o answers) u v Q (flat_map (chosen_at m) (at e.0 v)) (chosen v e) (L // e.0) (chosen_answer m e L h.0) i
             ++ choices_show maps es L h.1 i)
+        choices_show _ _ L h = absurd h
 
   -- ---- the validator
 
@@ -243,9 +234,7 @@ module _ {K R N : Type 0} (o : Kit K R) (answers : N → Answers) where
   maps_answer : (ts : List (List Name)) (ns : List N) (maps : List (SmallMap N)) (es : List (Name × Data)) (L : Path) → AreCut ts ns maps
       → ts ≡ map (λ e. names_of e.1) es → StandInner o answers ns es L → MapsAnswer maps es L
   maps_answer [] ns [] [] L h q stand = tt
-  maps_answer [] ns (m ∷ maps) es L h q stand = absurd h
   maps_answer [] ns [] (e ∷ es) L h q stand = absurd (true≢false (ap is_empty q))
-  maps_answer (t ∷ ts) ns [] es L h q stand = absurd h
   maps_answer (t ∷ ts) ns (m ∷ maps) [] L h q stand = absurd (true≢false (sym (ap is_empty q)))
   maps_answer (t ∷ ts) ns (m ∷ maps) (e ∷ es) L h q stand =
       let here = stand.0 in
@@ -260,6 +249,7 @@ module _ {K R N : Type 0} (o : Kit K R) (answers : N → Answers) where
         },
         maps_answer ts (drop (length t) ns) maps es L h.1 (ap (drop 1) q) (subst (λ l. StandInner o answers l es L) (sym (ap (drop (length t)) stand.2 ∙ drop_at here after (length t) count)) stand.4),
       )
+  maps_answer _ ns _ es L h q stand = absurd h
 
   module _ (m : SmallMap (SmallMap N)) (maps : List (SmallMap N)) (keys : List Name) (held : named m ≡ zip keys maps) (texts : Vec (List Name) Global) (ns : List N) (L : Path)
       (is : AreCut texts.items ns maps) where

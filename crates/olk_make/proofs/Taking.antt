@@ -134,9 +134,8 @@ module _ {K R N : Type 0} (o : Kit K R) (answers : N → Answers) where
   module _ (p : Planned) (c : Known) (P : Path) where
     parts_append : (ps qs : List (Part K R N)) (es fs : List (Name × Data)) → PartsStand o answers c ps es P → PartsStand o answers c qs fs P → PartsStand o answers c (ps ++ qs) (es ++ fs) P
     parts_append [] qs [] fs h s = s
-    parts_append [] qs (m ∷ es) fs h s = absurd h
-    parts_append (x ∷ ps) qs [] fs h s = absurd h
     parts_append (x ∷ ps) qs (m ∷ es) fs h s = (h.0, parts_append ps qs es fs h.1 s)
+    parts_append _ qs _ fs h s = absurd h
 
     module _ (same : c.condition ≡ p.condition) (ps : List (Part K R N)) (done : List (Name × Data)) (t after : Taken R N) (h : AreTaken o answers p c done P t ps)
         (k : Name) (d : Data) (part : Part K R N) (left : Option (Part K R N)) (stand : PartStands o answers c part (k, d) P) where

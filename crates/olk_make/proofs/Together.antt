@@ -14,7 +14,7 @@ use Rattle.olk_spec.specs.Names.{Name, Path, is_among}
 use Rattle.olk_spec.specs.Faults.{◌∼◌, like_empty, like_through}
 use Rattle.olk_spec.specs.Schemas.{listed}
 use Rattle.olk_spec.specs.Malformed.{has_repeat}
-use Rattle.olk_spec.proofs.Order.{∼_append, ∼_permuted}
+use Rattle.olk_spec.proofs.Order.{∼_same, ∼_append, ∼_permuted}
 use Rattle.olk_spec.proofs.Truth.{and_from}
 use Rattle.olk_base.specs.Kit.{Kit}
 use Rattle.olk_tree.specs.Questions.{Question, every}
@@ -28,6 +28,7 @@ use Rattle.olk_make.specs.Holding.{all_malformed, which, ask, find, Covers}
 use Rattle.olk_make.specs.Making.{KeywordMeans, KeywordsMean}
 use Rattle.olk_tree.specs.declared.node.KeywordOver.{KeywordOver}
 use Rattle.olk_meaning.proofs.Claims.{list_all-permuted}
+use Rattle.olk_meaning.proofs.Conditions.{MeansNothing}
 use Rattle.olk_meaning.proofs.Heads.{names_of, claims_are_all}
 
 -- ---- questions one after another
@@ -48,6 +49,18 @@ module _ {K R N : Type 0} (o : Kit K R) (answers : N → Answers) where
     no_keywords_mean ks e = subst (λ x. KeywordsMean o answers ms x [] [] P) (sym e) record {
       covers = record { verdict = λ u v. refl; asks_within = λ u v. omega arith; faults = λ u v Q. like_empty };
       shows = λ clean u v Q. refl;
+      formed = refl;
+    }
+
+    -- of a member that means nothing
+    pub means_nothing : (m : Name × Data) → MeansNothing o.world ms m → KeywordsMean o answers ms [] (m ∷ []) (m ∷ []) P
+    means_nothing m nothing = record {
+      covers = record {
+        verdict = λ u v. sym (and-true _ ∙ nothing.verdict u v);
+        asks_within = λ u v. omega arith;
+        faults = λ u v Q. ∼_same (sym (append-nil _ ∙ nothing.report u v P Q));
+      };
+      shows = λ clean u v Q. sym (append-nil _ ∙ nothing.child u v P Q);
       formed = refl;
     }
 

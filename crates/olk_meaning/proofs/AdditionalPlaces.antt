@@ -77,13 +77,9 @@ module _ (W : World) (ms : Members) (d : Data) (allows : is_restriction (Some d)
         all = sym (each_passes (λ x. is_other W u fs es x.0) (members v))
 
         by : (d : Data) → is_restriction (Some d) ≡ false → list_all (rest_accepts W u fs es d) (members v) ≡ true
-        by (boolean true) e = all
-        by null e = all
-        by (number n) e = all
-        by (string s) e = all
-        by (array ds) e = all
         by (boolean false) e = absurd (true≢false e)
         by (object gs) e = absurd (true≢false e)
+        by _ e = all
 
     nothing_asked : sum_by (rest_asks W u fs es d) (members v) ≡ 0
     unfolding meaning
@@ -93,13 +89,9 @@ module _ (W : World) (ms : Members) (d : Data) (allows : is_restriction (Some d)
         none = (λ i. sum_by (λ (x : Name × Data). no_other_truth (is_other W u fs es x.0) 0 i) (members v)) ∙ sum_of_none (members v)
 
         by : (d : Data) → is_restriction (Some d) ≡ false → sum_by (rest_asks W u fs es d) (members v) ≡ 0
-        by (boolean true) e = none
-        by null e = none
-        by (number n) e = none
-        by (string s) e = none
-        by (array ds) e = none
         by (boolean false) e = absurd (true≢false e)
         by (object gs) e = absurd (true≢false e)
+        by _ e = none
 
     nothing_found : (P Q : Path) → flat_map (rest_report W u fs es P Q d) (members v) ++ others_report W u fs es P Q (has_beside ms) d v ≡ []
     nothing_found P Q =

@@ -99,11 +99,7 @@ module _ (W : World) (ms : Members) (d : Data) (u : Bool) (v : Data) where
       by (object gs) =
           and-true _ ∙ all_of_each (asked_of (place (meaning_step W u) (object gs))) (λ a. a.sub.answer.accepts a.value) others ∙ list_all-filter_once
           (λ x. accepts W u (object gs) x.1) (λ x. is_other W u fs es x.0) (members v)
-      by (boolean true) = allowing
-      by null = allowing
-      by (number n) = allowing
-      by (string s) = allowing
-      by (array ds) = allowing
+      by _ = allowing
 
   pub additional_asks : member_asks W ms (codes "additionalProperties", d) additional_properties u v ≡ sum_by (rest_asks W u fs es d) (members v)
   unfolding meaning
@@ -119,11 +115,7 @@ module _ (W : World) (ms : Members) (d : Data) (u : Bool) (v : Data) where
       by : (d : Data) → sum_by (λ a. a.sub.answer.asks a.value) (asked_by (place (meaning_step W u) d) others) ≡ sum_by (λ x. asks W u d x.1) others
       by (object gs) = sum_of_each (asked_of (place (meaning_step W u) (object gs))) (λ a. a.sub.answer.asks a.value) others
       by (boolean true) = nothing
-      by (boolean false) = nothing
-      by null = nothing
-      by (number n) = nothing
-      by (string s) = nothing
-      by (array ds) = nothing
+      by _ = nothing
 
   pub own_others : (P Q : Path) → own W u (read_members (meaning_step W u) ms) (codes "additionalProperties")
       (read (meaning_step W u) d) v P Q additional_properties ≡ others_report W u fs es P Q (has_beside ms) d v

@@ -59,9 +59,8 @@ module _ (W : World) (u : Bool) (v : Data) (none : IsNoObject v) where
 
 module _ (W : World) (u : Bool) where
   step_asks_nothing : (S : Schema Meaning) → GoodSchema AsksNothing S → (v : Data) → IsNoObject v → (meaning_step W u S).asks v ≡ 0
-  step_asks_nothing (truth b) g v none = refl
-  step_asks_nothing (no_schema d) g v none = refl
   step_asks_nothing (keywords S) g v none = nothing_summed (λ m. keyword_asks W u S m.0 m.1 v (keyword_named W m.0)) S (keywords_nothing W u v none S S g)
+  step_asks_nothing _ g v none = refl
 
   pub asks_nothing : (d v : Data) → is_object v ≡ false → asks W u d v ≡ 0
   unfolding meaning

@@ -69,9 +69,7 @@ listed_names o t e = no_pair t None refl e
 
 where_few : (a b c : Bool) (o : Option (Name × Name)) (t : Name × Name) → cond (a && b && c) o None ≡ Some t → (a ≡ true) × (o ≡ Some t)
 where_few true true true o t e = (refl, e)
-where_few true true false o t e = absurd (true≢false (sym (ap is_some e)))
-where_few true false c o t e = absurd (true≢false (sym (ap is_some e)))
-where_few false b c o t e = absurd (true≢false (sym (ap is_some e)))
+where_few _ _ _ o t e = absurd (true≢false (sym (ap is_some e)))
 
 are_fused : (ms : Members) (o : Option (Name × Name)) → Distinct (listed ms) → o ≡ fused_pair ms → AreFused ms o
 are_fused ms None h e = tt
@@ -122,9 +120,8 @@ pub head_itself : (p : Planned) (k : Name) → (is_some p.fused_pair ≡ true �
 head_itself p k apart h free n = past_taken p k n _ free (by (is_some p.fused_pair) (bytes_eq (codes "required") n) refl refl)
   where
     by : (a b : Bool) → is_some p.fused_pair ≡ a → bytes_eq (codes "required") n ≡ b → bytes_eq k (cond (a && b) (codes "properties") (cond (p.condition && is_case n) (codes "if") n)) ≡ bytes_eq k n
-    by false b f q = past_cases p.condition k n h
-    by true false f q = past_cases p.condition k n h
     by true true f q = bytes_eq-sym k (codes "properties") ∙ (apart f).0 ∙ sym (apart f).1 ∙ bytes_eq-sym (codes "required") k ∙ ap (bytes_eq k) (same_name (codes "required") n q)
+    by _ _ f q = past_cases p.condition k n h
 
 pub heads_elsewhere : (p : Planned) (k : Name) → bytes_eq (codes "properties") k ≡ false → bytes_eq (codes "required") k ≡ false → IsNoCase p.condition k
     → IsNotTaken p k → (n : Name) → bytes_eq k (head p n) ≡ bytes_eq k n
@@ -177,9 +174,8 @@ head_of_if p e n = over (is_taken_over p n) refl
     beside false = sym (or-false (bytes_eq (codes "if") n))
 
     by : (a b : Bool) → bytes_eq (codes "required") n ≡ b → bytes_eq (codes "if") (cond (a && b) (codes "properties") (cond (is_case n) (codes "if") n)) ≡ (bytes_eq (codes "if") n || is_case n)
-    by false b q = beside (is_case n)
-    by true false q = beside (is_case n)
     by true true q = ap (λ x. bytes_eq (codes "if") x || is_case x) (same_name (codes "required") n q)
+    by _ _ q = beside (is_case n)
 
     taken : (n ≡ codes "properties") ⊎ (n ≡ codes "patternProperties") ⊎ (n ≡ codes "required") → false ≡ (bytes_eq (codes "if") n || is_case n)
     taken (inl q) = ap (λ x. bytes_eq (codes "if") x || is_case x) (sym q)
@@ -260,15 +256,13 @@ module _ (ms : Members) (distinct : has_repeat (names_of (listed ms)) ≡ false)
       there_itself = lookup_among x.0 x.1 (listed ms) there
 
       past : (c : Bool) → c ≡ is_condition ms → (k : Bool) → is_among (cond (c && k) (codes "if") x.0) (names_of (listed ms)) ≡ true
-      past false f k = there_itself
-      past true f false = there_itself
       past true f true = let i = condition_there ms (sym f) in lookup_among (codes "if") i.0 (listed ms) i.1
+      past _ f _ = there_itself
 
       by : (o : Option (Name × Name)) → o ≡ fused_pair ms → (b c : Bool) → c ≡ is_condition ms → (k : Bool)
           → is_among (cond (is_some o && b) (codes "properties") (cond (c && k) (codes "if") x.0)) (names_of (listed ms)) ≡ true
-      by None f b c g k = past c g k
       by (Some t) f true c g k = lookup_among (codes "properties") (fuses ms distinct t f).value (listed ms) (fuses ms distinct t f).declared
-      by (Some t) f false c g k = past c g k
+      by _ f _ c g k = past c g k
 
       not_taken : is_among (cond (is_some p.fused_pair && bytes_eq (codes "required") x.0) (codes "properties") (cond (p.condition && is_case x.0) (codes "if") x.0)) (names_of (listed ms)) ≡ true
       not_taken = by p.fused_pair (ap (λ q. q.fused_pair) e) (bytes_eq (codes "required") x.0) (p.condition) (ap (λ q. q.condition) e) (is_case x.0)
@@ -281,11 +275,8 @@ module _ (ms : Members) (distinct : has_repeat (names_of (listed ms)) ≡ false)
           (cond (is_some p.fused_pair && bytes_eq (codes "required") x.0) (codes "properties") (cond (p.condition && is_case x.0) (codes "if") x.0))) (names_of (listed ms)) ≡ true
       over true f o g true b = at_restriction (sym f)
       over true f (Some n) g false true = at_restriction (sym f)
-      over true f (Some n) g false false = not_taken
-      over true f None g false b = not_taken
       over false f (Some n) g a true = at_restriction (fused_is_restricted ms n (sym g))
-      over false f (Some n) g a false = not_taken
-      over false f None g a b = not_taken
+      over _ f _ g _ _ = not_taken
 
   pub heads_there : (p : Planned) → p ≡ plan_of ms → Each (λ x. is_among (head p x.0) (names_of (listed ms)) ≡ true) (listed ms)
   heads_there p e = along (listed ms) (Each-found (listed ms) (Distinct-from (listed ms) distinct))

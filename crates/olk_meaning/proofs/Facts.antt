@@ -274,9 +274,5 @@ module _ (W : World) (ms : Members) where
 
   module _ (P : Path) where
     pub properties_kind : (d : Data) → is_object d ≡ false → member_malformations W ms (codes "properties", d) properties P ≡ fault (SingleType object_type) d [] (P // codes "properties") ∷ []
-    properties_kind null e = refl
-    properties_kind (boolean b) e = refl
-    properties_kind (number n) e = refl
-    properties_kind (string s) e = refl
-    properties_kind (array ds) e = refl
     properties_kind (object fs) e = absurd (true≢false e)
+    properties_kind _ e = refl

@@ -15,20 +15,12 @@ use Rattle.olk_meaning.specs.Fused.{declares_few, two_names, one_name}
 -- ---- how many
 
 object_at : (d : Data) (ms : Members) → as_object d ≡ Some ms → d ≡ object ms
-object_at null ms e = absurd (true≢false (sym (ap is_some e)))
-object_at (boolean b) ms e = absurd (true≢false (sym (ap is_some e)))
-object_at (number n) ms e = absurd (true≢false (sym (ap is_some e)))
-object_at (string s) ms e = absurd (true≢false (sym (ap is_some e)))
-object_at (array ds) ms e = absurd (true≢false (sym (ap is_some e)))
 object_at (object fs) ms e = ap (λ o. object (unwrap_or o ms)) e
+object_at _ ms e = absurd (true≢false (sym (ap is_some e)))
 
 array_at : (d : Data) (ds : Items) → as_array d ≡ Some ds → d ≡ array ds
-array_at null ds e = absurd (true≢false (sym (ap is_some e)))
-array_at (boolean b) ds e = absurd (true≢false (sym (ap is_some e)))
-array_at (number n) ds e = absurd (true≢false (sym (ap is_some e)))
-array_at (string s) ds e = absurd (true≢false (sym (ap is_some e)))
 array_at (array is) ds e = ap (λ o. array (unwrap_or o ds)) e
-array_at (object fs) ds e = absurd (true≢false (sym (ap is_some e)))
+array_at _ ds e = absurd (true≢false (sym (ap is_some e)))
 
 module _ (o : Option (Bor Value)) (v : Bor Value) (is : o ≡ Some v) where
   pub few_declared : (es : List (String Global × Value)) (n : ℕ) → Some (members_view es) ≡ as_object (view v.now) → n ≡ length es
@@ -42,24 +34,12 @@ module _ (o : Option (Bor Value)) (v : Bor Value) (is : o ≡ Some v) where
     where
       one_item : (d : Data) → two_names (Some (array (item d no_items))) ≡ None
       one_item null = refl
-      one_item (boolean b) = refl
-      one_item (number n) = refl
-      one_item (string s) = refl
-      one_item (array ds) = refl
-      one_item (object ms) = refl
+      one_item _ = refl
 
       many_items : (c d e : Data) (ds : Items) → two_names (Some (array (item c (item d (item e ds))))) ≡ None
       many_items null d e ds = refl
-      many_items (boolean b) d e ds = refl
-      many_items (number n) d e ds = refl
       many_items (string s) null e ds = refl
-      many_items (string s) (boolean b) e ds = refl
-      many_items (string s) (number n) e ds = refl
-      many_items (string s) (string t) e ds = refl
-      many_items (string s) (array es) e ds = refl
-      many_items (string s) (object ms) e ds = refl
-      many_items (array es) d e ds = refl
-      many_items (object ms) d e ds = refl
+      many_items _ _ e ds = refl
 
       by : (ws : List Value) → (length ws ≡ 2 → ⊥) → two_names (Some (array (items_view ws))) ≡ None
       by [] h = refl
@@ -72,11 +52,7 @@ module _ (o : Option (Bor Value)) (v : Bor Value) (is : o ≡ Some v) where
     where
       two_items : (c d : Data) (ds : Items) → one_name (Some (array (item c (item d ds)))) ≡ None
       two_items null d ds = refl
-      two_items (boolean b) d ds = refl
-      two_items (number n) d ds = refl
-      two_items (string s) d ds = refl
-      two_items (array es) d ds = refl
-      two_items (object ms) d ds = refl
+      two_items _ d ds = refl
 
       by : (ws : List Value) → (length ws ≡ 1 → ⊥) → one_name (Some (array (items_view ws))) ≡ None
       by [] h = refl

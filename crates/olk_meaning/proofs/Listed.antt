@@ -102,13 +102,11 @@ present_each es done m rest e = ap (λ l. is_some (lookup_name m.0 l)) (sym e) �
   where
     found : (o : Ordering) (d : Data) (x : Option Data) → is_eq o ≡ true → is_some (first_if_equal o d x) ≡ true
     found Equal d x q = refl
-    found Less d x q = absurd (true≢false (sym q))
-    found Greater d x q = absurd (true≢false (sym q))
+    found _ d x q = absurd (true≢false (sym q))
 
     past : (o : Ordering) (d : Data) (x : Option Data) → is_some x ≡ true → is_some (first_if_equal o d x) ≡ true
     past Equal d x q = refl
-    past Less d x q = q
-    past Greater d x q = q
+    past _ d x q = q
 
     along : (done : List (Name × Data)) → is_some (lookup_name m.0 (done ++ m ∷ rest)) ≡ true
     along [] = found (slice_cmp nat_cmp m.0 m.0) m.1 (lookup_name m.0 rest) (is_eq-slice_cmp m.0 m.0 ∙ bytes_eq-itself m.0)

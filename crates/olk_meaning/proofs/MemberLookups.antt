@@ -11,9 +11,8 @@ use Rattle.olk_spec.specs.Names.{Name, lookup_name, first_if_equal}
 use Rattle.olk_spec.specs.Schemas.{listed, has}
 
 found_or : (o : Ordering) (v : Value) (rest : Option Value) (d : Option Data) → option_map view rest ≡ d → option_map view (cond (is_eq o) (Some v) rest) ≡ first_if_equal o (view v) d
-found_or Less v rest d e = e
 found_or Equal v rest d e = refl
-found_or Greater v rest d e = e
+found_or _ v rest d e = e
 
 -- the first entry at a name is the member at it
 pub view_lookup : (name : Name) (es : List (String Global × Value)) → option_map view

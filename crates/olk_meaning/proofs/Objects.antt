@@ -64,12 +64,9 @@ module _ (W : World) (ms : Members) where
 -- ---- what is no schema, and the two truth values
 
 abbrev pub IsNoSchema : Data → Type 0
-IsNoSchema null = ⊤
 IsNoSchema (boolean b) = ⊥
-IsNoSchema (number n) = ⊤
-IsNoSchema (string s) = ⊤
-IsNoSchema (array ds) = ⊤
 IsNoSchema (object ms) = ⊥
+IsNoSchema _ = ⊤
 
 abbrev pub is_no_schema : Data → Bool
 is_no_schema (boolean b) = false
@@ -77,27 +74,18 @@ is_no_schema (object ms) = false
 is_no_schema _ = true
 
 pub no_schema_is : (d : Data) → is_no_schema d ≡ true → IsNoSchema d
-no_schema_is null e = tt
 no_schema_is (boolean b) e = absurd (let n : false ≡ true = e in cc)
-no_schema_is (number n) e = tt
-no_schema_is (string s) e = tt
-no_schema_is (array ds) e = tt
 no_schema_is (object ms) e = absurd (let n : false ≡ true = e in cc)
+no_schema_is _ e = tt
 
 pub no_schema_malformed : (W : World) (d : Data) (P : Path) → IsNoSchema d → malformations_at W d P ≡ fault MultipleTypes d [] P ∷ []
 unfolding malformations_at
-no_schema_malformed W null P h = refl
 no_schema_malformed W (boolean b) P h = absurd h
-no_schema_malformed W (number n) P h = refl
-no_schema_malformed W (string s) P h = refl
-no_schema_malformed W (array ds) P h = refl
 no_schema_malformed W (object ms) P h = absurd h
+no_schema_malformed W _ P h = refl
 
 pub no_schema_cost : (W : World) (d : Data) → IsNoSchema d → cost W d ≡ one_place
 unfolding cost
-no_schema_cost W null h = refl
 no_schema_cost W (boolean b) h = absurd h
-no_schema_cost W (number n) h = refl
-no_schema_cost W (string s) h = refl
-no_schema_cost W (array ds) h = refl
 no_schema_cost W (object ms) h = absurd h
+no_schema_cost W _ h = refl

@@ -31,11 +31,7 @@ module _ {X : Type 0} (step : Schema X → X) (ms : Members) where
       by None = refl
       by (Some null) = refl
       by (Some (boolean true)) = refl
-      by (Some (boolean false)) = refl
-      by (Some (number n)) = refl
-      by (Some (string s)) = refl
-      by (Some (array ds)) = refl
-      by (Some (object fs)) = refl
+      by _ = refl
 
   listed_read : names_at (read_members step ms) (codes "required") ≡ flat_map texts (option_to_list (lookup_name (codes "required") (listed ms)))
   listed_read = names_at_read step ms (codes "required") ∙ ap (λ o. flat_map texts (option_to_list o)) (sym (lookup_listed (codes "required") ms))
@@ -73,10 +69,8 @@ module _ {X : Type 0} (step : Schema X → X) (ms : Members) where
       by : (p c : Bool) (t r : Option Data) → ListsTexts L r → (p && c && not (is_some t) && nat_eq (length (flat_map texts (option_to_list r))) 1) ≡ is_some
           (cond (p && is_none t && c) (one_name r) None)
       by true true None r k = one r k
-      by true true (Some t) r k = refl
       by true false None r k = refl
-      by true false (Some t) r k = refl
-      by false c t r k = refl
+      by _ _ _ r k = refl
 
 -- so in an object in which nothing is malformed
 pub clean_one_fused : (W : World) (ms : Members) (P : Path) → flat_map (λ m. member_malformations W ms m (keyword_named W m.0) P) (listed ms) ≡ []

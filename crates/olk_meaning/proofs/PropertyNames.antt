@@ -38,20 +38,12 @@ module _ (v : Data) (Q : Path) where
 -- ---- what it means
 
 pub object_is_not_false : (d : Data) → is_object d ≡ true → is_truth false d ≡ false
-object_is_not_false null e = refl
 object_is_not_false (boolean b) e = absurd (true≢false (sym e))
-object_is_not_false (number n) e = refl
-object_is_not_false (string s) e = refl
-object_is_not_false (array ds) e = refl
-object_is_not_false (object fs) e = refl
+object_is_not_false _ e = refl
 
 pub false_is_no_object : (d : Data) → is_truth false d ≡ true → is_object d ≡ false
-false_is_no_object null e = refl
-false_is_no_object (boolean b) e = refl
-false_is_no_object (number n) e = refl
-false_is_no_object (string s) e = refl
-false_is_no_object (array ds) e = refl
 false_is_no_object (object fs) e = absurd (true≢false (sym e))
+false_is_no_object _ e = refl
 
 module _ (W : World) (ms : Members) (d : Data) (u : Bool) (v : Data) where
   -- beside the schema itself: whether it is one for names, and whether it is false

@@ -37,10 +37,8 @@ module _ (p : Planned) (restricted : p.restricted ≡ true) (unfused : is_some p
     where
       by : (a b c : Bool) → bytes_eq (codes "additionalProperties") (cond ((true && (a || (b || false))) || c) (codes "additionalProperties") (not_taken n)) ≡
           (bytes_eq (codes "additionalProperties") n || (a || (b || c)))
-      by true b c = or_true (bytes_eq (codes "additionalProperties") n)
-      by false true c = or_true (bytes_eq (codes "additionalProperties") n)
-      by false false true = or_true (bytes_eq (codes "additionalProperties") n)
       by false false false = not_taken_alone (codes "additionalProperties") n refl refl ∙ sym (or-false (bytes_eq (codes "additionalProperties") n))
+      by _ _ _ = or_true (bytes_eq (codes "additionalProperties") n)
 
   -- what is taken over is the head of nothing
   taken_heads_none : (k : Name) → is_taken_over p k ≡ true → bytes_eq k (codes "additionalProperties") ≡ false → bytes_eq k (codes "if") ≡ false

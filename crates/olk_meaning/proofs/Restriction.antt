@@ -39,11 +39,8 @@ use Rattle.olk_meaning.proofs.RestrictedClaims.{claims_restriction}
 -- the rest and three others in the order in which they are wanted
 in_order : (r a b c : Bool) → (r && (a && (b && c))) ≡ ((a && (b && r)) && c)
 in_order true true true c = refl
-in_order true true false c = refl
-in_order true false b c = refl
 in_order false true true c = refl
-in_order false true false c = refl
-in_order false false b c = refl
+in_order _ _ _ c = refl
 
 found_in_order : (r o a b c : List Fault) → (r ++ o) ++ (a ++ (b ++ c)) ∼ ((a ++ (b ++ r)) ++ o) ++ c
 found_in_order r o a b c =

@@ -21,11 +21,8 @@ module _ (p : Planned) where
       by true f true b c i j k h = inl (same_name n (codes "properties") i)
       by true f false true c i j k h = inr (inl (same_name n (codes "patternProperties") j))
       by true true false false true i j k h = inr (inr (sym (same_name (codes "required") n k)))
-      by true true false false false i j k h = absurd (true≢false (sym h))
-      by true false false false c i j k h = absurd (true≢false (sym h))
       by false true a b true i j k h = inr (inr (sym (same_name (codes "required") n k)))
-      by false true a b false i j k h = absurd (true≢false (sym h))
-      by false false a b c i j k h = absurd (true≢false (sym h))
+      by _ _ _ _ _ i j k h = absurd (true≢false (sym h))
 
   -- where anything is taken over, the keyword is another, and not `additionalProperties`
   abbrev pub IsNotTaken : Name → Type 0
@@ -76,14 +73,9 @@ no_truth : {X : Type 0} (e : false ≡ true) → X
 no_truth e = absurd (true≢false (sym e))
 
 allowed_unrestricted : (o : Option Data) → allows_others o ≡ true → is_restriction o ≡ false
-allowed_unrestricted None e = refl
-allowed_unrestricted (Some null) e = refl
-allowed_unrestricted (Some (boolean true)) e = refl
 allowed_unrestricted (Some (boolean false)) e = no_truth e
-allowed_unrestricted (Some (number n)) e = refl
-allowed_unrestricted (Some (string s)) e = refl
-allowed_unrestricted (Some (array ds)) e = refl
 allowed_unrestricted (Some (object fs)) e = no_truth e
+allowed_unrestricted _ e = refl
 
 refused_closed : (o : Option Data) → refuses_others o ≡ true → o ≡ Some (boolean false)
 refused_closed (Some (boolean false)) e = refl
@@ -98,9 +90,7 @@ fusing_is_free ms e =
   where
     by : (a b c : Bool) (o : Option (Name × Name)) → is_some (cond (a && b && c) o None) ≡ true → c ≡ true
     by true true true o h = refl
-    by true true false o h = no_truth h
-    by true false c o h = no_truth h
-    by false b c o h = no_truth h
+    by _ _ _ o h = no_truth h
 
 pub restricted_fuses_none : (ms : Members) → is_restricted ms ≡ true → is_some (fused_pair ms) ≡ false
 restricted_fuses_none ms e = by (is_some (fused_pair ms)) refl
@@ -136,8 +126,7 @@ fuses_one_name ms n e = by _ _ _ (one_name (lookup_name (codes "required") (list
       listed_at = listed_name (lookup_name (codes "required") (listed ms)) n (s ∙ h);
     }
     by true true false o p q r s h = absurd (true≢false (sym (ap is_some h)))
-    by true false c o p q r s h = absurd (true≢false (sym (ap is_some h)))
-    by false b c o p q r s h = absurd (true≢false (sym (ap is_some h)))
+    by _ _ c o p q r s h = absurd (true≢false (sym (ap is_some h)))
 
 -- it is fused where other members are restricted
 pub fused_is_restricted : (ms : Members) (n : Name) → fused_one ms ≡ Some n → is_restricted ms ≡ true

@@ -21,35 +21,37 @@ module _ {T Y : Type 0} (show : T → Y) (gives : Name × Data → Y) (wrong : N
     pub shown : map show done ++ map gives (listed (members_view left)) ≡ map gives (listed (members_view all))
     pub right : flat_map wrong (listed (members_view left)) ≡ flat_map wrong (listed (members_view all))
 
-  pub none_so_far : (done : List T) (left all : List (String Global × Value)) → done ≡ [] → left ≡ all → EntriesSoFar done left all
-  none_so_far done left all d e = record {
+module _ {T Y : Type 0} {show : T → Y} {gives : Name × Data → Y} {wrong : Name × Data → List Fault} {all : List (String Global × Value)} where
+  pub none_so_far : {done : List T} {left : List (String Global × Value)} → done ≡ [] → left ≡ all → EntriesSoFar show gives wrong done left all
+  none_so_far d e = record {
     shown = λ i. map show (d i) ++ map gives (listed (members_view (e i)));
     right = ap (λ es. flat_map wrong (listed (members_view es))) e;
   }
 
-  module _ (n : String Global) (v : Value) (left rest all : List (String Global × Value)) (steps : left ≡ (n, v) ∷ rest) where
-    pub one_more_entry : (done new : List T) (x : T) → new ≡ done ++ x ∷ [] → show x ≡ gives (string_bytes n, view v) → wrong (string_bytes n, view v) ≡ []
-        → EntriesSoFar done left all → EntriesSoFar new rest all
-    one_more_entry done new x e g w h = record {
-      shown = ap (λ ts. map show ts ++ map gives (listed (members_view rest))) e
-          ∙ ap (λ ys. ys ++ map gives (listed (members_view rest))) (map-append show done (x ∷ []))
-          ∙ append_assoc (map show done) (show x ∷ []) (map gives (listed (members_view rest)))
-          ∙ ap (λ y. map show done ++ y ∷ map gives (listed (members_view rest))) g
-          ∙ ap (λ es. map show done ++ map gives (listed (members_view es))) (sym steps)
-          ∙ h.shown;
-      right = ap (λ fs. fs ++ flat_map wrong (listed (members_view rest))) (sym w) ∙ ap (λ es. flat_map wrong (listed (members_view es))) (sym steps) ∙ h.right;
-    }
+  module _ {done : List T} {left : List (String Global × Value)} (h : EntriesSoFar show gives wrong done left all) where
+    module _ {n : String Global} {v : Value} {rest : List (String Global × Value)} (steps : left ≡ (n, v) ∷ rest) where
+      pub one_more_entry : {new : List T} {x : T} → new ≡ done ++ x ∷ [] → show x ≡ gives (string_bytes n, view v) → wrong (string_bytes n, view v) ≡ []
+          → EntriesSoFar show gives wrong new rest all
+      one_more_entry {x = x} e g w = record {
+        shown = ap (λ ts. map show ts ++ map gives (listed (members_view rest))) e
+            ∙ ap (λ ys. ys ++ map gives (listed (members_view rest))) (map-append show done (x ∷ []))
+            ∙ append_assoc (map show done) (show x ∷ []) (map gives (listed (members_view rest)))
+            ∙ ap (λ y. map show done ++ y ∷ map gives (listed (members_view rest))) g
+            ∙ ap (λ es. map show done ++ map gives (listed (members_view es))) (sym steps)
+            ∙ h.shown;
+        right = ap (λ fs. fs ++ flat_map wrong (listed (members_view rest))) (sym w) ∙ ap (λ es. flat_map wrong (listed (members_view es))) (sym steps) ∙ h.right;
+      }
 
-    pub entry_refused : (done : List T) (e : BuildError) → EntriesSoFar done left all → TellsOneOf (wrong (string_bytes n, view v)) e → TellsOneOf (flat_map wrong (listed (members_view all))) e
-    entry_refused done e h t =
-        tells_same (ap (λ es. flat_map wrong (listed (members_view es))) (sym steps) ∙ h.right) e (tells_left (wrong (string_bytes n, view v)) (flat_map wrong (listed (members_view rest))) e t)
+      pub entry_refused : (e : BuildError) → TellsOneOf (wrong (string_bytes n, view v)) e → TellsOneOf (flat_map wrong (listed (members_view all))) e
+      entry_refused e t =
+          tells_same (ap (λ es. flat_map wrong (listed (members_view es))) (sym steps) ∙ h.right) e (tells_left (wrong (string_bytes n, view v)) (flat_map wrong (listed (members_view rest))) e t)
 
-  module _ (done : List T) (left all : List (String Global × Value)) (h : EntriesSoFar done left all) (ends : left ≡ []) where
-    pub entries_shown : map show done ≡ map gives (listed (members_view all))
-    entries_shown = sym (append-nil (map show done)) ∙ ap (λ es. map show done ++ map gives (listed (members_view es))) (sym ends) ∙ h.shown
+    module _ (ends : left ≡ []) where
+      pub entries_shown : map show done ≡ map gives (listed (members_view all))
+      entries_shown = sym (append-nil (map show done)) ∙ ap (λ es. map show done ++ map gives (listed (members_view es))) (sym ends) ∙ h.shown
 
-    pub entries_right : flat_map wrong (listed (members_view all)) ≡ []
-    entries_right = sym h.right ∙ ap (λ es. flat_map wrong (listed (members_view es))) ends
+      pub entries_right : flat_map wrong (listed (members_view all)) ≡ []
+      entries_right = sym h.right ∙ ap (λ es. flat_map wrong (listed (members_view es))) ends
 
 pub each_as_it_is : {X : Type 0} (xs : List X) → map (λ x. x) xs ≡ xs
 each_as_it_is [] = refl

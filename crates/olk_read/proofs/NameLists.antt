@@ -8,7 +8,7 @@ use Rattle.std.specs.BTreeSet.{BTreeSet, contains_by, IsEmpty, Updates}
 use Rattle.std.proofs.Common.{Bor, refl, sym, ◌∙◌, ap, subst, true≢false}
 use Rattle.std.proofs.lemmas.List.{at_drop_more}
 use Rattle.std.proofs.lemmas.Map.Text.{is_eq-slice_cmp}
-use Rattle.serde_json.specs.Data.{Data, null, boolean, number, string, array, object, Items, item}
+use Rattle.serde_json.specs.Data.{Data, string, array, Items, item}
 use Rattle.serde_json.specs.Find.{as_str}
 use Rattle.serde_json.specs.View.{view, items_view}
 use Rattle.serde_json.specs.declared.value.Value.{Value}
@@ -65,8 +65,7 @@ module _ (seen : BTreeSet (Bor (List ℕ))) (n : Name) (v : Value) (vs : List Va
       apart : (a b c d : Bool) → ((a || b) || (c || d)) ≡ ((a || c) || (b || d))
       apart true b c d = refl
       apart false true true d = refl
-      apart false true false d = refl
-      apart false false c d = refl
+      apart false _ _ d = refl
 
       seen_more : (ms : List Name) → list_any (is_seen more) ms ≡ (is_among n ms || list_any (is_seen seen) ms)
       seen_more [] = refl
@@ -114,11 +113,7 @@ module _ (key : Name) (P : Path) where
 
 array_where_right : (key : Name) (d : Data) (P : Path) → name_list_refusals key d P ≡ [] → is_array d ≡ true
 array_where_right key (array ds) P e = refl
-array_where_right key null P e = absurd (true≢false (sym (ap is_empty e)))
-array_where_right key (boolean b) P e = absurd (true≢false (sym (ap is_empty e)))
-array_where_right key (number n) P e = absurd (true≢false (sym (ap is_empty e)))
-array_where_right key (string s) P e = absurd (true≢false (sym (ap is_empty e)))
-array_where_right key (object ms) P e = absurd (true≢false (sym (ap is_empty e)))
+array_where_right key _ P e = absurd (true≢false (sym (ap is_empty e)))
 
 both_empty : (xs ys : List Fault) → xs ++ ys ≡ [] → (xs ≡ []) × (ys ≡ [])
 both_empty [] ys e = (refl, e)

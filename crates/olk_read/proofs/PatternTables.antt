@@ -31,8 +31,6 @@ use Rattle.olk_read.proofs.Spending.{spends_append, within_before, within_after,
 module _ {K R : Type 0} (o : Kit K R) where
   pub open_cost : (ps : List (CompiledPattern R)) (es : List (Name × Data)) → ArePatterns o ps es → how_many_cost o.costs ps ≡ length (filter_once (is_open o.world) (map (λ e. e.0) es))
   open_cost [] [] h = refl
-  open_cost [] (e ∷ es) h = absurd h
-  open_cost (p ∷ ps) [] h = absurd h
   open_cost (p ∷ ps) (e ∷ es) h =
       sum_by-cons (λ q. cond (pattern_costs o.costs q) 1 0) p ps
       ∙ (λ i. cond (h.0.costs i) 1 0 + open_cost ps es h.1 i)
@@ -41,6 +39,7 @@ module _ {K R : Type 0} (o : Kit K R) where
       by : (b : Bool) → cond b 1 0 + length (filter_once (is_open o.world) (map (λ x. x.0) es)) ≡ length (put_if b e.0 (filter_once (is_open o.world) (map (λ x. x.0) es)))
       by true = omega arith
       by false = omega arith
+  open_cost _ _ h = absurd h
 
 spends_asks : (n m : ℕ) (a b : Counts) → n ≡ m → b ≡ count_asks n a → Spends a b (record no_cost { table_asks = m })
 spends_asks n m a b e h = h ∙ ap (λ x. count_asks x a) e
@@ -77,6 +76,6 @@ module _ {K R : Type 0} (o : Kit K R) (c : Known) (d : Data) (L : Path) (is_map 
       spends = spends_append a m b (matchers_made o.world d) (names_asked o.world c.declared d) made (spends_asks _ _ m b times asked);
     }
 
-    pub table_without_memory : (e : BuildError) (w : AllocError) → e ≡ Memory w → AsksAtMost (length c.declared * how_many_cost o.costs ps) m b
+    pub table_without_memory : AsksAtMost (length c.declared * how_many_cost o.costs ps) m b → {w : AllocError} (e : BuildError) → e ≡ Memory w
         → RefusesKeyword o c (codes "patternProperties") d L a b e
-    table_without_memory e w q asked = refuses_memory _ _ a b e w q (within_after a m b (matchers_made o.world d) (names_asked o.world c.declared d) made (within_asks _ _ m b times asked))
+    table_without_memory asked e q = refuses_memory (within_after a m b (matchers_made o.world d) (names_asked o.world c.declared d) made (within_asks _ _ m b times asked)) e q

@@ -32,8 +32,7 @@ module _ (W : World) (t : Text) where
     where
       by : (l : Option Literal) (b : Bool) → option_map_or (λ x. true) l b ≡ false → put_if (is_none l && not b) (refusal Regex (string t) (L // t)) [] ≡ refusal Regex (string t) (L // t) ∷ []
       by None false e = refl
-      by None true e = absurd (true≢false e)
-      by (Some l) b e = absurd (true≢false e)
+      by _ _ e = absurd (true≢false e)
 
   spends_made : (a b : Counts) → b ≡ count_made a → Spends a b (record no_cost { pattern_places = 1 })
   spends_made a b e = e ∙ rw (raised_zero a.compiled, raised_zero a.leaves, raised_zero a.asked, raised_zero a.unfinished) refl
@@ -46,8 +45,8 @@ module _ (W : World) (t : Text) where
       by (Some l) q = subst (λ x. Spends a x no_cost) (sym q) (spends_nothing a)
 
   pub spends_open_at_most : (a b : Counts) → (b ≡ a) ⊎ (b ≡ count_open t a) → SpendsWithin a b (matcher_made W t)
-  spends_open_at_most a b (inl e) = subst (λ x. SpendsWithin a x (matcher_made W t)) (sym e) (within_nothing a (matcher_made W t))
-  spends_open_at_most a b (inr e) = within_exactly a b (matcher_made W t) (spends_open a b e)
+  spends_open_at_most a b (inl e) = subst (λ x. SpendsWithin a x (matcher_made W t)) (sym e) within_nothing
+  spends_open_at_most a b (inr e) = within_exactly (spends_open a b e)
 
 -- ---- one after another
 
@@ -61,30 +60,32 @@ module _ {K R : Type 0} (o : Kit K R) (L : Path) where
   abbrev stand : List (CompiledPattern R) → List (Name × Data) → Type 0
   stand ps es = ArePatterns o ps es
 
-  abbrev pub PatternsSoFar : List (Name × Data) → Counts → List (CompiledPattern R) → List (Name × Data) → Counts → Type 0
-  PatternsSoFar all a ps left m = SoFar (λ e. pattern_faults o.world L e.0) (λ e. matcher_made o.world e.0) (λ qs es. ArePatterns o qs es) all a ps left m
+  pub record PatternsSoFar (all : List (Name × Data)) (a : Counts) (ps : List (CompiledPattern R)) (left : List (Name × Data)) (m : Counts) : Type 0 where
+    pub so_far : SoFar wrong costs stand all a ps left m
 
   push : (ps : List (CompiledPattern R)) (es : List (Name × Data)) (p : CompiledPattern R) (e : Name × Data) → ArePatterns o ps es → IsPattern o p e.0 → ArePatterns o (ps ++ p ∷ []) (es ++ e ∷ [])
   push [] [] p e h s = (s, tt)
-  push [] (x ∷ es) p e h s = absurd h
-  push (q ∷ ps) [] p e h s = absurd h
   push (q ∷ ps) (x ∷ es) p e h s = (h.0, push ps es p e h.1 s)
+  push _ _ p e h s = absurd h
 
-  module _ (all : List (Name × Data)) (a : Counts) where
-    pub no_patterns : (ps : List (CompiledPattern R)) (left : List (Name × Data)) → ps ≡ [] → left ≡ all → PatternsSoFar all a ps left a
-    no_patterns ps left e w = none_so_far wrong costs stand all a ps left (subst (λ x. stand x []) (sym e) tt) w
+module _ {K R : Type 0} {o : Kit K R} {L : Path} {all : List (Name × Data)} {a : Counts} {ps : List (CompiledPattern R)} {left : List (Name × Data)} where
+  pub no_patterns : ps ≡ [] → left ≡ all → PatternsSoFar o L all a ps left a
+  no_patterns e w = record { so_far = none_so_far _ _ (stand o L) all a ps left (subst (λ x. stand o L x []) (sym e) tt) w }
 
-    pub patterns_read : (ps : List (CompiledPattern R)) (left : List (Name × Data)) (m : Counts) → left ≡ [] → PatternsSoFar all a ps left m → PatternsAreRead o ps all L a m
-    patterns_read ps left m e h = let r = all_so_far wrong costs stand all a ps left m e h in record { stand = r.stand; clean = r.clean; spends = r.spends }
+  module _ {m : Counts} (h : PatternsSoFar o L all a ps left m) where
+    pub patterns_read : left ≡ [] → PatternsAreRead o ps all L a m
+    patterns_read e = let r = all_so_far _ _ (stand o L) all a ps left m e h.so_far in record { stand = r.stand; clean = r.clean; spends = r.spends }
 
-    module _ (x : Name × Data) (left rest : List (Name × Data)) (next : left ≡ x ∷ rest) (ps : List (CompiledPattern R)) (m b : Counts) (h : PatternsSoFar all a ps left m) where
-      pub pattern_refused : (e : BuildError) → Refuses (pattern_faults o.world L x.0) (matcher_made o.world x.0) m b e → RefusesPatterns o all L a b e
-      pattern_refused e r = refused_so_far wrong costs stand all a x left rest next ps m b e h r
+    module _ {x : Name × Data} {rest : List (Name × Data)} (next : left ≡ x ∷ rest) {b : Counts} where
+      pub pattern_refused : {f : BuildError} → Refuses (pattern_faults o.world L x.0) (matcher_made o.world x.0) m b f → (e : BuildError) → e ≡ f → RefusesPatterns o all L a b e
+      pattern_refused r e q = refused_so_far _ _ (stand o L) all a x left rest next ps m b e h.so_far (subst (Refuses (wrong o L x) (costs o L x) m b) (sym q) r)
 
       module _ (right : pattern_faults o.world L x.0 ≡ []) (spent : Spends m b (matcher_made o.world x.0)) where
-        pub one_more_pattern : (p : CompiledPattern R) (new : List (CompiledPattern R)) → IsPattern o p x.0 → new ≡ ps ++ p ∷ [] → PatternsSoFar all a new rest b
-        one_more_pattern p new s q =
-            one_more_so_far wrong costs stand all a x left rest next ps new m b h (subst (λ y. stand y (h.done ++ x ∷ [])) (sym q) (push ps h.done p x h.built.stand s)) right spent
+        pub one_more_pattern : {p : CompiledPattern R} {new : List (CompiledPattern R)} → IsPattern o p x.0 → new ≡ ps ++ p ∷ [] → PatternsSoFar o L all a new rest b
+        one_more_pattern {p} {new} s q = record {
+          so_far = one_more_so_far _ _ (stand o L) all a x left rest next ps new m b h.so_far
+              (subst (λ y. stand o L y (h.so_far.done ++ x ∷ [])) (sym q) (push o L ps h.so_far.done p x h.so_far.built.stand s)) right spent;
+        }
 
-        pub pattern_memory : (e : BuildError) (w : AllocError) → e ≡ Memory w → RefusesPatterns o all L a b e
-        pattern_memory e w q = memory_past wrong costs stand all a x left rest next ps m b e w q h spent
+        pub pattern_memory : {w : AllocError} (e : BuildError) → e ≡ Memory w → RefusesPatterns o all L a b e
+        pattern_memory e q = memory_past _ _ (stand o L) all a x left rest next ps m b e q h.so_far spent

@@ -122,48 +122,48 @@ array_is_right d L e = ap (λ b. unless_kind b (SingleType array_type) d L) e
 -- ---- what is told
 
 -- a keyword's own faults, where its name is known
-pub refuses_own : (W : World) (k n : Name) (d : Data) (L : Path) (fs : List Fault) (c : Cost) (a : Counts) (e : BuildError) → k ≡ n → own_faults W n d L ≡ fs
-    → TellsOneOf fs e → Refuses (own_faults W k d L) c a a e
-refuses_own W k n d L fs c a e p q t = record { tells = tells_same (sym q ∙ ap (λ x. own_faults W x d L) (sym p)) e t; spends = within_nothing a c }
-
-pub refuses_without_memory : (fs : List Fault) (c : Cost) (a : Counts) (e : BuildError) (m : AllocError) → e ≡ Memory m → Refuses fs c a a e
-refuses_without_memory fs c a e m p = refuses_memory fs c a a e m p (within_nothing a c)
+pub refuses_own : (W : World) (d : Data) (L : Path) (F : World → Data → Path → List Fault) {k n : Name} {c : Cost} {a : Counts} {e : BuildError} → k ≡ n
+    → ((V : World) (x : Data) (P : Path) → own_faults V n x P ≡ F V x P) → TellsOneOf (F W d L) e → Refuses (own_faults W k d L) c a a e
+refuses_own W d L F {e = e} p q t = record { tells = tells_same (sym (q W d L) ∙ ap (λ x. own_faults W x d L) (sym p)) e t; spends = within_nothing }
 
 module _ (W : World) (k : Name) (d : Data) (q : keyword_named W k ≡ leaf) (a b : Counts) (count : b ≡ count_leaf a) (n : Known) where
   leaf_spent : Spends a b (own_cost_of W n d (keyword_named W k))
   leaf_spent = subst (λ w. Spends a b (own_cost_of W n d w)) (sym q) (spends_leaf a b count)
 
   pub refuses_leaf : (L : Path) (e : BuildError) → W.fits k d ≡ false → TellsOneOf (fault (LeafRefused k) d [] L ∷ []) e → Refuses (own_faults W k d L) (own_cost_of W n d (keyword_named W k)) a b e
-  refuses_leaf L e fits t = record { tells = tells_same (ap (λ f. unless_kind f (LeafRefused k) d L) (sym fits) ∙ sym (own_leaf W d L k q)) e t; spends = within_exactly a b _ leaf_spent }
+  refuses_leaf L e fits t = record { tells = tells_same (ap (λ f. unless_kind f (LeafRefused k) d L) (sym fits) ∙ sym (own_leaf W d L k q)) e t; spends = within_exactly leaf_spent }
 
-  pub refuses_leaf_memory : (fs : List Fault) (e : BuildError) (m : AllocError) → e ≡ Memory m → Refuses fs (own_cost_of W n d (keyword_named W k)) a b e
-  refuses_leaf_memory fs e m p = refuses_memory fs _ a b e m p (within_exactly a b _ leaf_spent)
+  pub refuses_leaf_memory : (fs : List Fault) {m : AllocError} (e : BuildError) → e ≡ Memory m → Refuses fs (own_cost_of W n d (keyword_named W k)) a b e
+  refuses_leaf_memory fs e p = refuses_memory (within_exactly leaf_spent) e p
 
 pub refuses_name : (W : World) (k : Name) (d : Data) (L : Path) (c : Cost) (a : Counts) (e : BuildError) → IsOther k → is_among k unsupported_names ≡ true
     → TellsOneOf (fault (Unsupported k) d [] L ∷ []) e → Refuses (own_faults W k d L) c a a e
-refuses_name W k d L c a e other among t = record { tells = tells_same (sym (own_unsupported W d L k (refused_keyword W k other among))) e t; spends = within_nothing a c }
+refuses_name W k d L c a e other among t = record { tells = tells_same (sym (own_unsupported W d L k (refused_keyword W k other among))) e t; spends = within_nothing }
 
 -- ---- what is read
 
 module _ {K R : Type 0} (o : Kit K R) where
   -- a keyword without own costs, by its name
-  pub is_read : (x : Shape K R) (c : Known) (k n : Name) (d : Data) (L : Path) (a : Counts) → k ≡ n → IsShape o n d x → Fits o c x → own_faults o.world n d L ≡ []
+  pub is_read : {x : Shape K R} {c : Known} {k n : Name} {d : Data} {L : Path} {a : Counts} → k ≡ n → IsShape o n d x → Fits o c x → own_faults o.world n d L ≡ []
       → own_cost_of o.world c d (keyword_named o.world n) ≡ no_cost → IsRead o x c k d L a a
-  is_read x c k n d L a p s f clean z = subst (λ i. IsRead o x c i d L a a) (sym p) (record { shape = s; fits = f; clean = clean; spends = subst (Spends a a) (sym z) (spends_nothing a) })
+  is_read {x} {c} {d = d} {L} {a} p s f clean z = subst (λ i. IsRead o x c i d L a a) (sym p) (record { shape = s; fits = f; clean = clean; spends = subst (Spends a a) (sym z) (spends_nothing a) })
+
+  pub read_as : {x y : Shape K R} {c : Known} {k : Name} {d : Data} {L : Path} {a b : Counts} → x ≡ y → IsRead o y c k d L a b → IsRead o x c k d L a b
+  read_as {c = c} {k} {d} {L} {a} {b} e h = subst (λ s. IsRead o s c k d L a b) (sym e) h
 
   -- one of the three that are read together
-  pub conditional_is_read : (x : Shape K R) (c : Known) (k n : Name) (d : Data) (L : Path) (a : Counts) → k ≡ n → IsShape o n d x → (c.condition ≡ true → Fits o c x)
+  pub conditional_is_read : (x : Shape K R) (c : Known) {k n : Name} {d : Data} {L : Path} {a : Counts} → k ≡ n → IsShape o n d x → (c.condition ≡ true → Fits o c x)
       → is_conditional_name n ≡ true → own_faults o.world n d L ≡ [] → own_cost_of o.world c d (keyword_named o.world n) ≡ no_cost → IsRead o (cond c.condition x shape.Unpaired) c k d L a a
-  conditional_is_read x c k n d L a p s f e clean z = by c.condition refl
+  conditional_is_read x c {k} {d = d} {L} {a} p s f e clean z = by c.condition refl
     where
       by : (b : Bool) → c.condition ≡ b → IsRead o (cond b x shape.Unpaired) c k d L a a
-      by true q = is_read x c k n d L a p s (f q) clean z
-      by false q = is_read shape.Unpaired c k n d L a p e q clean z
+      by true q = is_read p s (f q) clean z
+      by false q = is_read p e q clean z
 
   -- a rule for other members
-  pub others_are_read : (c : Known) (k : Name) (d : Data) (L : Path) (a : Counts) → k ≡ codes "additionalProperties" → is_rule d ≡ true
+  pub others_are_read : {c : Known} {k : Name} (d : Data) {L : Path} {a : Counts} → k ≡ codes "additionalProperties" → is_rule d ≡ true
       → IsRead o (cond (is_object d) shape.AdditionalProperties (cond (is_truth false d) shape.NoOthers shape.AnyOthers)) c k d L a a
-  others_are_read c k d L a p rule = by (is_object d) (is_truth false d) refl refl
+  others_are_read {c} {k} d {L} {a} p rule = by (is_object d) (is_truth false d) refl refl
     where
       right : own_faults o.world (codes "additionalProperties") d L ≡ []
       right = own_additional_properties o.world d L ∙ ap (λ b. unless_kind b MultipleTypes d L) rule
@@ -172,19 +172,19 @@ module _ {K R : Type 0} (o : Kit K R) where
       true_left e f = sym (or-false (is_truth true d)) ∙ (λ i. sym e i || is_truth true d || sym f i) ∙ rule
 
       by : (x y : Bool) → is_object d ≡ x → is_truth false d ≡ y → IsRead o (cond x shape.AdditionalProperties (cond y shape.NoOthers shape.AnyOthers)) c k d L a a
-      by true y e f = is_read shape.AdditionalProperties c k (codes "additionalProperties") d L a p (refl, e) tt right refl
-      by false true e f = is_read shape.NoOthers c k (codes "additionalProperties") d L a p (refl, f) tt right refl
-      by false false e f = is_read shape.AnyOthers c k (codes "additionalProperties") d L a p (refl, true_left e f) tt right refl
+      by true y e f = is_read p (refl, e) tt right refl
+      by false true e f = is_read p (refl, f) tt right refl
+      by false false e f = is_read p (refl, true_left e f) tt right refl
 
   -- a schema for names
-  pub names_are_read : (c : Known) (k : Name) (d : Data) (L : Path) (a : Counts) → k ≡ codes "propertyNames"
+  pub names_are_read : {c : Known} {k : Name} (d : Data) {L : Path} {a : Counts} → k ≡ codes "propertyNames"
       → IsRead o (cond (is_object d) shape.PropertyNames (cond (is_truth false d) shape.NoNames shape.AnyNames)) c k d L a a
-  names_are_read c k d L a p = by (is_object d) (is_truth false d) refl refl
+  names_are_read {c} {k} d {L} {a} p = by (is_object d) (is_truth false d) refl refl
     where
       by : (x y : Bool) → is_object d ≡ x → is_truth false d ≡ y → IsRead o (cond x shape.PropertyNames (cond y shape.NoNames shape.AnyNames)) c k d L a a
-      by true y e f = is_read shape.PropertyNames c k (codes "propertyNames") d L a p (refl, e) tt (own_property_names o.world d L) refl
-      by false true e f = is_read shape.NoNames c k (codes "propertyNames") d L a p (refl, f) tt (own_property_names o.world d L) refl
-      by false false e f = is_read shape.AnyNames c k (codes "propertyNames") d L a p (refl, e, f) tt (own_property_names o.world d L) refl
+      by true y e f = is_read p (refl, e) tt (own_property_names o.world d L) refl
+      by false true e f = is_read p (refl, f) tt (own_property_names o.world d L) refl
+      by false false e f = is_read p (refl, e, f) tt (own_property_names o.world d L) refl
 
 module _ (W : World) (d : Data) (L : Path) (object : is_object d ≡ true) where
   pub right_dependent_required : name_list_faults L (members d) ≡ [] → own_faults W (codes "dependentRequired") d L ≡ []

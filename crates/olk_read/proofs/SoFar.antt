@@ -34,8 +34,8 @@ module _ {X N : Type 0} (wrong : X → List Fault) (costs : X → Cost) (Stand :
   pub all_so_far : (ns : List N) (left : List X) (m : Counts) → left ≡ [] → SoFar ns left m → Stands ns all m
   all_so_far ns left m e h = subst (λ xs. Stands ns xs m) (sym (append-nil h.done) ∙ ap (λ l. h.done ++ l) (sym e) ∙ h.whole) h.built
 
-  pub memory_so_far : (ns : List N) (left : List X) (m : Counts) (e : BuildError) (w : AllocError) → e ≡ Memory w → SoFar ns left m → Refuses (flat_map wrong all) (total_cost costs all) a m e
-  memory_so_far ns left m e w q h = memory_among wrong costs all a m h.done left e w q h.whole h.built.spends
+  pub memory_so_far : (ns : List N) (left : List X) (m : Counts) {w : AllocError} (e : BuildError) → e ≡ Memory w → SoFar ns left m → Refuses (flat_map wrong all) (total_cost costs all) a m e
+  memory_so_far ns left m e q h = memory_among wrong costs all a m h.done left e q h.whole h.built.spends
 
   -- the next of them
   module _ (x : X) (left rest : List X) (next : left ≡ x ∷ rest) where
@@ -62,5 +62,5 @@ module _ {X N : Type 0} (wrong : X → List Fault) (costs : X → Cost) (Stand :
     }
 
     -- it is built, and then memory is wanted
-    pub memory_past : (ns : List N) (m b : Counts) (e : BuildError) (w : AllocError) → e ≡ Memory w → SoFar ns left m → Spends m b (costs x) → Refuses (flat_map wrong all) (total_cost costs all) a b e
-    memory_past ns m b e w q h s = memory_among wrong costs all a b (h.done ++ x ∷ []) rest e w q (behind h.done h.whole) (spent ns m b h s)
+    pub memory_past : (ns : List N) (m b : Counts) {w : AllocError} (e : BuildError) → e ≡ Memory w → SoFar ns left m → Spends m b (costs x) → Refuses (flat_map wrong all) (total_cost costs all) a b e
+    memory_past ns m b e q h s = memory_among wrong costs all a b (h.done ++ x ∷ []) rest e q (behind h.done h.whole) (spent ns m b h s)

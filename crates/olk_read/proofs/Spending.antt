@@ -52,14 +52,14 @@ within_after a b d x y h k = record { spent = x ⊕ k.spent; exactly = spends_ap
 pub within_before : (a b : Counts) (x y : Cost) → SpendsWithin a b x → SpendsWithin a b (x ⊕ y)
 within_before a b x y h = record { spent = h.spent; exactly = h.exactly; within = at_most_through h.spent x (x ⊕ y) h.within (at_most x y) }
 
-pub within_exactly : (a b : Counts) (x : Cost) → Spends a b x → SpendsWithin a b x
-within_exactly a b x h = record { spent = x; exactly = h; within = record { places = omega arith; leaf_places = omega arith; pattern_places = omega arith; table_asks = omega arith } }
+pub within_exactly : {a b : Counts} {x : Cost} → Spends a b x → SpendsWithin a b x
+within_exactly {x} h = record { spent = x; exactly = h; within = record { places = omega arith; leaf_places = omega arith; pattern_places = omega arith; table_asks = omega arith } }
 
-pub within_same : (a b : Counts) (x y : Cost) → x ≡ y → SpendsWithin a b x → SpendsWithin a b y
-within_same a b x y e h = subst (SpendsWithin a b) e h
+pub within_same : {a b : Counts} {x y : Cost} → x ≡ y → SpendsWithin a b x → SpendsWithin a b y
+within_same {a} {b} e h = subst (SpendsWithin a b) e h
 
-pub within_nothing : (a : Counts) (x : Cost) → SpendsWithin a a x
-within_nothing a x = within_same a a (no_cost ⊕ x) x (sum_first x) (within_before a a no_cost x (within_exactly a a no_cost (spends_nothing a)))
+pub within_nothing : {a : Counts} {x : Cost} → SpendsWithin a a x
+within_nothing {a} {x} = within_same (sum_first x) (within_before a a no_cost x (within_exactly (spends_nothing a)))
 
 -- ---- what is told
 
@@ -77,13 +77,13 @@ tells_right fs gs e t = tells gs (fs ++ gs) (λ f h. Contains-append_right fs gs
 pub tells_same : {fs gs : List Fault} → fs ≡ gs → (e : BuildError) → TellsOneOf fs e → TellsOneOf gs e
 tells_same p e t = subst (λ l. TellsOneOf l e) p t
 
-pub tells_memory : (fs : List Fault) (e : BuildError) (m : AllocError) → e ≡ Memory m → TellsOneOf fs e
-tells_memory fs e m p = subst (TellsOneOf fs) (sym p) tt
+pub tells_memory : (fs : List Fault) {m : AllocError} (e : BuildError) → e ≡ Memory m → TellsOneOf fs e
+tells_memory fs e p = subst (TellsOneOf fs) (sym p) tt
 
 -- ---- nothing is built
 
-pub refuses_memory : (fs : List Fault) (x : Cost) (a b : Counts) (e : BuildError) (m : AllocError) → e ≡ Memory m → SpendsWithin a b x → Refuses fs x a b e
-refuses_memory fs x a b e m p h = record { tells = tells_memory fs e m p; spends = h }
+pub refuses_memory : {fs : List Fault} {x : Cost} {a b : Counts} → SpendsWithin a b x → {m : AllocError} (e : BuildError) → e ≡ Memory m → Refuses fs x a b e
+refuses_memory {fs} h e p = record { tells = tells_memory fs e p; spends = h }
 
 -- what holds of the error holds of the result that leaves by a `?`
 pub exit : {T : Type 0} (G : BuildError → Type 0) (r : Result T BuildError) (Q : BuildError → Type 0) → IsErrAnd r Q → ((e : BuildError) → Q e → G e) → IfErr r G
@@ -95,11 +95,11 @@ module _ {X : Type 0} (f : X → List Fault) (c : X → Cost) (all : List X) (a 
       → Refuses (f x) (c x) m b e → Refuses (flat_map f all) (total_cost c all) a b e
   refuses_among done x rest m e p h r = record {
     tells = tells_same (sym (flat_map-append f done (x ∷ rest)) ∙ ap (flat_map f) p) e (tells_right (flat_map f done) (flat_map f (x ∷ rest)) e (tells_left (f x) (flat_map f rest) e r.tells));
-    spends = within_same a b (total_cost c done ⊕ total_cost c (x ∷ rest)) (total_cost c all) (sym (total_cost-append c done (x ∷ rest)) ∙ ap (total_cost c) p)
+    spends = within_same (sym (total_cost-append c done (x ∷ rest)) ∙ ap (total_cost c) p)
         (within_after a m b (total_cost c done) (total_cost c (x ∷ rest)) h (within_before m b (c x) (total_cost c rest) r.spends));
   }
 
-  pub memory_among : (done rest : List X) (e : BuildError) (m : AllocError) → e ≡ Memory m → done ++ rest ≡ all → Spends a b (total_cost c done) → Refuses (flat_map f all) (total_cost c all) a b e
-  memory_among done rest e m q p h = refuses_memory (flat_map f all) (total_cost c all) a b e m q
-      (within_same a b (total_cost c done ⊕ total_cost c rest) (total_cost c all) (sym (total_cost-append c done rest) ∙ ap (total_cost c) p)
-      (within_before a b (total_cost c done) (total_cost c rest) (within_exactly a b (total_cost c done) h)))
+  pub memory_among : (done rest : List X) {m : AllocError} (e : BuildError) → e ≡ Memory m → done ++ rest ≡ all → Spends a b (total_cost c done) → Refuses (flat_map f all) (total_cost c all) a b e
+  memory_among done rest e q p h = refuses_memory
+      (within_same (sym (total_cost-append c done rest) ∙ ap (total_cost c) p)
+      (within_before a b (total_cost c done) (total_cost c rest) (within_exactly h))) e q

@@ -18,15 +18,13 @@ use Rattle.olk_spec.proofs.Maps.{items_list-view}
 -- each item is a text, and these are they
 abbrev pub AllTexts : List Data → List Name → Type 0
 AllTexts [] [] = ⊤
-AllTexts [] (n ∷ ns) = ⊥
-AllTexts (d ∷ ds) [] = ⊥
 AllTexts (d ∷ ds) (n ∷ ns) = (d ≡ string n) × AllTexts ds ns
+AllTexts _ _ = ⊥
 
 texts_push : (ds : List Data) (ns : List Name) (d : Data) (n : Name) → AllTexts ds ns → d ≡ string n → AllTexts (ds ++ d ∷ []) (ns ++ n ∷ [])
 texts_push [] [] d n h e = (e, tt)
-texts_push [] (m ∷ ns) d n h e = absurd h
-texts_push (c ∷ ds) [] d n h e = absurd h
 texts_push (c ∷ ds) (m ∷ ns) d n h e = (h.0, texts_push ds ns d n h.1 e)
+texts_push _ _ d n h e = absurd h
 
 pub text_at : (d : Data) (s : Name) → as_str d ≡ Some s → d ≡ string s
 text_at (string t) s e = ap (λ o. string (unwrap_or o s)) e
@@ -38,15 +36,13 @@ no_text_at d e = refl
 
 skip_texts : (ds : List Data) (ns : List Name) (more : List Data) → AllTexts ds ns → filter_once (λ i. not (is_text i)) (ds ++ more) ≡ filter_once (λ i. not (is_text i)) more
 skip_texts [] [] more h = refl
-skip_texts [] (n ∷ ns) more h = absurd h
-skip_texts (d ∷ ds) [] more h = absurd h
 skip_texts (d ∷ ds) (n ∷ ns) more h = ap (λ e. put_if (not (is_text e)) d (filter_once (λ i. not (is_text i)) (ds ++ more))) h.0 ∙ skip_texts ds ns more h.1
+skip_texts _ _ more h = absurd h
 
 texts_are : (ds : Items) (ns : List Name) → AllTexts (items_list ds) ns → texts_in ds ≡ ns
 texts_are no_items [] h = refl
-texts_are no_items (n ∷ ns) h = absurd h
-texts_are (item d ds) [] h = absurd h
 texts_are (item d ds) (n ∷ ns) h = ap (λ e. texts_in (item e ds)) h.0 ∙ ap (λ l. n ∷ l) (texts_are ds ns h.1)
+texts_are _ _ h = absurd h
 
 cut_at : (xs : List Value) (i : ℕ) (x : Value) → i < length xs → x ≡ get_or xs i x → (more : List Data) × (map view xs ≡ map view (take i xs) ++ view x ∷ more)
 cut_at [] i x l e = absurd (omega arith)

@@ -154,17 +154,15 @@ mutual
 bodies_from : (bs ts : List (List ℕ)) → AllSpell bs ts → list_all (λ t. not (is_empty t)) ts ≡ true → AreBodies bs (map encode_utf8_all ts)
 unfolding AllSpell
 bodies_from [] [] s h = tt
-bodies_from [] (t ∷ ts) s h = absurd s
-bodies_from (b ∷ bs) [] s h = absurd s
 bodies_from (b ∷ bs) ([] ∷ ts) s h = absurd (let n : false ≡ true = h in cc)
 bodies_from (b ∷ bs) ((c ∷ t) ∷ ts) s h = (record { spelled = c ∷ t; spells = s.0; some = λ n. cc; text = refl }, bodies_from bs ts s.1 h)
+bodies_from _ _ s h = absurd s
 
 spell_length : (bs ts : List (List ℕ)) → AllSpell bs ts → length bs ≡ length ts
 unfolding AllSpell
 spell_length [] [] s = refl
-spell_length [] (t ∷ ts) s = absurd s
-spell_length (b ∷ bs) [] s = absurd s
 spell_length (b ∷ bs) (t ∷ ts) s = let e = spell_length bs ts s.1 in omega (arith, e)
+spell_length _ _ s = absurd s
 
 alternation_stands : (cs : List ℕ) (ts : List (List ℕ)) (y : List ℕ) (t : Literal) → Parts cs ts y → alternation (ts, y) ≡ Some t → IsPatternOf t (94 ∷ 40 ∷ cs)
 unfolding bars
@@ -237,13 +235,12 @@ unfolding AllSpell bars joined
 bodies_read b [] [] y s e l = absurd s
 bodies_read b (d ∷ bs) [] y s e l = absurd s
 bodies_read b [] (t ∷ []) y s e l = bodies_is (b ++ y) ∙ ap (λ r. joined r.0 r.1) (body_reads b t y s.0 e) ∙ l t
-bodies_read b [] (t ∷ u ∷ ts) y s e l = absurd s.1
-bodies_read b (d ∷ bs) (t ∷ []) y s e l = absurd s.1
 bodies_read b (d ∷ bs) (t ∷ u ∷ ts) y s e l =
     let tail = bars (d ∷ bs) ++ y in
     ap bodies_of (append_assoc b (124 ∷ bars (d ∷ bs)) y)
     ∙ bodies_is (b ++ 124 ∷ tail) ∙ ap (λ r. joined r.0 r.1) (body_reads b t (124 ∷ tail) s.0 refl)
     ∙ ap (λ r. (t ∷ r.0, r.1)) (bodies_read d bs (u ∷ ts) y s.1 e l)
+bodies_read b _ _ y s e l = absurd s.1
 
 is_empty_of : (x : List ℕ) → x ≢ [] → is_empty x ≡ false
 is_empty_of [] n = absurd (n refl)
@@ -277,8 +274,6 @@ record Read (bs ts : List (List ℕ)) : Type 0 where
 read_bodies : (bs ts : List (List ℕ)) → AreBodies bs ts → Read bs ts
 unfolding AllSpell
 read_bodies [] [] a = record { items = []; spell = tt; full = refl; texts = refl }
-read_bodies [] (t ∷ ts) a = absurd a
-read_bodies (b ∷ bs) [] a = absurd a
 read_bodies (b ∷ bs) (t ∷ ts) a =
     let rest = read_bodies bs ts a.1 in
     record {
@@ -287,6 +282,7 @@ read_bodies (b ∷ bs) (t ∷ ts) a =
       full = rw (is_empty_of a.0.spelled a.0.some) rest.full;
       texts = ap (λ x. x ∷ map encode_utf8_all rest.items) (sym a.0.text) ∙ ap (λ xs. t ∷ xs) rest.texts;
     }
+read_bodies _ _ a = absurd a
 
 -- what the pattern stands for is what `literal` gives
 pub stands-literal : (p : List ℕ) (t : Literal) → IsPatternOf t p → literal_in p ≡ Some t

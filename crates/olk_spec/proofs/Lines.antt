@@ -18,14 +18,12 @@ use Rattle.olk_spec.proofs.Order.{like_text}
 -- ---- sorting
 
 behind_by : (o : Ordering) (t s : Text) (ss more : List Text) → is_gt o ≡ true → put_before o t s ss more ≡ s ∷ more
-behind_by Less t s ss more h = absurd (true≢false (sym h))
-behind_by Equal t s ss more h = absurd (true≢false (sym h))
 behind_by Greater t s ss more h = refl
+behind_by _ t s ss more h = absurd (true≢false (sym h))
 
 front_by : (o : Ordering) (t s : Text) (ss more : List Text) → is_gt o ≡ false → put_before o t s ss more ≡ t ∷ s ∷ ss
-front_by Less t s ss more h = refl
-front_by Equal t s ss more h = refl
 front_by Greater t s ss more h = absurd (true≢false h)
+front_by _ t s ss more h = refl
 
 behind : (t s : Text) (ss : List Text) → is_gt (slice_cmp nat_cmp t s) ≡ true → insert_text t (s ∷ ss) ≡ s ∷ insert_text t ss
 behind t s ss h = behind_by (slice_cmp nat_cmp t s) t s ss (insert_text t ss) h
@@ -78,11 +76,10 @@ mutual
       λ i. like_text (fault k v Q P) (fault l v Q P) (like h) i ++ codes " @ " ++ path_text Q ++ codes ", " ++ path_text P ++ like_brackets h i
 
   like_brackets : {k l : Kind} → IsLikeKind k l → in_brackets k ≡ in_brackets l
-  like_brackets itself = refl
   like_brackets (like_any_of h) = ap (λ t. codes " [" ++ t ++ codes "]") (like_branches h)
   like_brackets (like_not_valid h) = ap (λ t. codes " [" ++ t ++ codes "]") (like_branches h)
   like_brackets (like_multiple h) = ap (λ t. codes " [" ++ t ++ codes "]") (like_branches h)
-  like_brackets (like_names h) = refl
+  like_brackets _ = refl
 
   like_branches : {c d : Context} → IsLikeContext c d → branch_texts c ≡ branch_texts d
   like_branches like_none = refl
@@ -105,10 +102,7 @@ mutual
 
   like_kind_name : {k l : Kind} → IsLikeKind k l → kind_name k ≡ kind_name l
   like_kind_name itself = refl
-  like_kind_name (like_any_of h) = refl
-  like_kind_name (like_not_valid h) = refl
-  like_kind_name (like_multiple h) = refl
-  like_kind_name (like_names h) = refl
+  like_kind_name _ = refl
 
   like_inside : {k l : Kind} → IsLikeKind k l → told_inside k ≡ told_inside l
   like_inside itself = refl

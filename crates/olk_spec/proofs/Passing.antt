@@ -19,12 +19,8 @@ filter_once-none [] = refl
 filter_once-none (x ∷ xs) = filter_once-none xs
 
 pub no_members : (v : Data) → is_object v ≡ false → members v ≡ []
-no_members null h = refl
-no_members (boolean b) h = refl
-no_members (number n) h = refl
-no_members (string s) h = refl
-no_members (array ds) h = refl
 no_members (object ms) h = absurd (true≢false h)
+no_members _ h = refl
 
 pub passes_properties : Passes (codes "properties")
 unfolding meaning

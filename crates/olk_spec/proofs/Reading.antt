@@ -16,14 +16,12 @@ use Rattle.olk_spec.specs.World.{World}
 use Rattle.olk_spec.specs.Meaning.{meaning, meaning_step}
 
 found_first : {X Y : Type 0} (f : X → Y) (o : Ordering) (x : X) (r : Option Y) (s : Option X) → r ≡ option_map f s → first_if_equal o (f x) r ≡ option_map f (match_ordering o s (Some x) s)
-found_first f Less x r s e = e
 found_first f Equal x r s e = refl
-found_first f Greater x r s e = e
+found_first f _ x r s e = e
 
 listed_first : {X : Type 0} (o : Ordering) (x : X) (r s : Option X) → r ≡ s → first_if_equal o x r ≡ match_ordering o s (Some x) s
-listed_first Less x r s e = e
 listed_first Equal x r s e = refl
-listed_first Greater x r s e = e
+listed_first _ x r s e = e
 
 -- the member that the code looks up
 pub lookup_listed : (n : Name) (ms : Members) → lookup_name n (listed ms) ≡ get_member n ms
@@ -46,11 +44,7 @@ module _ {X : Type 0} (step : Schema X → X) where
 
   pub whole_read : (d : Data) → (read step d).whole ≡ place d
   whole_read null = refl
-  whole_read (boolean b) = refl
-  whole_read (number n) = refl
-  whole_read (string s) = refl
-  whole_read (array ds) = refl
-  whole_read (object ms) = refl
+  whole_read _ = refl
 
   pub schema_of_read : (d : Data) → (read step d).whole.schema ≡ d
   schema_of_read d = ap (λ s. s.schema) (whole_read d)
@@ -64,36 +58,24 @@ module _ {X : Type 0} (step : Schema X → X) where
   whole_entries_read (member n d ms) = λ i. (n, whole_read d i) ∷ whole_entries_read ms i
 
   pub entries_read : (d : Data) → (read step d).entries ≡ map entry (members d)
-  entries_read null = refl
-  entries_read (boolean b) = refl
-  entries_read (number n) = refl
-  entries_read (string s) = refl
-  entries_read (array ds) = refl
   entries_read (object ms) = whole_entries_read ms
+  entries_read _ = refl
 
   inner_entries_read : (ms : Members) → inner_entries (read_members step ms) ≡ map inner_entry (listed ms)
   inner_entries_read no_members = refl
   inner_entries_read (member n d ms) = λ i. (n, entries_read d i) ∷ inner_entries_read ms i
 
   pub inner_read : (d : Data) → (read step d).inner ≡ map inner_entry (members d)
-  inner_read null = refl
-  inner_read (boolean b) = refl
-  inner_read (number n) = refl
-  inner_read (string s) = refl
-  inner_read (array ds) = refl
   inner_read (object ms) = inner_entries_read ms
+  inner_read _ = refl
 
   whole_items_read : (ds : Items) → whole_items (read_items step ds) ≡ map place (items_list ds)
   whole_items_read no_items = refl
   whole_items_read (item d ds) = λ i. whole_read d i ∷ whole_items_read ds i
 
   pub items_read : (d : Data) → (read step d).items ≡ map place (items_of_array d)
-  items_read null = refl
-  items_read (boolean b) = refl
-  items_read (number n) = refl
-  items_read (string s) = refl
   items_read (array ds) = whole_items_read ds
-  items_read (object ms) = refl
+  items_read _ = refl
 
   pub branches_read : (d : Data) → branches (read step d) ≡ numbered (map place (items_of_array d))
   branches_read d = ap numbered (items_read d)

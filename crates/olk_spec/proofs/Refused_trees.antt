@@ -34,17 +34,15 @@ mutual
 
   all_annotations : (ts us : Trees) → AreLikeTrees ts us → annotations_of us ≡ annotations_of ts
   all_annotations no_tree no_tree h = refl
-  all_annotations no_tree (and_tree u us) h = absurd h
-  all_annotations (and_tree t ts) no_tree h = absurd h
   all_annotations (and_tree t ts) (and_tree u us) (h, k) = λ i. same_annotations t u h i ++ all_annotations ts us k i
+  all_annotations _ _ h = absurd h
 
 -- ---- own errors: how many, and what is the same of those that are told
 
 as_many_told : (es es' : List Described) → AreTold es es' → counted es' ≡ counted es
 as_many_told [] [] h = refl
-as_many_told [] (e ∷ es') h = absurd h
-as_many_told (d ∷ es) [] h = absurd h
 as_many_told (d ∷ es) (e ∷ es') (k, t, h) = ap (λ r. ([], [], false) ∷ r) (as_many_told es es' h)
+as_many_told _ _ h = absurd h
 
 as_many : (es es' : List Described) → IsPermutation es es' → counted es ≡ counted es'
 as_many = along_permutation (λ xs ys. counted xs ≡ counted ys) (λ xs. refl) (λ x xs ys h. ap (λ r. ([], [], false) ∷ r) h) (λ x y xs. refl) (λ xs ys zs h k. h ∙ k)
@@ -58,9 +56,8 @@ mutual
 
   same_frames : (ts us : Trees) → AreLikeTrees ts us → frames us ≡ frames ts
   same_frames no_tree no_tree h = refl
-  same_frames no_tree (and_tree u us) h = absurd h
-  same_frames (and_tree t ts) no_tree h = absurd h
   same_frames (and_tree t ts) (and_tree u us) (h, k) = λ i. and_tree (same_frame t u h i) (same_frames ts us k i)
+  same_frames _ _ h = absurd h
 
 -- ---- errors with their paths: f is what is to be the same of an error and of the one that tells it, where ok holds of the first
 
@@ -74,9 +71,8 @@ module _ {B : Type 0} (f : Path × Path × Described → B) (ok : Described → 
 
   own_errors : (P Q : Path) (es es' : List Described) → AreTold es es' → all_ok (at P Q es) → map f (at P Q es') ≡ map f (at P Q es)
   own_errors P Q [] [] h o = refl
-  own_errors P Q [] (e ∷ es') h o = absurd h
-  own_errors P Q (d ∷ es) [] h o = absurd h
   own_errors P Q (d ∷ es) (e ∷ es') (k, t, h) o = λ i. same P Q d e (and_parts (ok d) _ o).0 k t i ∷ own_errors P Q es es' h (and_parts (ok d) _ o).1 i
+  own_errors P Q _ _ h o = absurd h
 
   -- those of a node, and those of its children
   joined : (es es' ts ts' : List (Path × Path × Described)) → IsPermutation (map f es') (map f es) → IsPermutation (map f ts') (map f ts) → IsPermutation (map f (es' ++ ts')) (map f (es ++ ts))
@@ -97,11 +93,10 @@ module _ {B : Type 0} (f : Path × Path × Described → B) (ok : Described → 
 
     all_errors : (ts us : Trees) → all_ok (errors_of ts) → AreLikeTrees ts us → IsPermutation (map f (errors_of us)) (map f (errors_of ts))
     all_errors no_tree no_tree o h = IsPermutation-refl _
-    all_errors no_tree (and_tree u us) o h = absurd h
-    all_errors (and_tree t ts) no_tree o h = absurd h
     all_errors (and_tree t ts) (and_tree u us) o (h, k) =
         let parts = and_parts (list_all (λ e. ok e.2) (errors t)) (list_all (λ e. ok e.2) (errors_of ts)) (sym (list_all-append (λ e. ok e.2) (errors t) (errors_of ts)) ∙ o) in
         joined (errors t) (errors u) (errors_of ts) (errors_of us) (same_errors t u parts.0 h) (all_errors ts us parts.1 k)
+    all_errors _ _ o h = absurd h
 
 any_passes : {X : Type 0} (xs : List X) → list_all (λ x. true) xs ≡ true
 any_passes [] = refl

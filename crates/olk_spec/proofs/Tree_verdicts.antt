@@ -67,24 +67,16 @@ none_missing ns v P Q = is_empty-map (λ n. fault (Required n) v Q P) (missing n
 -- ---- values
 
 pub Distinct-members : (d : Data) → DistinctNames d → Distinct (members d)
-Distinct-members null h = tt
-Distinct-members (boolean b) h = tt
-Distinct-members (number n) h = tt
-Distinct-members (string s) h = tt
-Distinct-members (array ds) h = tt
 Distinct-members (object ms) h = Distinct-from (listed ms) h.0
+Distinct-members _ h = tt
 
 Each-listed : (ms : Members) → DistinctInMembers ms → Each (λ m. DistinctNames m.1) (listed ms)
 Each-listed no_members h = tt
 Each-listed (member n d ms) h = (h.0, Each-listed ms h.1)
 
 pub DistinctNames-members : (d : Data) → DistinctNames d → Each (λ m. DistinctNames m.1) (members d)
-DistinctNames-members null h = tt
-DistinctNames-members (boolean b) h = tt
-DistinctNames-members (number n) h = tt
-DistinctNames-members (string s) h = tt
-DistinctNames-members (array ds) h = tt
 DistinctNames-members (object ms) h = Each-listed ms h.1
+DistinctNames-members _ h = tt
 
 -- ---- the keywords of one schema object
 
@@ -584,12 +576,9 @@ module _ (W : World) (u : Bool) where
   entries_distinct_in (member n d ms) h = (subst Distinct (sym (entries_read step d)) (Distinct-map (place step) (members d) (Distinct-members d h.0)), entries_distinct_in ms h.1)
 
   keep : (d : Data) → DistinctNames d → GoodSchema TreeAgrees (schema_read step d) → TreeAgrees d (step (schema_read step d))
-  keep null s h v P Q dv = refl
   keep (boolean b) s h v P Q dv = is_valid-erring P Q (fault_if (not b) FalseSchema v P Q) ∙ none_where (not b) FalseSchema v P Q ∙ not-not b
-  keep (number n) s h v P Q dv = refl
-  keep (string t) s h v P Q dv = refl
-  keep (array ds) s h v P Q dv = refl
   keep (object ms) s h v P Q dv = object_row W u (read_members step ms) h (keywords_distinct ms s) (entries_distinct_in ms s.1) v dv P Q
+  keep _ s h v P Q dv = refl
 
 pub verdict_of_trees : Verdict_of_trees
 unfolding meaning

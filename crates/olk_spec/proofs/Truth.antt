@@ -64,8 +64,7 @@ dependency_truth false false e t m y p q = refl
 
 pub missing_truth : (b e : Bool) → (not (b && not e) || e) ≡ (not b || e)
 missing_truth true true = refl
-missing_truth true false = refl
-missing_truth false e = refl
+missing_truth _ _ = refl
 
 pub unless_either : (a b c : Bool) → (not (not a && not b) || c) ≡ ((a || b) || c)
 unless_either true b c = refl
@@ -128,9 +127,8 @@ module _ {A : Type 0} (f : A → Bool) where
   all_true (x ∷ xs) h = and_from (f x) (list_all f xs) h.0 (all_true xs h.1)
 
   either_more : (a b c d : Bool) → (a || c) ≡ true → (c ≡ true → d ≡ true) → ((a || b) || d) ≡ true
-  either_more true b c d e h = refl
-  either_more false true c d e h = refl
   either_more false false c d e h = h e
+  either_more _ _ c d e h = refl
 
   pub any_of_either : (g : A → Bool) (xs : List A) → list_any f xs ≡ true → list_any (λ x. f x || g x) xs ≡ true
   any_of_either g [] e = e

@@ -54,8 +54,7 @@ none_if false k v P Q = refl
 
 not_both : (f e : Bool) → (not f || e) ≡ not (f && not e)
 not_both true true = refl
-not_both true false = refl
-not_both false e = refl
+not_both _ _ = refl
 
 not_not : (b : Bool) → b ≡ not (not b)
 not_not true = refl
@@ -116,10 +115,9 @@ module _ (W : World) (u : Bool) where
 
   keep : (S : Schema Meaning) → GoodSchema Agrees S → (v : Data) (P Q : Path) → (meaning_step W u S).accepts v ≡ is_empty ((meaning_step W u S).report v P Q)
   keep (truth true) h v P Q = refl
-  keep (truth false) h v P Q = refl
-  keep (no_schema d) h v P Q = refl
   keep (keywords S) h v P Q = all_empty (λ m. keyword_accepts W u S m.0 m.1 v (keyword_named W m.0)) (λ m. keyword_report W u S m.0 m.1 v P Q (keyword_named W m.0)) S
       (Each-implies (λ m. GoodPart Agrees m.1) (λ m. keyword_accepts W u S m.0 m.1 v (keyword_named W m.0) ≡ is_empty (keyword_report W u S m.0 m.1 v P Q (keyword_named W m.0))) (λ m g. keyword_row S m.0 m.1 g v P Q (keyword_named W m.0)) S h)
+  keep _ h v P Q = refl
 
 pub verdict_of_reports : Verdict_of_reports
 unfolding meaning

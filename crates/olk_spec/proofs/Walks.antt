@@ -90,17 +90,15 @@ module _ {X : Type 0} where
   found_later m ms n x e h = by (slice_cmp nat_cmp n m.0) (is_eq-slice_cmp n m.0)
     where
       by : (o : Ordering) → is_eq o ≡ bytes_eq n m.0 → first_if_equal o m.1 (lookup_name n ms) ≡ Some x
-      by Less q = h
-      by Greater q = h
       by Equal q = absurd (true≢false (q ∙ bytes_eq-sym n m.0 ∙ e))
+      by _ q = h
 
   found_here : (m : Name × X) (ms : List (Name × X)) → lookup_name m.0 (m ∷ ms) ≡ Some m.1
   found_here m ms = by (slice_cmp nat_cmp m.0 m.0) (is_eq-slice_cmp m.0 m.0 ∙ bytes_eq-itself m.0)
     where
       by : (o : Ordering) → is_eq o ≡ true → first_if_equal o m.1 (lookup_name m.0 ms) ≡ Some m.1
-      by Less q = absurd (true≢false (sym q))
-      by Greater q = absurd (true≢false (sym q))
       by Equal q = refl
+      by _ q = absurd (true≢false (sym q))
 
   all_later : (m : Name × X) (ms ks : List (Name × X)) → Each (λ k. bytes_eq m.0 k.0 ≡ false) ks → Each (λ k. lookup_name k.0 ms ≡ Some k.1) ks → Each (λ k. lookup_name k.0 (m ∷ ms) ≡ Some k.1) ks
   all_later m ms [] d h = tt
@@ -138,8 +136,7 @@ module _ {A B : Type 0} where
 pub and_middle : (a b c d : Bool) → ((a && b) && (c && d)) ≡ ((a && c) && (b && d))
 and_middle true true c d = refl
 and_middle true false true d = refl
-and_middle true false false d = refl
-and_middle false b c d = refl
+and_middle _ _ _ d = refl
 
 module _ {A : Type 0} where
   pub list_all-and : (f g : A → Bool) (xs : List A) → list_all (λ x. f x && g x) xs ≡ (list_all f xs && list_all g xs)
@@ -183,10 +180,9 @@ module _ {A B : Type 0} (f : A → B → Bool) where
   turned a b x y = by (bytes_eq a b) (bytes_eq b a) (bytes_eq-sym a b)
     where
       by : (p q : Bool) → p ≡ q → list_all (λ z. f x z) (cond p (y ∷ []) []) ≡ list_all (λ z. f z y) (cond q (x ∷ []) [])
-      by true true e = refl
       by true false e = absurd (true≢false e)
       by false true e = absurd (true≢false (sym e))
-      by false false e = refl
+      by _ _ e = refl
 
   pub list_all-other_side : (es : List (Name × A)) (ms : List (Name × B)) → Distinct es → Distinct ms →
       list_all (λ e. list_all (λ y. f e.1 y) (option_to_list (lookup_name e.0 ms))) es ≡ list_all (λ m. list_all (λ x. f x m.1) (option_to_list (lookup_name m.0 es))) ms

@@ -45,8 +45,7 @@ recalled (Some x) s = s
 recalled_is_said : {X : Type 0} (a : Option X) (s : Says) → known_or (recalled a s) s ≡ s
 recalled_is_said None s = refl
 recalled_is_said (Some x) matched = refl
-recalled_is_said (Some x) unmatched = refl
-recalled_is_said (Some x) unfinished = refl
+recalled_is_said (Some x) _ = refl
 
 module _ {K R N : Type 0} (o : Kit K R) (m : N → Data → Question) (r : N → Bool → Data → Path → List Fault) (t : N → Bool → Data → Path → Tree) (n : Name) where
   -- ---- what is declared at the name
@@ -55,20 +54,16 @@ module _ {K R N : Type 0} (o : Kit K R) (m : N → Data → Question) (r : N →
     -- a node with its place from k on, for the schema of these that stands there
     abbrev FoundFrom : ℕ → List (Name × Data) → Option (ℕ × N) → Option Data → Type 0
     FoundFrom k fs None None = ⊤
-    FoundFrom k fs None (Some s) = ⊥
-    FoundFrom k fs (Some f) None = ⊥
     FoundFrom k fs (Some f) (Some s) = AnswersAs o m r t f.1 s (L // n) × (i : ℕ) × (f.0 ≡ k + i) × (slice_get (map (λ e. e.0) fs) i ≡ Some n)
+    FoundFrom k fs _ _ = ⊥
 
     found_later : (k : ℕ) (e : Name × Data) (fs : List (Name × Data)) (a : Option (ℕ × N)) (b : Option Data) → FoundFrom (k + 1) fs a b → FoundFrom k (e ∷ fs) a b
     found_later k e fs None None g = tt
-    found_later k e fs None (Some s) g = absurd g
-    found_later k e fs (Some f) None g = absurd g
     found_later k e fs (Some f) (Some s) g = let p = g.2 in (g.0, suc g.1, omega (arith, p), g.3)
+    found_later k e fs _ _ g = absurd g
 
     found : (k : ℕ) (ns : List N) (fs : List (Name × Data)) → EntriesAnswer o m r t ns fs L → FoundFrom k fs (lookup_name n (zip (map (λ e. e.0) fs) (enumerate_from k ns))) (lookup_name n fs)
     found k [] [] h = tt
-    found k [] (e ∷ fs) h = absurd h
-    found k (x ∷ ns) [] h = absurd h
     found k (x ∷ ns) (e ∷ fs) h = by (slice_cmp nat_cmp n e.0) (is_eq-slice_cmp n e.0) (found_later k e fs _ _ (found (k + 1) ns fs h.1))
       where
         by : (c : Ordering) → is_eq c ≡ bytes_eq n e.0 → FoundFrom k (e ∷ fs) (lookup_name n (zip (map (λ e. e.0) fs) (enumerate_from (k + 1) ns))) (lookup_name n fs)
@@ -76,19 +71,18 @@ module _ {K R N : Type 0} (o : Kit K R) (m : N → Data → Question) (r : N →
         by Less q g = g
         by Greater q g = g
         by Equal q g = let same = same_name n e.0 (sym q) in (subst (λ k. AnswersAs o m r t x e.1 (L // k)) (sym same) h.0, 0, omega arith, ap Some (sym same))
+    found k _ _ h = absurd h
 
     found_answers : (fs : List (Name × Data)) (a : Option (ℕ × N)) (b : Option Data) → FoundFrom 0 fs a b → AnswerAs o m r t (option_to_list (option_map (λ f. f.1) a))
         (map (λ s. (s, L // n)) (option_to_list b))
     found_answers fs None None g = tt
-    found_answers fs None (Some s) g = absurd g
-    found_answers fs (Some f) None g = absurd g
     found_answers fs (Some f) (Some s) g = (g.0, tt)
+    found_answers fs _ _ g = absurd g
 
     found_both : (fs : List (Name × Data)) (a : Option (ℕ × N)) (b : Option Data) → FoundFrom 0 fs a b → is_some a ≡ is_some b
     found_both fs None None g = refl
-    found_both fs None (Some s) g = absurd g
-    found_both fs (Some f) None g = absurd g
     found_both fs (Some f) (Some s) g = refl
+    found_both fs _ _ g = absurd g
 
   -- ---- what the patterns match
 
@@ -107,8 +101,6 @@ module _ {K R N : Type 0} (o : Kit K R) (m : N → Data → Question) (r : N →
       matching_answer : (i : ℕ) (ps : List (CompiledPattern R × N)) (es : List (Name × Data)) → PatternsAnswer o m r t ps es L → Recalls i ps
           → AnswerAs o m r t (matching_from o.answers S a n u i ps) (map (λ e. (e.1, L // e.0)) (matching_at o.world u es n))
       matching_answer i [] [] h k = tt
-      matching_answer i [] (e ∷ es) h k = absurd h
-      matching_answer i (p ∷ ps) [] h k = absurd h
       matching_answer i (p ∷ ps) (e ∷ es) h k = by (is_matched_by o.answers S a n u i p.0) (matches o.world u e.0 n) same (matching_answer (i + 1) ps es h.2 (recalls_later i p ps k))
         where
           same : is_matched_by o.answers S a n u i p.0 ≡ matches o.world u e.0 n
@@ -120,6 +112,7 @@ module _ {K R N : Type 0} (o : Kit K R) (m : N → Data → Question) (r : N →
           by true false q g = absurd (true≢false q)
           by false true q g = absurd (true≢false (sym q))
           by false false q g = g
+      matching_answer i _ _ h k = absurd h
 
 -- ---- all that is asked of a member with this name
 

@@ -12,9 +12,8 @@ use Rattle.olk_tree.specs.Questions.{Question, every}
 use Rattle.olk_tree.proofs.Merge.{After, Rising, after_after, none_after, skips}
 
 pub zip_length : {N : Type 0} (ks : List Name) (xs : List N) → length (zip ks xs) ≤ length ks
-zip_length [] xs = omega arith
-zip_length (k ∷ ks) [] = omega arith
 zip_length (k ∷ ks) (x ∷ xs) = let h = zip_length ks xs in omega (arith, h)
+zip_length _ _ = omega arith
 
 -- a question of what is declared at a member's name, which refuses where nothing is
 module _ {N : Type 0} (f : Option N → Data → Question) (u : Bool) (closed : (x : Data) → (f None x).accepts u ≡ false) where

@@ -53,19 +53,11 @@ module _ {N : Type 0} (ms : Members) where
 
 text_is : (d : Data) (t : Name) → Some t ≡ as_str d → as_text d ≡ t ∷ []
 text_is null t e = cc
-text_is (boolean b) t e = cc
-text_is (number x) t e = cc
-text_is (string s) t e = cc
-text_is (array ds) t e = cc
-text_is (object ms) t e = cc
+text_is _ t e = cc
 
 no_text : (d : Data) → None ≡ as_str d → as_text d ≡ []
-no_text null e = refl
-no_text (boolean b) e = refl
-no_text (number x) e = refl
 no_text (string s) e = cc
-no_text (array ds) e = refl
-no_text (object ms) e = refl
+no_text _ e = refl
 
 module _ {N : Type 0} (m : SmallMap N) (d : Data) where
   pub at_text : (t : Name) → Some t ≡ as_str d → option_to_list (lookup_name t (named m)) ≡ chosen_at m d

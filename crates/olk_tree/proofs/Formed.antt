@@ -32,8 +32,7 @@ same_answer s t e = subst (λ x. is_same_answer s x ≡ true) e (itself s)
   where
     itself : (s : Says) → is_same_answer s s ≡ true
     itself matched = refl
-    itself unmatched = refl
-    itself unfinished = refl
+    itself _ = refl
 
 module _ {R : Type 0} (answers : R → Name → Says) (names : List Name) (patterns : List (CompiledPattern R)) (t : Table) (declared : t.names ≡ names) (h : IsTableOf answers patterns t) where
   answers_there : has_answers answers names patterns t ≡ true

@@ -60,9 +60,8 @@ bytes_at (e ∷ es) (suc k) = bytes_at es k
 -- ---- the first k bytes, as a number
 
 abbrev worth : ℕ → Name → ℕ
-worth zero n = 0
-worth (suc k) [] = 0
 worth (suc k) (b ∷ bs) = b * 256 ^ k + worth k bs
+worth _ _ = 0
 
 some_power : (k : ℕ) → 0 < 256 ^ k
 some_power zero = omega arith
@@ -77,8 +76,6 @@ worth_below (suc k) (b ∷ bs) h =
     grind (arith, pow-suc 256 k)
 
 worth_rises : (k : ℕ) (m n : Name) → Bytes m → Bytes n → slice_cmp nat_cmp m n ≡ Less → worth k m ≤ worth k n
-worth_rises zero m n g h e = omega arith
-worth_rises (suc k) [] n g h e = omega arith
 worth_rises (suc k) (a ∷ m) [] g h e = absurd (greater_less e)
   where
     greater_less : Greater ≡ Less → ⊥
@@ -97,6 +94,7 @@ worth_rises (suc k) (a ∷ m) (b ∷ n) g h e = by (worth_rises k m n g.1 h.1) (
         let rest = rises q in
         subst (λ c. a * 256 ^ k + worth k m ≤ c * 256 ^ k + worth k n) same (omega arith)
     by rises Greater p q = grind arith
+worth_rises _ _ n g h e = omega arith
 
 -- ---- the heads of names
 
@@ -246,8 +244,6 @@ module _ {N : Type 0} (es : List (Entry N)) (asc : Ascend (names_of es)) where
 
 worth_same : (k : ℕ) (m n : Name) → Bytes m → Bytes n → length m ≡ length n → length m ≤ k → worth k m ≡ worth k n → m ≡ n
 worth_same k [] [] g h long few e = refl
-worth_same k [] (b ∷ n) g h long few e = absurd (omega (arith, long))
-worth_same k (a ∷ m) [] g h long few e = absurd (omega (arith, long))
 worth_same zero (a ∷ m) (b ∷ n) g h long few e = absurd (omega (arith, few))
 worth_same (suc k) (a ∷ m) (b ∷ n) g h long few e = by (worth_same k m n g.1 h.1 (omega (arith, long)) (omega (arith, few))) (nat_lt a b) (nat_lt b a) refl refl
   where
@@ -267,6 +263,7 @@ worth_same (suc k) (a ∷ m) (b ∷ n) g h long few e = by (worth_same k m n g.1
         let other : worth k m ≡ worth k n = grind arith in
         let tail = rest other in
         λ i. same i ∷ tail i
+worth_same k _ _ g h long few e = absurd (omega (arith, long))
 
 -- a name of at most eight bytes stands where one of its length and its first bytes does
 pub short_stands : {N : Type 0} (es : List (Entry N)) (n : Name) (place : ℕ) → place < length (names_of es) → IsUtf8 n

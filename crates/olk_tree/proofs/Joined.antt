@@ -47,24 +47,21 @@ module _ {N : Type 0} where
   seen_joined (e ∷ es) = ap (λ l. (text_of e, e.node) ∷ l) (seen_joined es)
 
   seen_zip : (ks : List SortedName) (xs : List N) → map seen_as (zip ks xs) ≡ zip (map name_of ks) xs
-  seen_zip [] xs = refl
-  seen_zip (k ∷ ks) [] = refl
   seen_zip (k ∷ ks) (x ∷ xs) = ap (λ l. (name_of k, x) ∷ l) (seen_zip ks xs)
+  seen_zip _ _ = refl
 
   pub entries_joined : (es : List (Entry N)) (ks : List SortedName) (xs : List N) → joined es ≡ zip ks xs → entries_are es ≡ zip (map name_of ks) xs
   entries_joined es ks xs e = sym (seen_joined es) ∙ ap (map seen_as) e ∙ seen_zip ks xs
 
   key_kept : (ks : List Name) (xs : List N) (i : ℕ) → i < length (keys_in (zip ks xs)) → get_or (keys_in (zip ks xs)) i [] ≡ get_or ks i []
-  key_kept [] xs i lt = refl
   key_kept (k ∷ ks) [] i lt = absurd (omega arith)
-  key_kept (k ∷ ks) (x ∷ xs) zero lt = refl
   key_kept (k ∷ ks) (x ∷ xs) (suc i) lt = key_kept ks xs i (omega arith)
+  key_kept _ _ _ lt = refl
 
   no_longer : (ks : List Name) (xs : List N) (i : ℕ) → i < length (keys_in (zip ks xs)) → i < length ks
-  no_longer [] xs i lt = absurd (omega arith)
-  no_longer (k ∷ ks) [] i lt = absurd (omega arith)
   no_longer (k ∷ ks) (x ∷ xs) zero lt = omega arith
   no_longer (k ∷ ks) (x ∷ xs) (suc i) lt = let l = no_longer ks xs i (omega arith) in omega arith
+  no_longer _ _ i lt = absurd (omega arith)
 
   keys_ascend : (ks : List Name) (xs : List N) → Ascend ks → Ascend (keys_in (zip ks xs))
   keys_ascend ks xs asc i j lt l =

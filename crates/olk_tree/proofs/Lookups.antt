@@ -21,8 +21,7 @@ use Rattle.olk_tree.specs.declared.entries.Entry.{Entry}
 
 is_eq-turned : (o : Ordering) → is_eq (ordering_reverse o) ≡ is_eq o
 is_eq-turned Less = refl
-is_eq-turned Equal = refl
-is_eq-turned Greater = refl
+is_eq-turned _ = refl
 
 pub same_name : (k n : Name) → bytes_eq k n ≡ is_eq (slice_cmp nat_cmp n k)
 same_name k n = sym (is_eq-slice_cmp k n) ∙ ap is_eq (nat_list_cmp_total.antisymm k n) ∙ is_eq-turned (slice_cmp nat_cmp n k)
@@ -128,9 +127,8 @@ module _ {N : Type 0} (es : List (Entry N)) (n : Name) where
 -- what stands at a place
 module _ {N : Type 0} where
   node_gets : (es : List (Entry N)) (p : ℕ) → slice_get (nodes_of es) p ≡ option_map (λ e. e.node) (slice_get es p)
-  node_gets [] p = refl
-  node_gets (e ∷ es) zero = refl
   node_gets (e ∷ es) (suc p) = node_gets es p
+  node_gets _ _ = refl
 
   with_node : (o : Option (Bor (Entry N))) → option_map (λ e. e.now.node) o ≡ option_map (λ e. e.node) (option_copied o)
   with_node None = refl
@@ -148,6 +146,5 @@ module _ {N : Type 0} where
 
   pub nodes_of_zip : (ks : List Name) (xs : List N) → length ks ≡ length xs → nodes_in (zip ks xs) ≡ xs
   nodes_of_zip [] [] e = refl
-  nodes_of_zip [] (x ∷ xs) e = absurd (omega (arith, e))
-  nodes_of_zip (k ∷ ks) [] e = absurd (omega (arith, e))
   nodes_of_zip (k ∷ ks) (x ∷ xs) e = ap (λ l. x ∷ l) (nodes_of_zip ks xs (omega (arith, e)))
+  nodes_of_zip _ _ e = absurd (omega (arith, e))

@@ -57,14 +57,12 @@ first_of-map p q h e (y ∷ ys) = λ i. or_else (e y i) (first_of-map p q h e ys
 
 module _ {X Y : Type 0} (h : Y → X) where
   found_at : (o : Ordering) (y : Y) (r : Option X) (s : Option Y) → r ≡ option_map h s → first_if_equal o (h y) r ≡ option_map h (first_if_equal o y s)
-  found_at Less y r s e = e
   found_at Equal y r s e = refl
-  found_at Greater y r s e = e
+  found_at _ y r s e = e
 
   pub lookup_name-zip : (n : Name) (ks : List Name) (ys : List Y) → lookup_name n (zip ks (map h ys)) ≡ option_map h (lookup_name n (zip ks ys))
-  lookup_name-zip n [] ys = refl
-  lookup_name-zip n (k ∷ ks) [] = refl
   lookup_name-zip n (k ∷ ks) (y ∷ ys) = found_at (slice_cmp nat_cmp n k) y _ _ (lookup_name-zip n ks ys)
+  lookup_name-zip n _ _ = refl
 
   -- a name, and what stands for what stands at it
   abbrev pub with_name : Name × Y → Name × X

@@ -16,19 +16,11 @@ use Rattle.olk_tree.proofs.Faults.{none_of, first_of-nothing, first_of-flat_map,
 
 pub object_is : (v : Data) (ms : Members) → Some ms ≡ as_object v → object ms ≡ v
 object_is null ms e = cc
-object_is (boolean b) ms e = cc
-object_is (number x) ms e = cc
-object_is (string s) ms e = cc
-object_is (array ds) ms e = cc
-object_is (object ns) ms e = cc
+object_is _ ms e = cc
 
 pub no_members : (v : Data) → None ≡ as_object v → members v ≡ []
-no_members null e = refl
-no_members (boolean b) e = refl
-no_members (number x) e = refl
-no_members (string s) e = refl
-no_members (array ds) e = refl
 no_members (object ms) e = cc
+no_members _ e = refl
 
 module _ {N : Type 0} (ms : Members) where
   abbrev met_at : Name × N → Option Data → List (Declared N)

@@ -28,11 +28,9 @@ below_each k (e ∷ es) h (suc j) l = below_each k es h.1 j (omega arith)
 
 pub ascending : (es : List (String Global × Value)) → IsStrictlySortedBy string_cmp (keys_of es) → Ascend (names_in es)
 unfolding IsStrictlySortedBy
-ascending [] h i j l g = absurd (omega arith)
-ascending (e ∷ es) h zero zero l g = absurd (omega arith)
 ascending (e ∷ es) h zero (suc j) l g = below_each e.0 es h.0 j (omega arith)
-ascending (e ∷ es) h (suc i) zero l g = absurd (omega arith)
 ascending (e ∷ es) h (suc i) (suc j) l g = ascending es h.1 i j (omega arith) (omega arith)
+ascending _ h _ _ l g = absurd (omega arith)
 
 -- the names so far, and those that are left, are all
 pub record NamesSoFar (names : List SortedName) (left all : List (String Global × Value)) : Type 0 where

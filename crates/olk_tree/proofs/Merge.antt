@@ -96,14 +96,12 @@ module _ {A B C : Type 0} (g : Name → A → B → List C) where
 
 module _ {X : Type 0} where
   after_each : (n : Name) (ks : List Name) (xs : List X) → ((j : ℕ) → j < length ks → slice_cmp nat_cmp n (get_or ks j []) ≡ Less) → After n (zip ks xs)
-  after_each n [] xs h = tt
-  after_each n (k ∷ ks) [] h = tt
   after_each n (k ∷ ks) (x ∷ xs) h = (h 0 (omega arith), after_each n ks xs (λ j l. h (suc j) (omega arith)))
+  after_each n _ _ h = tt
 
   pub ascending_rising : (ks : List Name) (xs : List X) → Ascend ks → Rising (zip ks xs)
-  ascending_rising [] xs h = tt
-  ascending_rising (k ∷ ks) [] h = tt
   ascending_rising (k ∷ ks) (x ∷ xs) h = (after_each k ks xs (λ j l. h 0 (suc j) (omega arith) (omega arith)), ascending_rising ks xs (λ i j l g. h (suc i) (suc j) (omega arith) (omega arith)))
+  ascending_rising _ _ h = tt
 
 later_after : (k : String Global) (es : List (String Global × Value)) → AllByRecursion (λ y. string_cmp k y ≡ Less) (keys_of es) → After (string_bytes k) (listed (members_view es))
 later_after k [] h = tt

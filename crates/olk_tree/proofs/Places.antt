@@ -30,8 +30,7 @@ below_equal x y n p q = turned x n ∙ ap ordering_reverse (sym (nat_list_cmp_to
 
 at_most_two : (o : Ordering) → ordering_index o ≤ 2
 at_most_two Less = omega arith
-at_most_two Equal = omega arith
-at_most_two Greater = omega arith
+at_most_two _ = omega arith
 
 rises : (x y n : Name) → cmp x y ≡ Less → ordering_index (cmp x n) ≤ ordering_index (cmp y n)
 rises x y n p = by (cmp y n) refl
@@ -120,8 +119,7 @@ module _ (ks : List Name) (n : Name) where
       where
         equal_by : (o : Ordering) → is_eq o ≡ true → o ≡ Equal
         equal_by Equal h = refl
-        equal_by Less h = absurd (true≢false (sym h))
-        equal_by Greater h = absurd (true≢false (sym h))
+        equal_by _ h = absurd (true≢false (sym h))
 
 -- ---- entries whose names ascend
 

@@ -29,17 +29,11 @@ use Rattle.olk_tree.proofs.AskedSchemas.{is_rest, is_no_rest, nodes_matching_ans
 false_refuses : (W : World) (u : Bool) (d v : Data) → is_truth false d ≡ true → accepts W u d v ≡ false
 unfolding meaning
 false_refuses W u (boolean false) v e = refl
-false_refuses W u (boolean true) v e = absurd (true≢false (sym e))
-false_refuses W u null v e = absurd (true≢false (sym e))
-false_refuses W u (number x) v e = absurd (true≢false (sym e))
-false_refuses W u (string s) v e = absurd (true≢false (sym e))
-false_refuses W u (array ds) v e = absurd (true≢false (sym e))
-false_refuses W u (object ms) v e = absurd (true≢false (sym e))
+false_refuses W u _ v e = absurd (true≢false (sym e))
 
 and_regroup : (a b c e : Bool) → ((a && (b && c)) && e) ≡ (a && b && (c && e))
 and_regroup true true c e = refl
-and_regroup true false c e = refl
-and_regroup false b c e = refl
+and_regroup _ _ c e = refl
 
 module _ {K R N : Type 0} (o : Kit K R) (m : N → Data → Question) (r : N → Bool → Data → Path → List Fault)
     (t : N → Bool → Data → Path → Tree) {S : Sides R N} {fs es : List (Name × Data)} {d : Data} {P : Path} (h : SidesStand o m r t S fs es d P) (u : Bool) where

@@ -83,13 +83,12 @@ asked_if_unfinished W u text n = by (literal text) (W.says text n)
     by : (l : Option Literal) (s : Says) → (known_or_asked (option_map_or (λ l. literal_says W l n) l s)
         (said_to (is_none l) (option_map_or (λ l. literal_says W l n) l s))).asks u ≡ cond (is_none l) (cond (is_unfinished s) 1 0) 0
     by None matched = refl
-    by None unmatched = refl
-    by None unfinished = refl
     by (Some l) s = test (passes l n)
       where
         test : (b : Bool) → (known_or_asked (cond b matched unmatched) (said_to false (cond b matched unmatched))).asks u ≡ 0
         test true = refl
         test false = refl
+    by None _ = refl
 
 -- a test is never left unfinished, so that it counts exactly where its matcher is asked
 pub open_counts : (W : World) (text : Text) (n : Name) → cond {A = ℕ} (is_open W text || is_unfinished (pattern_says W text n)) 1 0 ≡ cond (is_open W text) 1 0
@@ -107,8 +106,6 @@ module _ {K R N : Type 0} (o : Kit K R) (m : N → Data → Question) (r : N →
   -- of a name that isn't declared, each
   all_asked : (i : ℕ) (ps : List (CompiledPattern R × N)) (es : List (Name × Data)) → PatternsAnswer o m r t ps es L → matchers_asked o.answers o.costs S n u None i ps ≡ length (open_among o.world es)
   all_asked i [] [] h = refl
-  all_asked i [] (e ∷ es) h = absurd h
-  all_asked i (p ∷ ps) [] h = absurd h
   all_asked i (p ∷ ps) (e ∷ es) h =
       (λ j. cond (h.0.costs j || is_unfinished (h.0.answers n j)) 1 0 + all_asked (i + 1) ps es h.2 j) ∙ ap (λ c. c + length (open_among o.world es))
       (open_counts o.world e.0 n) ∙ by (is_open o.world e.0)
@@ -116,6 +113,7 @@ module _ {K R N : Type 0} (o : Kit K R) (m : N → Data → Question) (r : N →
       by : (b : Bool) → cond b 1 0 + length (open_among o.world es) ≡ length (put_if b e.0 (open_among o.world es))
       by true = omega arith
       by false = omega arith
+  all_asked i _ _ h = absurd h
 
   abbrev is_left : Text → Bool
   is_left text = is_unfinished (o.world.says text n)
@@ -124,8 +122,6 @@ module _ {K R N : Type 0} (o : Kit K R) (m : N → Data → Question) (r : N →
   unfinished_asked : (f : ℕ × N) (i : ℕ) (ps : List (CompiledPattern R × N)) (es : List (Name × Data)) → PatternsAnswer o m r t ps es L
       → Recalls o m r t n S (Some f) i ps → matchers_asked o.answers o.costs S n u (Some f) i ps ≡ count_by is_left (open_among o.world es)
   unfinished_asked f i [] [] h k = refl
-  unfinished_asked f i [] (e ∷ es) h k = absurd h
-  unfinished_asked f i (p ∷ ps) [] h k = absurd h
   unfinished_asked f i (p ∷ ps) (e ∷ es) h k =
       (λ j. (known_or_asked ((recalls_here o m r t n S (Some f) i p ps k ∙ h.0.answers n) j) (said_to (h.0.costs j) (h.0.answers n j))).asks u + unfinished_asked f
       (i + 1) ps es h.2 (recalls_later o m r t n S (Some f) i p ps k) j)
@@ -135,6 +131,7 @@ module _ {K R N : Type 0} (o : Kit K R) (m : N → Data → Question) (r : N →
       by : (b : Bool) → cond b (cond (is_left e.0) 1 0) 0 + count_by is_left (open_among o.world es) ≡ count_by is_left (put_if b e.0 (open_among o.world es))
       by true = sym (sum_by-cons (λ x. cond (is_left x) 1 0) e.0 (open_among o.world es))
       by false = omega arith
+  unfinished_asked f i _ _ h k = absurd h
 
   matchers_counted : (a : Option (ℕ × N)) (ps : List (CompiledPattern R × N)) (es : List (Name × Data)) → PatternsAnswer o m r t ps es L
       → Recalls o m r t n S a 0 ps → matchers_asked o.answers o.costs S n u a 0 ps ≡ cond (is_some a) (count_by is_left (open_among o.world es)) (length (open_among o.world es))

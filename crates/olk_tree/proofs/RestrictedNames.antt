@@ -42,26 +42,23 @@ module _ {K R N : Type 0} (o : Kit K R) (m : N → Data → Question) (r : N →
     declared_accept : (k : ℕ) (ns : List N) (fs : List (Name × Data)) → EntriesAnswer o m r t ns fs L
         → (every (λ e. every (m e.1.1) (at e.0 v)) (zip (map (λ e. e.0) fs) (enumerate_from k ns))).accepts u ≡ list_all (λ e. list_all (accepts o.world u e.1) (at e.0 v)) fs
     declared_accept k [] [] h = refl
-    declared_accept k [] (e ∷ fs) h = absurd h
-    declared_accept k (n ∷ ns) [] h = absurd h
     declared_accept k (n ∷ ns) (e ∷ fs) h = λ i. values_accept n e.1 (L // e.0) h.0 u (at e.0 v) i && declared_accept (k + 1) ns fs h.1 i
+    declared_accept k _ _ h = absurd h
 
     declared_ask : (k : ℕ) (ns : List N) (fs : List (Name × Data)) → EntriesAnswer o m r t ns fs L
         → (every (λ e. every (m e.1.1) (at e.0 v)) (zip (map (λ e. e.0) fs) (enumerate_from k ns))).asks u ≤ sum_by (λ e. sum_by (asks o.world u e.1) (at e.0 v)) fs
     declared_ask k [] [] h = omega arith
-    declared_ask k [] (e ∷ fs) h = absurd h
-    declared_ask k (n ∷ ns) [] h = absurd h
     declared_ask k (n ∷ ns) (e ∷ fs) h =
         more_within _ _ _ _ _ (values_ask n e.1 (L // e.0) h.0 u (at e.0 v)) (declared_ask (k + 1) ns fs h.1) (sum_by-cons (λ (e : Name × Data). sum_by (asks o.world u e.1) (at e.0 v)) e fs)
+    declared_ask k _ _ h = absurd h
 
     declared_find : (Q : Path) (k : ℕ) (ns : List N) (fs : List (Name × Data)) → EntriesAnswer o m r t ns fs L
         → flat_map (λ e. flat_map (λ w. r e.1.1 u w (Q // e.0)) (at e.0 v)) (zip (map (λ e. e.0) fs) (enumerate_from k ns)) ∼ flat_map
         (λ e. flat_map (λ w. report o.world u e.1 w (L // e.0) (Q // e.0)) (at e.0 v)) fs
     declared_find Q k [] [] h = like_empty
-    declared_find Q k [] (e ∷ fs) h = absurd h
-    declared_find Q k (n ∷ ns) [] h = absurd h
     declared_find Q k (n ∷ ns) (e ∷ fs) h =
         ∼_append (∼_flat_map_any (λ w. r n u w (Q // e.0)) (λ w. report o.world u e.1 w (L // e.0) (Q // e.0)) (λ w. h.0.faults u w (Q // e.0)) (at e.0 v)) (declared_find Q (k + 1) ns fs h.1)
+    declared_find Q k _ _ h = absurd h
 
 -- ---- all
 

@@ -42,9 +42,8 @@ pub greater_of_lt : (x y : Float) → lt y x ≡ true → Some Greater ≡ float
 greater_of_lt x y h = ap (option_map ordering_reverse) (less_of_lt y x h) ∙ reverse-compared y x
 
 by_tests : (a e b : Bool) → (a ≡ false → e ≡ false → b ≡ true) → Some (cond a Less (cond e Equal Greater)) ≡ cond a (Some Less) (cond e (Some Equal) (cond b (Some Greater) None))
-by_tests true e b h = refl
-by_tests false true b h = refl
 by_tests false false b h = rw (h refl refl) refl
+by_tests _ _ b h = refl
 
 lt_of_tests : (m n : ℕ) → nat_lt m n ≡ false → nat_eq m n ≡ false → nat_lt n m ≡ true
 lt_of_tests m n h k = let apart : m ≡ n → ⊥ = eqb-false m n k in lt-ltb n m (omega (arith, ltb-false m n h, apart))
@@ -76,15 +75,13 @@ ordered : (x y : Float) → NotNan x → NotNan y → Some (cond (lt x y) Less (
 ordered x y p q = go (lt x y) (eq x y) (lt y x) refl refl refl
   where
     go : (a e b : Bool) → lt x y ≡ a → eq x y ≡ e → lt y x ≡ b → Some (cond a Less (cond b Greater Equal)) ≡ cond a (Some Less) (cond e (Some Equal) (cond b (Some Greater) None))
-    go true e b f g h = refl
     go false true true f g h = absurd (floats.eq-not_lt y x (floats.eq_flip x y (floats.T_from_true _ g)) (floats.T_from_true _ h))
-    go false true false f g h = refl
-    go false false true f g h = refl
     go false false false f g h =
         elim (floats.lt-or-eq x y (floats.le_of_not-lt y x q p (floats.T_from_false _ h))) [
           | inl k ↦ absurd (subst T f k)
           | inr k ↦ absurd (subst T g k)
         ]
+    go _ _ _ f g h = refl
 
 -- ---- two whole numbers
 
@@ -118,37 +115,24 @@ signed_order m n = (λ i. Some (cond (sym (lt-of_whole m n) i) Less (cond (sym (
 lt-neg : (x y : Float) → lt (neg x) (neg y) ≡ lt y x
 unfolding lt neg
 lt-neg nan nan = refl
-lt-neg nan (inf t) = refl
-lt-neg nan (fin t n d) = refl
 lt-neg (inf s) nan = refl
 lt-neg (inf true) (inf true) = refl
-lt-neg (inf true) (inf false) = refl
 lt-neg (inf false) (inf true) = refl
-lt-neg (inf false) (inf false) = refl
-lt-neg (inf s) (fin t n d) = refl
-lt-neg (fin s m e) nan = refl
 lt-neg (fin s m e) (inf true) = refl
-lt-neg (fin s m e) (inf false) = refl
 lt-neg (fin true m e) (fin true n d) = refl
-lt-neg (fin true m e) (fin false n d) = refl
 lt-neg (fin false m e) (fin true n d) = ap (nat_lt 0) (add_comm (m * up e * down d) (n * up d * down e))
-lt-neg (fin false m e) (fin false n d) = refl
+lt-neg _ _ = refl
 
 eq-neg : (x y : Float) → eq (neg x) (neg y) ≡ eq x y
 unfolding eq neg
 eq-neg nan y = refl
 eq-neg (inf s) nan = refl
 eq-neg (inf true) (inf true) = refl
-eq-neg (inf true) (inf false) = refl
 eq-neg (inf false) (inf true) = refl
-eq-neg (inf false) (inf false) = refl
-eq-neg (inf s) (fin t n d) = refl
 eq-neg (fin s m e) nan = refl
-eq-neg (fin s m e) (inf t) = refl
 eq-neg (fin true m e) (fin true n d) = refl
-eq-neg (fin true m e) (fin false n d) = refl
 eq-neg (fin false m e) (fin true n d) = refl
-eq-neg (fin false m e) (fin false n d) = refl
+eq-neg _ _ = refl
 
 pub neg-compared : (x y : Float) → float_partial_cmp (neg x) (neg y) ≡ float_partial_cmp y x
 neg-compared x y =
@@ -166,10 +150,9 @@ below_zero_order x (negsuc n) k h e =
 
 pub negative_below : (x : Float) (n : ℕ) → lt x float_zero ≡ true → lt x (of_whole (pos n)) ≡ true
 unfolding lt
-negative_below nan n h = h
-negative_below (inf s) n h = h
 negative_below (fin false m e) n h = absurd (omega (arith, ltb-true _ _ h))
 negative_below (fin true m e) n h = lt-ltb 0 _ (omega (arith, ltb-true _ _ h))
+negative_below _ n h = h
 
 whole_below : (n : ℕ) → n < 2 ^ 64 → T (lt (of_whole (pos n)) (two_to 64))
 unfolding lt
@@ -204,22 +187,20 @@ eq-float_zero m e h = rw (eq-eqb (m * up e * 1) (0 * 2 ^ 0 * down e) (omega (ari
 pub whole_part_order : (x : Float) (t n : ℕ) → lt x float_zero ≡ false → lt x (two_to 64) ≡ true → t ≡ to_unsigned 64 x → (t ≡ n → is_integral x ≡ true)
     → Some (nat_cmp t n) ≡ float_partial_cmp x (of_whole (pos n))
 unfolding lt to_unsigned
-whole_part_order nan t n a b c d = absurd (true≢false (sym b))
 whole_part_order (inf true) t n a b c d = absurd (true≢false a)
-whole_part_order (inf false) t n a b c d = absurd (true≢false (sym b))
 whole_part_order (fin true m e) t n a b c d =
     ap (λ k. Some (nat_cmp k n)) c ∙ unsigned_order 0 n ∙ sym (floats.floats_po.congr (fin true m e) float_zero (of_whole (pos n)) (eq-float_zero m e (zero_of_not-lt m e a)))
 whole_part_order (fin false m e) t n a b c d =
     ap Some (quotient_order (m * up e) (down e) t n (down_pos e) (to_unsigned-whole m e t b c) (λ h. eqb-true _ _ (d h))) ∙ fraction_order m e n
+whole_part_order _ t n a b c d = absurd (true≢false (sym b))
 
 pub fraction_above : (x : Float) (n : ℕ) → lt x float_zero ≡ false → lt x (two_to 64) ≡ true → n ≡ to_unsigned 64 x → is_integral x ≡ false → lt (of_whole (pos n)) x ≡ true
 unfolding lt to_unsigned
-fraction_above nan n a b c d = absurd (true≢false (sym b))
 fraction_above (inf true) n a b c d = absurd (true≢false a)
-fraction_above (inf false) n a b c d = absurd (true≢false (sym b))
 fraction_above (fin true m e) n a b c d = absurd (eqb-false _ _ d (ap (λ k. k % down e) (zero_of_not-lt m e a) ∙ zero-mod (down e)))
 fraction_above (fin false m e) n a b c d =
     let some : (m * up e) % down e ≡ 0 → ⊥ = eqb-false _ _ d in
     let parts : m * up e / down e * down e + (m * up e) % down e ≡ m * up e = div-add-mod' (m * up e) (down e) in
     let left : n * down e ≡ m * up e / down e * down e = ap (λ k. k * down e) (to_unsigned-whole m e n b c) in
     lt-ltb _ _ (omega (arith, some, parts, left))
+fraction_above _ n a b c d = absurd (true≢false (sym b))

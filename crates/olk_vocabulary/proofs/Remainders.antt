@@ -30,13 +30,12 @@ nothing_remains a c =
 -- a float of the value q is the same as m * 2 ^ e just where these are the same number
 eq_by_value : (y : Float) (q m : ℕ) (e : ℤ) → HasValue y false q 1 → eq y (fin false m e) ≡ nat_eq (q * down e) (m * up e)
 unfolding eq
-eq_by_value nan q m e v = absurd v
-eq_by_value (inf t) q m e v = absurd v
 eq_by_value (fin true n d) q m e v = absurd (true≢false v.0)
 eq_by_value (fin false n d) q m e v =
     let size : n * up d ≡ q * down d = omega (arith, v.1) in
     let scaled : n * up d * down e ≡ q * down e * down d = ap (λ j. j * down e) size ∙ mul_right_comm q (down d) (down e) in
     and-true _ ∙ same_eq _ _ (q * down e) (m * up e) (λ h. eq_of_mul-eq-mul_right (down d) (down_pos d) _ _ (sym scaled ∙ h)) (λ h. scaled ∙ ap (λ j. j * down d) h)
+eq_by_value _ q m e v = absurd v
 
 integral_small : (m : ℕ) (e : ℤ) (w : ℕ) → lt (fin false m e) (two_to 53) ≡ true → w ≡ to_unsigned 64 (fin false m e)
     → eq (of_int binary64 (pos w)) (fin false m e) ≡ is_integral (fin false m e)
@@ -51,10 +50,9 @@ integral_small m e w h c =
 -- below 2 ^ 53 a double has no fraction where its whole part is all of it
 pub integral_below : (x y : Float) (w : ℕ) → y ≡ float_with_sign false x → lt y (two_to 53) ≡ true → w ≡ to_unsigned 64 y → eq (of_int binary64 (pos w)) y ≡ is_integral x
 unfolding lt float_with_sign
-integral_below nan y w s h c = absurd (true≢false (sym h ∙ ap (λ z. lt z (two_to 53)) s))
-integral_below (inf t) y w s h c = absurd (true≢false (sym h ∙ ap (λ z. lt z (two_to 53)) s))
 integral_below (fin t m e) y w s h c =
     subst (λ z. lt z (two_to 53) ≡ true → w ≡ to_unsigned 64 z → eq (of_int binary64 (pos w)) z ≡ is_integral (fin false m e)) (sym s) (integral_small m e w) h c
+integral_below _ y w s h c = absurd (true≢false (sym h ∙ ap (λ z. lt z (two_to 53)) s))
 
 second : (a b c d : Bool) → T (a && b && c && d) → T b
 second a b c d h = and_r a b (and_l (a && b) c (and_l (a && b && c) d h))
@@ -70,9 +68,8 @@ integral_large t (suc m) (negsuc k) f h =
 -- and from there on none has one
 pub integral_past : (x y : Float) → y ≡ float_with_sign false x → T (fits binary64 x) → lt y (two_to 53) ≡ false → float_is_finite y ≡ is_integral x
 unfolding lt float_with_sign float_is_finite
-integral_past nan y s f h = ap float_is_finite s
-integral_past (inf t) y s f h = ap float_is_finite s
 integral_past (fin t m e) y s f h = ap float_is_finite s ∙ sym (integral_large t m e f (sym (ap (λ z. lt z (two_to 53)) s) ∙ h))
+integral_past _ y s f h = ap float_is_finite s
 
 -- ---- multiples
 
@@ -103,18 +100,16 @@ multiple_small t m e w k h i c =
 pub multiple_below : (x y : Float) (w k : ℕ) → y ≡ float_with_sign false x → lt y (two_to 64) ≡ true → is_integral y ≡ true → w ≡ to_unsigned 64 y
     → nat_eq (w % k) 0 ≡ is_multiple_of x k
 unfolding lt float_with_sign
-multiple_below nan y w k s h i c = absurd (true≢false (sym h ∙ ap (λ z. lt z (two_to 64)) s))
-multiple_below (inf t) y w k s h i c = absurd (true≢false (sym h ∙ ap (λ z. lt z (two_to 64)) s))
 multiple_below (fin t m e) y w k s h i c =
     subst (λ z. lt z (two_to 64) ≡ true → is_integral z ≡ true → w ≡ to_unsigned 64 z → nat_eq (w % k) 0 ≡ is_multiple_of (fin t m e) k) (sym s) (multiple_small t m e w k) h i c
+multiple_below _ y w k s h i c = absurd (true≢false (sym h ∙ ap (λ z. lt z (two_to 64)) s))
 
 pub multiple_past : (x y : Float) (k : ℕ) → y ≡ float_with_sign false x → lt y (two_to 64) ≡ false → false ≡ is_multiple_of x k
 unfolding lt float_with_sign
-multiple_past nan y k s h = refl
-multiple_past (inf t) y k s h = refl
 multiple_past (fin t m e) y k s h =
     let far : 2 ^ 64 * down e ≤ m * up e = omega (arith, ltb-false _ _ (sym (ap (λ z. lt z (two_to 64)) s) ∙ h)) in
     ap (λ b. b && nat_eq ((m * up e) % (k * down e)) 0) (sym (le-ltb _ _ far))
+multiple_past _ y k s h = refl
 
 multiples_are_whole : (a k d : ℕ) → a % (k * d) ≡ 0 → a % d ≡ 0
 multiples_are_whole a k d z =
@@ -124,9 +119,8 @@ multiples_are_whole a k d z =
 
 pub fraction_is_none : (x y : Float) (k : ℕ) → y ≡ float_with_sign false x → is_integral y ≡ false → false ≡ is_multiple_of x k
 unfolding float_with_sign
-fraction_is_none nan y k s i = refl
-fraction_is_none (inf t) y k s i = refl
 fraction_is_none (fin t m e) y k s i =
     let some : (m * up e) % down e ≡ 0 → ⊥ = eqb-false _ _ (sym (ap is_integral s) ∙ i) in
     let apart = ne_eqb ((m * up e) % (k * down e)) 0 (λ z. some (multiples_are_whole (m * up e) k (down e) z)) in
     sym (ap (λ b. nat_lt (m * up e) (2 ^ 64 * down e) && b) apart ∙ and-false _)
+fraction_is_none _ y k s i = refl

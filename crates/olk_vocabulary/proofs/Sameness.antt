@@ -18,9 +18,8 @@ items_end xs ys i p q = λ j. same_items (items_view (drop_all i xs p j)) (items
 
 pub lengths_differ : (xs ys : List Value) → length xs ≢ length ys → same_items (items_view xs) (items_view ys) ≡ false
 lengths_differ [] [] h = absurd (h refl)
-lengths_differ [] (y ∷ ys) h = refl
-lengths_differ (x ∷ xs) [] h = refl
 lengths_differ (x ∷ xs) (y ∷ ys) h =
     ap (λ b. same_value (view x) (view y) && b) (lengths_differ xs ys (λ e. h (ap (λ n. suc n) e))) ∙ and-false (same_value (view x) (view y))
+lengths_differ _ _ h = refl
 
 pub ruleset item_rules = (items_step, items_end, lengths_differ)

@@ -1,49 +1,44 @@
 use borrow.Author.Count.{falls}
 use Rattle.std.proofs.lemmas.Result.{IfOk-from_err, IfOk-weaker}
 use Rattle.olk_build.proofs.Places.{no_object_no_members, no_array_no_items, nothing_is_built, no_entry_is_built, no_schema_entry_is_built, no_inner_entry_is_built, no_branch_is_built, itself_is_built, itself_is_refused, itself_lost, entries_are_built, schema_entries_are_built, inner_entries_are_built, branches_are_built}
-use Rattle.std.proofs.Common.{arith, IfErr, rules, true, false, inl, inr, ◌+◌, ◌++◌, [], ◌∷◌, map, string_bytes, decimal, refl, sym, ap, subst, ◌∙◌}
+use Rattle.std.proofs.Common.{arith, IfErr, rules, true, false, inl, inr, ◌++◌, [], ◌∷◌, map, string_bytes, refl, sym, ap, subst, ◌∙◌}
 use Rattle.olk_meaning.specs.Conditions.{known}
 use mathlib.Core.Path.{subst₂}
-use Rattle.std.proofs.lemmas.List.{append-nil, append_assoc}
-use Rattle.serde_json.specs.Data.{Data}
+use Rattle.std.proofs.lemmas.List.{append_assoc}
 use Rattle.serde_json.specs.View.{view, members_view}
 use Rattle.serde_json.proofs.Views.{view-Object, view-Array}
 use Rattle.serde_json.specs.declared.value.Value.{the_lemmas as value_lemmas}
-use Rattle.olk_spec.specs.Names.{Name, ◌//◌}
+use Rattle.olk_spec.specs.Names.{◌//◌}
 use Rattle.olk_spec.specs.Vocabulary.{keyword_named}
 use Rattle.olk_spec.specs.Malformed.{items_of_array}
 use Rattle.olk_spec.specs.Schemas.{members, listed, numbered}
 use Rattle.olk_spec.specs.Faults.{fault}
 use Rattle.olk_reports.proofs.Errors.{kind_of_multiple_types}
 use Rattle.olk_base.specs.Kit.{kit, world}
-use Rattle.olk_meaning.specs.Members.{member_malformations, member_cost}
-use Rattle.olk_build.specs.Building.{AreBuilt, RefusesEach, RefusesObject, RefusesPart, entries_read}
+use Rattle.olk_build.specs.Building.{AreBuilt, RefusesEach, RefusesObject, entries_read}
 use Rattle.olk_read.specs.Refusing.{Refuses, TellsOneOf}
 use Rattle.olk_read.specs.Reading.{own_faults, own_cost_of}
-use Rattle.olk_build.specs.Placing.{RefusesPlaces, places_malformed, places_cost, PlacesAreBuilt, PartsAreBuilt, IsPart}
-use Rattle.olk_read.proofs.Spending.{exit, refuses_among, memory_among, refuses_memory, within_nothing, within_exactly}
+use Rattle.olk_build.specs.Placing.{RefusesPlaces, places_malformed, places_cost, PlacesAreBuilt}
+use Rattle.olk_read.proofs.Spending.{exit, refuses_memory, within_nothing, within_exactly}
 use Rattle.olk_spec.proofs.Maps.{items_list-view}
-use Rattle.olk_build.proofs.Built.{EntriesSoFar, branches_from, next_branch, no_branch, no_entries, entries_built, entries_memory, entry_refused, entry_memory, one_more_entry, no_inner, inner_built, inner_memory, inner_refused, more_inner_memory, one_more_inner, at_an_entry, past_an_entry, none_is_read, built_truth, built_object, refuses_object, refuses_no_schema}
+use Rattle.olk_build.proofs.Built.{EntriesSoFar, next_branch, no_branch, no_entries, entries_built, entries_memory, entry_refused, entry_memory, one_more_entry, no_inner, inner_built, inner_memory, inner_refused, more_inner_memory, one_more_inner, at_an_entry, past_an_entry, none_is_read, built_truth, built_object, refuses_object, refuses_no_schema}
 use Rattle.olk_meaning.proofs.Objects.{no_schema_is}
-use Rattle.olk_build.proofs.Parts.{known_there, refuses_part_own, refuses_part_inside, part_is_built, no_parts, one_more_part}
-use Rattle.olk_meaning.specs.Plans.{planned}
+use Rattle.olk_build.proofs.Parts.{refuses_part_own, refuses_part_inside, part_is_built}
 use Rattle.serde_json.proofs.value.Value.TheLaws.{the_size}
 use Rattle.olk_build.proofs.Sizes.{size_among}
-use Rattle.olk_build.proofs.Each.{none_so_far, memory_so_far, each_is_built, member_refused, memory_past_member, one_more_so_far}
+use Rattle.olk_build.proofs.Each.{no_parts_so_far, none_so_far, memory_so_far, parts_are_built, each_is_built, member_refused, one_more_so_far, one_more_meant}
 use Rattle.olk_build.proofs.build.+compile.Goals as goal
 
 pub compile_entries-returns-in_err-nodes-clause-built : goal.compile_entries-returns-in_err-nodes-clause-built
 compile_entries-returns-in_err-nodes-clause-built g t c = IfOk-from_err _ _ c.from_residual.ensures.0
 
 pub compile_entries-returns-in_err-nodes-clause-refused : goal.compile_entries-returns-in_err-nodes-clause-refused
-compile_entries-returns-in_err-nodes-clause-refused g t c = exit _ _ _ c.from_residual.ensures.1 (λ e q. refuses_memory _ _ _ _ e _ q (within_nothing _ _))
+compile_entries-returns-in_err-nodes-clause-refused g t c = exit _ _ _ c.from_residual.ensures.1 (refuses_memory within_nothing)
 
 pub compile_entries-loop-name-init : goal.compile_entries-loop-name-init
 compile_entries-loop-name-init g t c =
     record {
-      so_far = no_entries (kit g.L.Leaf.Leaf g.M.Engine.RegexEngine) g.N.BuiltNode.answers c.args.place.now
-          (entries_read c.args.passes_arrays (listed (members_view c.args.map.now.entries))) c.args.meter.now c.in_ok-nodes.nodes.items _ c.in_ok-nodes.ensures.items
-          (ap (λ l. entries_read c.args.passes_arrays (listed (members_view l))) c.into_iter-name-iterator.ensures.into_iter_gives.0);
+      so_far = no_entries c.in_ok-nodes.ensures.items (ap (λ l. entries_read c.args.passes_arrays (listed (members_view l))) c.into_iter-name-iterator.ensures.into_iter_gives.0);
       next = tt;
       ends = tt;
     }
@@ -56,31 +51,25 @@ compile_entries-returns-in_err-location-clause-built g t c = IfOk-from_err _ _ c
 
 pub compile_entries-returns-in_err-location-clause-refused : goal.compile_entries-returns-in_err-location-clause-refused
 compile_entries-returns-in_err-location-clause-refused g t c =
-    exit _ _ _ c.from_residual-in_err-location.ensures.1 (λ e q. entries_memory (kit g.L.Leaf.Leaf g.M.Engine.RegexEngine) g.N.BuiltNode.answers c.args.place.now
-    (entries_read c.args.passes_arrays (listed (members_view c.args.map.now.entries))) c.args.meter.now c.loop-name.nodes.items
-    (entries_read c.args.passes_arrays (listed (members_view c.loop-name.name-iterator))) _ e _ q c.loop-name.invariant.so_far)
+    exit _ _ _ c.from_residual-in_err-location.ensures.1 (entries_memory c.loop-name.invariant.so_far)
 
 pub compile_entries-returns-in_err-node-clause-built : goal.compile_entries-returns-in_err-node-clause-built
 compile_entries-returns-in_err-node-clause-built g t c = IfOk-from_err _ _ c.from_residual-in_err-node.ensures.0
 
 pub compile_entries-returns-in_err-node-clause-refused : goal.compile_entries-returns-in_err-node-clause-refused
 compile_entries-returns-in_err-node-clause-refused g t c =
-    exit _ _ _ c.from_residual-in_err-node.ensures.1 (λ e q. entry_refused (kit g.L.Leaf.Leaf g.M.Engine.RegexEngine) g.N.BuiltNode.answers c.args.place.now
-    (entries_read c.args.passes_arrays (listed (members_view c.args.map.now.entries))) c.args.meter.now (string_bytes c.in-Some.name.now, view c.in-Some.schema.now)
-    (entries_read c.args.passes_arrays (listed (members_view c.loop-name.name-iterator))) (entries_read c.args.passes_arrays (listed (members_view c.next.new.self)))
+    exit _ _ _ c.from_residual-in_err-node.ensures.1 (entry_refused c.loop-name.invariant.so_far
     (ap (λ l. entries_read c.args.passes_arrays (listed (members_view l))) c.in-Some.ensures.steps ∙ at_an_entry (string_bytes c.in-Some.name.now, view c.in-Some.schema.now)
-    (listed (members_view c.next.new.self)) c.args.passes_arrays (sym c.is_read.ensures ∙ c.if-is_read.true)) c.loop-name.nodes.items _ _ c.in_ok-location.location
-    (c.in_ok-location.ensures ∙ ap (λ n. c.args.place.now // n) c.as_str.ensures.value) c.loop-name.invariant.so_far e _ q c.in_err-node.ensures.refused)
+    (listed (members_view c.next.new.self)) c.args.passes_arrays (sym c.is_read.ensures ∙ c.if-is_read.true))
+    (c.in_ok-location.ensures ∙ ap (λ n. c.args.place.now // n) c.as_str.ensures.value) c.in_err-node.ensures.refused)
 
 pub compile_entries-loop-name-preserved-in-Continue-branch-4 : goal.compile_entries-loop-name-preserved-in-Continue-branch-4
 compile_entries-loop-name-preserved-in-Continue-branch-4 g t c =
     record {
-      so_far = one_more_entry (kit g.L.Leaf.Leaf g.M.Engine.RegexEngine) g.N.BuiltNode.answers c.args.place.now
-          (entries_read c.args.passes_arrays (listed (members_view c.args.map.now.entries))) c.args.meter.now (string_bytes c.in-Some.name.now, view c.in-Some.schema.now)
-          (entries_read c.args.passes_arrays (listed (members_view c.loop-name.name-iterator))) (entries_read c.args.passes_arrays (listed (members_view c.next.new.self)))
+      so_far = one_more_entry c.loop-name.invariant.so_far
           (ap (λ l. entries_read c.args.passes_arrays (listed (members_view l))) c.in-Some.ensures.steps ∙ at_an_entry (string_bytes c.in-Some.name.now, view c.in-Some.schema.now)
-          (listed (members_view c.next.new.self)) c.args.passes_arrays (sym c.is_read.ensures ∙ c.if-is_read.true)) c.loop-name.nodes.items _ _ c.in_ok-location.location
-          (c.in_ok-location.ensures ∙ ap (λ n. c.args.place.now // n) c.as_str.ensures.value) c.loop-name.invariant.so_far c.in_ok-node.node c.in_ok-node.ensures.built _ c.in_ok-append.ensures.items;
+          (listed (members_view c.next.new.self)) c.args.passes_arrays (sym c.is_read.ensures ∙ c.if-is_read.true))
+          (c.in_ok-location.ensures ∙ ap (λ n. c.args.place.now // n) c.as_str.ensures.value) c.in_ok-node.ensures.built c.in_ok-append.ensures.items;
       next = tt;
       ends = tt;
     }
@@ -90,12 +79,10 @@ compile_entries-returns-in_err-append-clause-built g t c = IfOk-from_err _ _ c.f
 
 pub compile_entries-returns-in_err-append-clause-refused : goal.compile_entries-returns-in_err-append-clause-refused
 compile_entries-returns-in_err-append-clause-refused g t c =
-    exit _ _ _ c.from_residual-in_err-append.ensures.1 (λ e q. entry_memory (kit g.L.Leaf.Leaf g.M.Engine.RegexEngine) g.N.BuiltNode.answers c.args.place.now
-    (entries_read c.args.passes_arrays (listed (members_view c.args.map.now.entries))) c.args.meter.now (string_bytes c.in-Some.name.now, view c.in-Some.schema.now)
-    (entries_read c.args.passes_arrays (listed (members_view c.loop-name.name-iterator))) (entries_read c.args.passes_arrays (listed (members_view c.next.new.self)))
+    exit _ _ _ c.from_residual-in_err-append.ensures.1 (entry_memory c.loop-name.invariant.so_far
     (ap (λ l. entries_read c.args.passes_arrays (listed (members_view l))) c.in-Some.ensures.steps ∙ at_an_entry (string_bytes c.in-Some.name.now, view c.in-Some.schema.now)
-    (listed (members_view c.next.new.self)) c.args.passes_arrays (sym c.is_read.ensures ∙ c.if-is_read.true)) c.loop-name.nodes.items _ _ c.in_ok-location.location
-    (c.in_ok-location.ensures ∙ ap (λ n. c.args.place.now // n) c.as_str.ensures.value) c.loop-name.invariant.so_far c.in_ok-node.node c.in_ok-node.ensures.built e _ q)
+    (listed (members_view c.next.new.self)) c.args.passes_arrays (sym c.is_read.ensures ∙ c.if-is_read.true))
+    (c.in_ok-location.ensures ∙ ap (λ n. c.args.place.now // n) c.as_str.ensures.value) c.in_ok-node.ensures.built)
 
 pub compile_entries-loop-name-preserved : goal.compile_entries-loop-name-preserved
 compile_entries-loop-name-preserved g t c =
@@ -111,10 +98,8 @@ compile_entries-loop-name-preserved g t c =
 
 pub compile_entries-returns-clause-built : goal.compile_entries-returns-clause-built
 compile_entries-returns-clause-built g t c =
-    entries_built (kit g.L.Leaf.Leaf g.M.Engine.RegexEngine) g.N.BuiltNode.answers c.args.place.now
-    (entries_read c.args.passes_arrays (listed (members_view c.args.map.now.entries))) c.args.meter.now c.loop-name.nodes.items
-    (entries_read c.args.passes_arrays (listed (members_view c.loop-name.name-iterator))) _
-    (ap (λ l. entries_read c.args.passes_arrays (listed (members_view l))) c.in-None.ensures.steps.0 ∙ none_is_read c.args.passes_arrays) c.loop-name.invariant.so_far
+    entries_built c.loop-name.invariant.so_far
+    (ap (λ l. entries_read c.args.passes_arrays (listed (members_view l))) c.in-None.ensures.steps.0 ∙ none_is_read c.args.passes_arrays)
 
 pub compile_entries-returns-clause-refused : goal.compile_entries-returns-clause-refused
 compile_entries-returns-clause-refused g t c = tt
@@ -122,9 +107,7 @@ compile_entries-returns-clause-refused g t c = tt
 pub compile_inner_entries-loop-name-init : goal.compile_inner_entries-loop-name-init
 compile_inner_entries-loop-name-init g t c =
     record {
-      so_far = no_inner (kit g.L.Leaf.Leaf g.M.Engine.RegexEngine) g.N.BuiltNode.answers c.args.place.now
-          (listed (members_view c.args.map.now.entries)) c.args.meter.now c.new-nodes.result.items _ c.new-nodes.ensures.items
-          (ap (λ l. listed (members_view l)) c.into_iter-name-iterator.ensures.into_iter_gives.0);
+      so_far = no_inner c.new-nodes.ensures.items (ap (λ l. listed (members_view l)) c.into_iter-name-iterator.ensures.into_iter_gives.0);
       next = tt;
       ends = tt;
     }
@@ -137,46 +120,36 @@ compile_inner_entries-returns-in_err-location-clause-built g t c = IfOk-from_err
 
 pub compile_inner_entries-returns-in_err-location-clause-refused : goal.compile_inner_entries-returns-in_err-location-clause-refused
 compile_inner_entries-returns-in_err-location-clause-refused g t c =
-    exit _ _ _ c.from_residual.ensures.1 (λ e q. inner_memory (kit g.L.Leaf.Leaf g.M.Engine.RegexEngine) g.N.BuiltNode.answers c.args.place.now
-    (listed (members_view c.args.map.now.entries)) c.args.meter.now c.loop-name.nodes.items (listed (members_view c.loop-name.name-iterator)) _ e _ q c.loop-name.invariant.so_far)
+    exit _ _ _ c.from_residual.ensures.1 (inner_memory c.loop-name.invariant.so_far)
 
 pub compile_inner_entries-returns-in_err-inner-clause-built : goal.compile_inner_entries-returns-in_err-inner-clause-built
 compile_inner_entries-returns-in_err-inner-clause-built g t c = IfOk-from_err _ _ c.from_residual-in_err-inner.ensures.0
 
 pub compile_inner_entries-returns-in_err-inner-clause-refused : goal.compile_inner_entries-returns-in_err-inner-clause-refused
 compile_inner_entries-returns-in_err-inner-clause-refused g t c =
-    exit _ _ _ c.from_residual-in_err-inner.ensures.1 (λ e q. inner_refused (kit g.L.Leaf.Leaf g.M.Engine.RegexEngine) g.N.BuiltNode.answers c.args.place.now
-    (listed (members_view c.args.map.now.entries)) c.args.meter.now (string_bytes c.in-Some.name.now, view c.in-Some.entry.now)
-    (listed (members_view c.loop-name.name-iterator)) (listed (members_view c.next.new.self))
-    (ap (λ l. listed (members_view l)) c.in-Some.ensures.steps) c.loop-name.nodes.items _ _ c.in_ok-location.location
-    (c.in_ok-location.ensures ∙ ap (λ n. c.args.place.now // n) c.as_str.ensures.value) c.loop-name.invariant.so_far e _ q c.in_err-inner.ensures.refused)
+    exit _ _ _ c.from_residual-in_err-inner.ensures.1 (inner_refused c.loop-name.invariant.so_far (ap (λ l. listed (members_view l)) c.in-Some.ensures.steps)
+    (c.in_ok-location.ensures ∙ ap (λ n. c.args.place.now // n) c.as_str.ensures.value) c.in_err-inner.ensures.refused)
 
 pub compile_inner_entries-returns-in_err-append_all-clause-built : goal.compile_inner_entries-returns-in_err-append_all-clause-built
 compile_inner_entries-returns-in_err-append_all-clause-built g t c = IfOk-from_err _ _ c.from_residual-in_err-append_all.ensures.0
 
 pub compile_inner_entries-returns-in_err-append_all-clause-refused : goal.compile_inner_entries-returns-in_err-append_all-clause-refused
 compile_inner_entries-returns-in_err-append_all-clause-refused g t c =
-    exit _ _ _ c.from_residual-in_err-append_all.ensures.1 (λ e q. more_inner_memory (kit g.L.Leaf.Leaf g.M.Engine.RegexEngine) g.N.BuiltNode.answers c.args.place.now
-    (listed (members_view c.args.map.now.entries)) c.args.meter.now (string_bytes c.in-Some.name.now, view c.in-Some.entry.now)
-    (listed (members_view c.loop-name.name-iterator)) (listed (members_view c.next.new.self))
-    (ap (λ l. listed (members_view l)) c.in-Some.ensures.steps) c.loop-name.nodes.items _ _ c.in_ok-location.location
-    (c.in_ok-location.ensures ∙ ap (λ n. c.args.place.now // n) c.as_str.ensures.value) c.loop-name.invariant.so_far c.in_ok-inner.inner.items c.in_ok-inner.ensures.built e _ q)
+    exit _ _ _ c.from_residual-in_err-append_all.ensures.1 (more_inner_memory c.loop-name.invariant.so_far (ap (λ l. listed (members_view l)) c.in-Some.ensures.steps)
+    (c.in_ok-location.ensures ∙ ap (λ n. c.args.place.now // n) c.as_str.ensures.value) c.in_ok-inner.ensures.built)
 
 pub compile_inner_entries-loop-name-preserved : goal.compile_inner_entries-loop-name-preserved
 compile_inner_entries-loop-name-preserved g t c =
     record {
-      so_far = one_more_inner (kit g.L.Leaf.Leaf g.M.Engine.RegexEngine) g.N.BuiltNode.answers c.args.place.now (listed (members_view c.args.map.now.entries)) c.args.meter.now
-          (string_bytes c.in-Some.name.now, view c.in-Some.entry.now) (listed (members_view c.loop-name.name-iterator)) (listed (members_view c.next.new.self))
-          (ap (λ l. listed (members_view l)) c.in-Some.ensures.steps) c.loop-name.nodes.items _ _ c.in_ok-location.location
-          (c.in_ok-location.ensures ∙ ap (λ n. c.args.place.now // n) c.as_str.ensures.value) c.loop-name.invariant.so_far c.in_ok-inner.inner.items c.in_ok-inner.ensures.built _ c.in_ok-append_all.ensures;
+      so_far = one_more_inner c.loop-name.invariant.so_far (ap (λ l. listed (members_view l)) c.in-Some.ensures.steps)
+          (c.in_ok-location.ensures ∙ ap (λ n. c.args.place.now // n) c.as_str.ensures.value) c.in_ok-inner.ensures.built c.in_ok-append_all.ensures;
       next = tt;
       ends = tt;
     }
 
 pub compile_inner_entries-returns-clause-built : goal.compile_inner_entries-returns-clause-built
 compile_inner_entries-returns-clause-built g t c =
-    inner_built (kit g.L.Leaf.Leaf g.M.Engine.RegexEngine) g.N.BuiltNode.answers c.args.place.now (listed (members_view c.args.map.now.entries)) c.args.meter.now c.loop-name.nodes.items
-    (listed (members_view c.loop-name.name-iterator)) _ (ap (λ l. listed (members_view l)) c.in-None.ensures.steps.0) c.loop-name.invariant.so_far
+    inner_built c.loop-name.invariant.so_far (ap (λ l. listed (members_view l)) c.in-None.ensures.steps.0)
 
 pub compile_inner_entries-returns-clause-refused : goal.compile_inner_entries-returns-clause-refused
 compile_inner_entries-returns-clause-refused g t c = tt
@@ -185,64 +158,53 @@ pub compile_branches-returns-in_err-nodes-clause-built : goal.compile_branches-r
 compile_branches-returns-in_err-nodes-clause-built g t c = IfOk-from_err _ _ c.from_residual.ensures.0
 
 pub compile_branches-returns-in_err-nodes-clause-refused : goal.compile_branches-returns-in_err-nodes-clause-refused
-compile_branches-returns-in_err-nodes-clause-refused g t c = exit _ _ _ c.from_residual.ensures.1 (λ e q. refuses_memory _ _ _ _ e _ q (within_nothing _ _))
+compile_branches-returns-in_err-nodes-clause-refused g t c = exit _ _ _ c.from_residual.ensures.1 (refuses_memory within_nothing)
 
 pub compile_branches-loop-i-init : goal.compile_branches-loop-i-init
-compile_branches-loop-i-init g t c =
-    no_entries (kit g.L.Leaf.Leaf g.M.Engine.RegexEngine) g.N.BuiltNode.answers c.args.place.now
-    (numbered (map view c.deref-schema-items.result.now)) c.args.meter.now c.in_ok-nodes.nodes.items _ c.in_ok-nodes.ensures.items refl
+compile_branches-loop-i-init g t c = no_entries c.in_ok-nodes.ensures.items refl
 
 pub compile_branches-returns-in_err-location-clause-built : goal.compile_branches-returns-in_err-location-clause-built
 compile_branches-returns-in_err-location-clause-built g t c = IfOk-from_err _ _ c.from_residual-in_err-location.ensures.0
 
 pub compile_branches-returns-in_err-location-clause-refused : goal.compile_branches-returns-in_err-location-clause-refused
 compile_branches-returns-in_err-location-clause-refused g t c =
-    exit _ _ _ c.from_residual-in_err-location.ensures.1 (λ e q. subst
-    (λ all. RefusesEach (kit g.L.Leaf.Leaf g.M.Engine.RegexEngine) all c.args.place.now c.args.meter.now c.loop-i.meter e)
+    exit _ _ _ c.from_residual-in_err-location.ensures.1 (λ e q. subst (λ all. RefusesEach (kit g.L.Leaf.Leaf g.M.Engine.RegexEngine) all c.args.place.now c.args.meter.now c.loop-i.meter e)
     (ap (λ l. numbered (map view l)) c.deref-schema-items.ensures.value ∙ ap numbered (sym (items_list-view c.args.items.now.items)))
-    (entries_memory (kit g.L.Leaf.Leaf g.M.Engine.RegexEngine) g.N.BuiltNode.answers c.args.place.now
-    (numbered (map view c.deref-schema-items.result.now)) c.args.meter.now c.loop-i.nodes.items (branches_from c.loop-i.i c.deref-schema-items.result.now) _ e _ q c.loop-i.invariant))
+    (entries_memory c.loop-i.invariant e q))
 
 pub compile_branches-returns-in_err-node-clause-built : goal.compile_branches-returns-in_err-node-clause-built
 compile_branches-returns-in_err-node-clause-built g t c = IfOk-from_err _ _ c.from_residual-in_err-node.ensures.0
 
 pub compile_branches-returns-in_err-node-clause-refused : goal.compile_branches-returns-in_err-node-clause-refused
 compile_branches-returns-in_err-node-clause-refused g t c =
-    exit _ _ _ c.from_residual-in_err-node.ensures.1 (λ e q. subst (λ all. RefusesEach
-    (kit g.L.Leaf.Leaf g.M.Engine.RegexEngine) all c.args.place.now c.args.meter.now c.compile_schema.new.meter e)
+    exit _ _ _ c.from_residual-in_err-node.ensures.1 (λ e q. subst (λ all. RefusesEach (kit g.L.Leaf.Leaf g.M.Engine.RegexEngine) all c.args.place.now c.args.meter.now c.compile_schema.new.meter e)
     (ap (λ l. numbered (map view l)) c.deref-schema-items.ensures.value ∙ ap numbered (sym (items_list-view c.args.items.now.items)))
-    (entry_refused (kit g.L.Leaf.Leaf g.M.Engine.RegexEngine) g.N.BuiltNode.answers c.args.place.now (numbered (map view c.deref-schema-items.result.now)) c.args.meter.now
-    (decimal c.loop-i.i, view c.schema-item.result) (branches_from c.loop-i.i c.deref-schema-items.result.now) (branches_from (c.loop-i.i + 1) c.deref-schema-items.result.now)
-    (next_branch c.loop-i.i c.deref-schema-items.result.now c.schema-item.result c.loop-i-test.true c.schema-item.is) c.loop-i.nodes.items _ _ c.in_ok-location.location c.in_ok-location.ensures c.loop-i.invariant e _ q c.in_err-node.ensures.refused))
+    (entry_refused c.loop-i.invariant (next_branch c.loop-i.i c.deref-schema-items.result.now c.schema-item.result c.loop-i-test.true c.schema-item.is) c.in_ok-location.ensures
+    c.in_err-node.ensures.refused e q))
 
 pub compile_branches-returns-in_err-append-clause-built : goal.compile_branches-returns-in_err-append-clause-built
 compile_branches-returns-in_err-append-clause-built g t c = IfOk-from_err _ _ c.from_residual-in_err-append.ensures.0
 
 pub compile_branches-returns-in_err-append-clause-refused : goal.compile_branches-returns-in_err-append-clause-refused
 compile_branches-returns-in_err-append-clause-refused g t c =
-    exit _ _ _ c.from_residual-in_err-append.ensures.1 (λ e q. subst (λ all. RefusesEach
-    (kit g.L.Leaf.Leaf g.M.Engine.RegexEngine) all c.args.place.now c.args.meter.now c.compile_schema.new.meter e)
+    exit _ _ _ c.from_residual-in_err-append.ensures.1 (λ e q. subst (λ all. RefusesEach (kit g.L.Leaf.Leaf g.M.Engine.RegexEngine) all c.args.place.now c.args.meter.now c.compile_schema.new.meter e)
     (ap (λ l. numbered (map view l)) c.deref-schema-items.ensures.value ∙ ap numbered (sym (items_list-view c.args.items.now.items)))
-    (entry_memory (kit g.L.Leaf.Leaf g.M.Engine.RegexEngine) g.N.BuiltNode.answers c.args.place.now (numbered (map view c.deref-schema-items.result.now)) c.args.meter.now
-    (decimal c.loop-i.i, view c.schema-item.result) (branches_from c.loop-i.i c.deref-schema-items.result.now) (branches_from (c.loop-i.i + 1) c.deref-schema-items.result.now)
-    (next_branch c.loop-i.i c.deref-schema-items.result.now c.schema-item.result c.loop-i-test.true c.schema-item.is) c.loop-i.nodes.items _ _ c.in_ok-location.location c.in_ok-location.ensures c.loop-i.invariant c.in_ok-node.node c.in_ok-node.ensures.built e _ q))
+    (entry_memory c.loop-i.invariant (next_branch c.loop-i.i c.deref-schema-items.result.now c.schema-item.result c.loop-i-test.true c.schema-item.is) c.in_ok-location.ensures
+    c.in_ok-node.ensures.built e q))
 
 pub compile_branches-loop-i-smaller : goal.compile_branches-loop-i-smaller
 compile_branches-loop-i-smaller g t c = falls _ _ c.loop-i-test.true
 
 pub compile_branches-loop-i-preserved : goal.compile_branches-loop-i-preserved
 compile_branches-loop-i-preserved g t c =
-    one_more_entry (kit g.L.Leaf.Leaf g.M.Engine.RegexEngine) g.N.BuiltNode.answers c.args.place.now (numbered (map view c.deref-schema-items.result.now)) c.args.meter.now
-    (decimal c.loop-i.i, view c.schema-item.result) (branches_from c.loop-i.i c.deref-schema-items.result.now) (branches_from (c.loop-i.i + 1) c.deref-schema-items.result.now)
-    (next_branch c.loop-i.i c.deref-schema-items.result.now c.schema-item.result c.loop-i-test.true c.schema-item.is) c.loop-i.nodes.items _ _ c.in_ok-location.location c.in_ok-location.ensures c.loop-i.invariant c.in_ok-node.node c.in_ok-node.ensures.built _ c.in_ok-append.ensures.items
+    one_more_entry c.loop-i.invariant (next_branch c.loop-i.i c.deref-schema-items.result.now c.schema-item.result c.loop-i-test.true c.schema-item.is)
+    c.in_ok-location.ensures c.in_ok-node.ensures.built c.in_ok-append.ensures.items
 
 pub compile_branches-returns-clause-built : goal.compile_branches-returns-clause-built
 compile_branches-returns-clause-built g t c =
     subst (λ all. AreBuilt (kit g.L.Leaf.Leaf g.M.Engine.RegexEngine) g.N.BuiltNode.answers c.loop-i.nodes.items all c.args.place.now c.args.meter.now c.loop-i.meter)
     (ap (λ l. numbered (map view l)) c.deref-schema-items.ensures.value ∙ ap numbered (sym (items_list-view c.args.items.now.items)))
-    (entries_built (kit g.L.Leaf.Leaf g.M.Engine.RegexEngine) g.N.BuiltNode.answers c.args.place.now
-    (numbered (map view c.deref-schema-items.result.now)) c.args.meter.now c.loop-i.nodes.items (branches_from c.loop-i.i c.deref-schema-items.result.now) _
-    (no_branch c.loop-i.i c.deref-schema-items.result.now c.loop-i-test.false) c.loop-i.invariant)
+    (entries_built c.loop-i.invariant (no_branch c.loop-i.i c.deref-schema-items.result.now c.loop-i-test.false))
 
 pub compile_branches-returns-clause-refused : goal.compile_branches-returns-clause-refused
 compile_branches-returns-clause-refused g t c = tt
@@ -298,7 +260,7 @@ compile_object-returns-in_err-keywords-clause-built g t c = IfOk-from_err _ _ c.
 
 pub compile_object-returns-in_err-keywords-clause-refused : goal.compile_object-returns-in_err-keywords-clause-refused
 compile_object-returns-in_err-keywords-clause-refused g t c =
-    exit _ _ _ c.from_residual-in_err-keywords.ensures.1 (λ e q. refuses_memory _ _ _ _ e _ q (within_exactly _ _ _ c.in_ok-parts.ensures.built.spends))
+    exit _ _ _ c.from_residual-in_err-keywords.ensures.1 (refuses_memory (within_exactly c.in_ok-parts.ensures.built.spends))
 
 pub compile_object-returns-clause-built : goal.compile_object-returns-clause-built
 compile_object-returns-clause-built g t c =
@@ -316,15 +278,12 @@ pub compile_parts-returns-in_err-parts-clause-built : goal.compile_parts-returns
 compile_parts-returns-in_err-parts-clause-built g t c = IfOk-from_err _ _ c.from_residual.ensures.0
 
 pub compile_parts-returns-in_err-parts-clause-refused : goal.compile_parts-returns-in_err-parts-clause-refused
-compile_parts-returns-in_err-parts-clause-refused g t c = exit _ _ _ c.from_residual.ensures.1 (λ e q. refuses_memory _ _ _ _ e _ q (within_nothing _ _))
+compile_parts-returns-in_err-parts-clause-refused g t c = exit _ _ _ c.from_residual.ensures.1 (refuses_memory within_nothing)
 
 pub compile_parts-loop-name-init : goal.compile_parts-loop-name-init
 compile_parts-loop-name-init g t c =
     record {
-      done = [];
-      built = no_parts (kit g.L.Leaf.Leaf g.M.Engine.RegexEngine) g.N.BuiltNode.answers
-          (members_view c.args.members.now.entries) c.args.place.now c.args.meter.now c.in_ok-parts.parts.items c.in_ok-parts.ensures.items;
-      rest = ap (λ l. listed (members_view l)) c.into_iter-name-iterator.ensures.into_iter_gives.0;
+      so_far = no_parts_so_far c.in_ok-parts.ensures.items (ap (λ l. listed (members_view l)) c.into_iter-name-iterator.ensures.into_iter_gives.0);
       next = tt;
       ends = tt;
     }
@@ -337,12 +296,7 @@ compile_parts-returns-in_err-location-clause-built g t c = IfOk-from_err _ _ c.f
 
 pub compile_parts-returns-in_err-location-clause-refused : goal.compile_parts-returns-in_err-location-clause-refused
 compile_parts-returns-in_err-location-clause-refused g t c =
-    exit _ _ _ c.from_residual-in_err-location.ensures.1 (λ e q. memory_among
-    (λ (x : Name × Data). member_malformations (world g.L.Leaf.Leaf g.M.Engine.RegexEngine) (members_view c.args.members.now.entries) x
-    (keyword_named (world g.L.Leaf.Leaf g.M.Engine.RegexEngine) x.0) c.args.place.now)
-    (λ (x : Name × Data). member_cost (world g.L.Leaf.Leaf g.M.Engine.RegexEngine) (members_view c.args.members.now.entries) x
-    (keyword_named (world g.L.Leaf.Leaf g.M.Engine.RegexEngine) x.0)) _ _ _ c.loop-name.invariant.done
-    (listed (members_view c.loop-name.name-iterator)) e _ q c.loop-name.invariant.rest c.loop-name.invariant.built.spends)
+    exit _ _ _ c.from_residual-in_err-location.ensures.1 (memory_so_far c.loop-name.invariant.so_far)
 
 pub compile_parts-compile_part-requires-text-name : goal.compile_parts-compile_part-requires-text-name
 compile_parts-compile_part-requires-text-name g t c κs within = c.as_str-in-loop-name.utf8
@@ -352,37 +306,14 @@ compile_parts-returns-in_err-part-clause-built g t c = IfOk-from_err _ _ c.from_
 
 pub compile_parts-returns-in_err-part-clause-refused : goal.compile_parts-returns-in_err-part-clause-refused
 compile_parts-returns-in_err-part-clause-refused g t c =
-    exit _ _ _ c.from_residual-in_err-part.ensures.1 (λ e q. refuses_among
-    (λ (x : Name × Data). member_malformations (world g.L.Leaf.Leaf g.M.Engine.RegexEngine) (members_view c.args.members.now.entries) x
-    (keyword_named (world g.L.Leaf.Leaf g.M.Engine.RegexEngine) x.0) c.args.place.now)
-    (λ (x : Name × Data). member_cost (world g.L.Leaf.Leaf g.M.Engine.RegexEngine) (members_view c.args.members.now.entries) x
-    (keyword_named (world g.L.Leaf.Leaf g.M.Engine.RegexEngine) x.0)) _ _ _ c.loop-name.invariant.done (string_bytes c.in-Some.name.now, view c.in-Some.value.now)
-    (listed (members_view c.next.new.self)) c.loop-name.meter e (ap (λ l. c.loop-name.invariant.done ++ listed (members_view l)) (sym c.in-Some.ensures.steps)
-    ∙ c.loop-name.invariant.rest) c.loop-name.invariant.built.spends
-    (subst (λ x. Refuses ((λ (x : Name × Data). member_malformations (world g.L.Leaf.Leaf g.M.Engine.RegexEngine) (members_view c.args.members.now.entries) x
-    (keyword_named (world g.L.Leaf.Leaf g.M.Engine.RegexEngine) x.0) c.args.place.now) (string_bytes c.in-Some.name.now, view c.in-Some.value.now))
-    ((λ (x : Name × Data). member_cost (world g.L.Leaf.Leaf g.M.Engine.RegexEngine) (members_view c.args.members.now.entries) x
-    (keyword_named (world g.L.Leaf.Leaf g.M.Engine.RegexEngine) x.0)) (string_bytes c.in-Some.name.now, view c.in-Some.value.now)) c.loop-name.meter c.compile_part.new.meter x)
-    (sym q) ((subst (λ n. RefusesPart (kit g.L.Leaf.Leaf g.M.Engine.RegexEngine) (known c.of-neighbours.result) n
-    (view c.in-Some.value.now) c.in_ok-location.location c.loop-name.meter c.compile_part.new.meter c.in_err-part.field-0.0) c.as_str-in-loop-name.ensures.value c.in_err-part.ensures.refused) (members_view c.args.members.now.entries) c.args.place.now (c.in_ok-location.ensures ∙ ap (λ n. c.args.place.now // n) c.as_str.ensures.value) (known_there (kit g.L.Leaf.Leaf g.M.Engine.RegexEngine) g.N.BuiltNode.answers (members_view c.args.members.now.entries) c.args.place.now (known c.of-neighbours.result) c.loop-name.invariant.done (listed (members_view c.next.new.self)) (string_bytes c.in-Some.name.now) (view c.in-Some.value.now) c.of-neighbours.ensures (ap (λ l. c.loop-name.invariant.done ++ listed (members_view l)) (sym c.in-Some.ensures.steps) ∙ c.loop-name.invariant.rest)))))
+    exit _ _ _ c.from_residual-in_err-part.ensures.1 (member_refused c.loop-name.invariant.so_far (ap (λ l. listed (members_view l)) c.in-Some.ensures.steps) c.of-neighbours.ensures
+    (c.in_ok-location.ensures ∙ ap (λ n. c.args.place.now // n) c.as_str.ensures.value) c.as_str-in-loop-name.ensures.value c.in_err-part.ensures.refused)
 
 pub compile_parts-loop-name-preserved : goal.compile_parts-loop-name-preserved
 compile_parts-loop-name-preserved g t c =
     record {
-      done = c.loop-name.invariant.done ++ (string_bytes c.in-Some.name.now, view c.in-Some.value.now) ∷ [];
-      built = (one_more_part (kit g.L.Leaf.Leaf g.M.Engine.RegexEngine) g.N.BuiltNode.answers
-          (members_view c.args.members.now.entries) c.args.place.now c.loop-name.parts.items _ c.loop-name.invariant.done c.in_ok-part.part
-          (known c.of-neighbours.result) (string_bytes c.in-Some.name.now)
-          (view c.in-Some.value.now) c.args.meter.now c.loop-name.meter c.compile_part.new.meter c.in_ok-location.location c.in_ok-append.ensures.items
-          (c.in_ok-location.ensures ∙ ap (λ n. c.args.place.now // n) c.as_str.ensures.value) c.loop-name.invariant.built
-          (subst (λ n. IsPart (kit g.L.Leaf.Leaf g.M.Engine.RegexEngine) g.N.BuiltNode.answers c.in_ok-part.part (known c.of-neighbours.result) n
-          (view c.in-Some.value.now) c.in_ok-location.location c.loop-name.meter c.compile_part.new.meter) c.as_str-in-loop-name.ensures.value c.in_ok-part.ensures.built)
-          (known_there (kit g.L.Leaf.Leaf g.M.Engine.RegexEngine) g.N.BuiltNode.answers (members_view c.args.members.now.entries) c.args.place.now
-          (known c.of-neighbours.result) c.loop-name.invariant.done (listed (members_view c.next.new.self)) (string_bytes c.in-Some.name.now)
-          (view c.in-Some.value.now) c.of-neighbours.ensures (ap (λ l. c.loop-name.invariant.done ++ listed (members_view l)) (sym c.in-Some.ensures.steps)
-          ∙ c.loop-name.invariant.rest)));
-      rest = (append_assoc c.loop-name.invariant.done ((string_bytes c.in-Some.name.now, view c.in-Some.value.now) ∷ [])
-          (listed (members_view c.next.new.self)) ∙ (ap (λ l. c.loop-name.invariant.done ++ listed (members_view l)) (sym c.in-Some.ensures.steps) ∙ c.loop-name.invariant.rest));
+      so_far = one_more_so_far c.loop-name.invariant.so_far (ap (λ l. listed (members_view l)) c.in-Some.ensures.steps) c.of-neighbours.ensures
+          (c.in_ok-location.ensures ∙ ap (λ n. c.args.place.now // n) c.as_str.ensures.value) c.as_str-in-loop-name.ensures.value c.in_ok-part.ensures.built c.in_ok-append.ensures.items;
       next = tt;
       ends = tt;
     }
@@ -392,30 +323,11 @@ compile_parts-returns-in_err-append-clause-built g t c = IfOk-from_err _ _ c.fro
 
 pub compile_parts-returns-in_err-append-clause-refused : goal.compile_parts-returns-in_err-append-clause-refused
 compile_parts-returns-in_err-append-clause-refused g t c =
-    exit _ _ _ c.from_residual-in_err-append.ensures.1 (λ e q. memory_among
-    (λ (x : Name × Data). member_malformations (world g.L.Leaf.Leaf g.M.Engine.RegexEngine) (members_view c.args.members.now.entries) x
-    (keyword_named (world g.L.Leaf.Leaf g.M.Engine.RegexEngine) x.0) c.args.place.now)
-    (λ (x : Name × Data). member_cost (world g.L.Leaf.Leaf g.M.Engine.RegexEngine) (members_view c.args.members.now.entries) x
-    (keyword_named (world g.L.Leaf.Leaf g.M.Engine.RegexEngine) x.0)) _ _ _ (c.loop-name.invariant.done ++ (string_bytes c.in-Some.name.now, view c.in-Some.value.now) ∷ [])
-    (listed (members_view c.next.new.self)) e _ q (append_assoc c.loop-name.invariant.done ((string_bytes c.in-Some.name.now, view c.in-Some.value.now) ∷ [])
-    (listed (members_view c.next.new.self)) ∙ (ap (λ l. c.loop-name.invariant.done ++ listed (members_view l)) (sym c.in-Some.ensures.steps) ∙ c.loop-name.invariant.rest))
-    (one_more_part (kit g.L.Leaf.Leaf g.M.Engine.RegexEngine) g.N.BuiltNode.answers
-    (members_view c.args.members.now.entries) c.args.place.now c.loop-name.parts.items _ c.loop-name.invariant.done c.in_ok-part.part
-    (known c.of-neighbours.result) (string_bytes c.in-Some.name.now)
-    (view c.in-Some.value.now) c.args.meter.now c.loop-name.meter c.compile_part.new.meter c.in_ok-location.location refl
-    (c.in_ok-location.ensures ∙ ap (λ n. c.args.place.now // n) c.as_str.ensures.value) c.loop-name.invariant.built
-    (subst (λ n. IsPart (kit g.L.Leaf.Leaf g.M.Engine.RegexEngine) g.N.BuiltNode.answers c.in_ok-part.part (known c.of-neighbours.result) n
-    (view c.in-Some.value.now) c.in_ok-location.location c.loop-name.meter c.compile_part.new.meter) c.as_str-in-loop-name.ensures.value c.in_ok-part.ensures.built)
-    (known_there (kit g.L.Leaf.Leaf g.M.Engine.RegexEngine) g.N.BuiltNode.answers (members_view c.args.members.now.entries) c.args.place.now
-    (known c.of-neighbours.result) c.loop-name.invariant.done (listed (members_view c.next.new.self)) (string_bytes c.in-Some.name.now)
-    (view c.in-Some.value.now) c.of-neighbours.ensures (ap (λ l. c.loop-name.invariant.done ++ listed (members_view l)) (sym c.in-Some.ensures.steps) ∙ c.loop-name.invariant.rest))).spends)
+    exit _ _ _ c.from_residual-in_err-append.ensures.1 (memory_so_far (one_more_so_far c.loop-name.invariant.so_far (ap (λ l. listed (members_view l)) c.in-Some.ensures.steps) c.of-neighbours.ensures
+    (c.in_ok-location.ensures ∙ ap (λ n. c.args.place.now // n) c.as_str.ensures.value) c.as_str-in-loop-name.ensures.value c.in_ok-part.ensures.built refl))
 
 pub compile_parts-returns-clause-built : goal.compile_parts-returns-clause-built
-compile_parts-returns-clause-built g t c =
-    subst (λ l. PartsAreBuilt (kit g.L.Leaf.Leaf g.M.Engine.RegexEngine) g.N.BuiltNode.answers
-    (members_view c.args.members.now.entries) c.loop-name.parts.items l c.args.place.now c.args.meter.now c.loop-name.meter)
-    (sym (append-nil c.loop-name.invariant.done) ∙ ap (λ l. c.loop-name.invariant.done ++ listed (members_view l)) (sym c.in-None.ensures.steps.0)
-    ∙ c.loop-name.invariant.rest) c.loop-name.invariant.built
+compile_parts-returns-clause-built g t c = parts_are_built c.loop-name.invariant.so_far (ap (λ l. listed (members_view l)) c.in-None.ensures.steps.0)
 
 pub compile_parts-returns-clause-refused : goal.compile_parts-returns-clause-refused
 compile_parts-returns-clause-refused g t c = tt
@@ -424,18 +336,17 @@ pub compile_each-returns-in_err-keywords-clause-built : goal.compile_each-return
 compile_each-returns-in_err-keywords-clause-built g t c = IfOk-from_err _ _ c.from_residual.ensures.0
 
 pub compile_each-returns-in_err-keywords-clause-refused : goal.compile_each-returns-in_err-keywords-clause-refused
-compile_each-returns-in_err-keywords-clause-refused g t c = exit _ _ _ c.from_residual.ensures.1 (λ e q. refuses_memory _ _ _ _ e _ q (within_nothing _ _))
+compile_each-returns-in_err-keywords-clause-refused g t c = exit _ _ _ c.from_residual.ensures.1 (refuses_memory within_nothing)
 
 pub compile_each-loop-name-init : goal.compile_each-loop-name-init
-compile_each-loop-name-init g t c = record {
-  so_far = none_so_far (kit g.L.Leaf.Leaf g.M.Engine.RegexEngine) g.N.BuiltNode.answers (members_view c.args.members.now.entries) c.args.place.now
-      (planned c.args.plan) c.args.meter.now c.in_ok-keywords.keywords.items _
-      c.in_ok-keywords.ensures.items (ap (λ l. listed (members_view l)) c.into_iter-name-iterator.ensures.into_iter_gives.0);
-  before = [];
-  entries = c.into_iter-name-iterator.ensures.into_iter_gives.0;
-  next = tt;
-  ends = tt;
-}
+compile_each-loop-name-init g t c =
+    record {
+      so_far = none_so_far c.in_ok-keywords.ensures.items (ap (λ l. listed (members_view l)) c.into_iter-name-iterator.ensures.into_iter_gives.0);
+      before = [];
+      entries = c.into_iter-name-iterator.ensures.into_iter_gives.0;
+      next = tt;
+      ends = tt;
+    }
 
 pub compile_each-join-requires-text-segment : goal.compile_each-join-requires-text-segment
 compile_each-join-requires-text-segment g t c κs = c.as_str-name.utf8
@@ -445,9 +356,7 @@ compile_each-returns-in_err-location-clause-built g t c = IfOk-from_err _ _ c.fr
 
 pub compile_each-returns-in_err-location-clause-refused : goal.compile_each-returns-in_err-location-clause-refused
 compile_each-returns-in_err-location-clause-refused g t c =
-    exit _ _ _ c.from_residual-in_err-location.ensures.1 (λ e q. memory_so_far (kit g.L.Leaf.Leaf g.M.Engine.RegexEngine) g.N.BuiltNode.answers
-    (members_view c.args.members.now.entries) c.args.place.now (planned c.args.plan) c.args.meter.now c.loop-name.meter c.loop-name.keywords.items
-    (listed (members_view c.loop-name.name-iterator)) c.loop-name.invariant.so_far e _ q)
+    exit _ _ _ c.from_residual-in_err-location.ensures.1 (memory_so_far c.loop-name.invariant.so_far.built)
 
 pub compile_each-compile_part-requires : goal.compile_each-compile_part-requires
 compile_each-compile_part-requires g t c κs within =
@@ -460,25 +369,13 @@ compile_each-returns-in_err-part-clause-built g t c = IfOk-from_err _ _ c.from_r
 
 pub compile_each-returns-in_err-part-clause-refused : goal.compile_each-returns-in_err-part-clause-refused
 compile_each-returns-in_err-part-clause-refused g t c =
-    exit _ _ _ c.from_residual-in_err-part.ensures.1 (λ e q. member_refused (kit g.L.Leaf.Leaf g.M.Engine.RegexEngine) g.N.BuiltNode.answers
-    (members_view c.args.members.now.entries) c.args.place.now (planned c.args.plan) c.args.meter.now c.loop-name.meter c.loop-name.keywords.items
-    (listed (members_view c.loop-name.name-iterator)) c.loop-name.invariant.so_far
-    (listed (members_view c.next.new.self)) (known c.of-neighbours.result) (string_bytes c.in-Some.name.now) (view c.in-Some.value.now) c.in_ok-location.location c.compile_part.new.meter
-    (ap (λ l. listed (members_view l)) c.in-Some.ensures.steps) c.of-neighbours.ensures (c.in_ok-location.ensures ∙ ap (λ n. c.args.place.now // n) c.as_str-name.ensures.value)
-    e c.in_err-part.field-0.0 q (subst (λ n. RefusesPart (kit g.L.Leaf.Leaf g.M.Engine.RegexEngine) (known c.of-neighbours.result) n (view c.in-Some.value.now) c.in_ok-location.location
-    c.loop-name.meter c.compile_part.new.meter c.in_err-part.field-0.0) c.as_str-name.ensures.value c.in_err-part.ensures.refused))
+    exit _ _ _ c.from_residual-in_err-part.ensures.1 (member_refused c.loop-name.invariant.so_far.built (ap (λ l. listed (members_view l)) c.in-Some.ensures.steps) c.of-neighbours.ensures
+    (c.in_ok-location.ensures ∙ ap (λ n. c.args.place.now // n) c.as_str-name.ensures.value) c.as_str-name.ensures.value c.in_err-part.ensures.refused)
 
 pub compile_each-loop-name-preserved : goal.compile_each-loop-name-preserved
 compile_each-loop-name-preserved g t c = record {
-  so_far = one_more_so_far (kit g.L.Leaf.Leaf g.M.Engine.RegexEngine) g.N.BuiltNode.answers (members_view c.args.members.now.entries) c.args.place.now
-      (planned c.args.plan) c.args.meter.now c.loop-name.meter c.loop-name.keywords.items
-      (listed (members_view c.loop-name.name-iterator)) c.loop-name.invariant.so_far
-      (listed (members_view c.next.new.self)) (known c.of-neighbours.result) (string_bytes c.in-Some.name.now) (view c.in-Some.value.now) c.in_ok-location.location c.compile_part.new.meter
-      (ap (λ l. listed (members_view l)) c.in-Some.ensures.steps) c.of-neighbours.ensures (c.in_ok-location.ensures ∙ ap (λ n. c.args.place.now // n) c.as_str-name.ensures.value)
-      c.in_ok-part.part
-      (subst (λ n. IsPart (kit g.L.Leaf.Leaf g.M.Engine.RegexEngine) g.N.BuiltNode.answers c.in_ok-part.part (known c.of-neighbours.result) n (view c.in-Some.value.now) c.in_ok-location.location
-      c.loop-name.meter c.compile_part.new.meter) c.as_str-name.ensures.value c.in_ok-part.ensures.built)
-      c.append_keyword.new.keywords.items c.in_ok-append_keyword.ensures;
+  so_far = one_more_meant c.loop-name.invariant.so_far (ap (λ l. listed (members_view l)) c.in-Some.ensures.steps) c.of-neighbours.ensures
+      (c.in_ok-location.ensures ∙ ap (λ n. c.args.place.now // n) c.as_str-name.ensures.value) c.as_str-name.ensures.value c.in_ok-part.ensures.built c.in_ok-append_keyword.ensures;
   before = c.loop-name.invariant.before ++ (c.in-Some.name.now, c.in-Some.value.now) ∷ [];
   entries = append_assoc c.loop-name.invariant.before ((c.in-Some.name.now, c.in-Some.value.now) ∷ []) c.next.new.self
       ∙ ap (λ l. c.loop-name.invariant.before ++ l) (sym c.in-Some.ensures.steps) ∙ c.loop-name.invariant.entries;
@@ -491,20 +388,12 @@ compile_each-returns-in_err-append_keyword-clause-built g t c = IfOk-from_err _ 
 
 pub compile_each-returns-in_err-append_keyword-clause-refused : goal.compile_each-returns-in_err-append_keyword-clause-refused
 compile_each-returns-in_err-append_keyword-clause-refused g t c =
-    exit _ _ _ c.from_residual-in_err-append_keyword.ensures.1 (λ e q. memory_past_member (kit g.L.Leaf.Leaf g.M.Engine.RegexEngine) g.N.BuiltNode.answers
-    (members_view c.args.members.now.entries) c.args.place.now (planned c.args.plan) c.args.meter.now c.loop-name.meter c.loop-name.keywords.items
-    (listed (members_view c.loop-name.name-iterator)) c.loop-name.invariant.so_far
-    (listed (members_view c.next.new.self)) (known c.of-neighbours.result) (string_bytes c.in-Some.name.now) (view c.in-Some.value.now) c.in_ok-location.location c.compile_part.new.meter
-    (ap (λ l. listed (members_view l)) c.in-Some.ensures.steps) c.of-neighbours.ensures (c.in_ok-location.ensures ∙ ap (λ n. c.args.place.now // n) c.as_str-name.ensures.value)
-    c.in_ok-part.part
-    (subst (λ n. IsPart (kit g.L.Leaf.Leaf g.M.Engine.RegexEngine) g.N.BuiltNode.answers c.in_ok-part.part (known c.of-neighbours.result) n (view c.in-Some.value.now) c.in_ok-location.location
-    c.loop-name.meter c.compile_part.new.meter) c.as_str-name.ensures.value c.in_ok-part.ensures.built) e _ q)
+    exit _ _ _ c.from_residual-in_err-append_keyword.ensures.1 (memory_so_far (one_more_so_far c.loop-name.invariant.so_far.built (ap (λ l. listed
+    (members_view l)) c.in-Some.ensures.steps) c.of-neighbours.ensures
+    (c.in_ok-location.ensures ∙ ap (λ n. c.args.place.now // n) c.as_str-name.ensures.value) c.as_str-name.ensures.value c.in_ok-part.ensures.built refl))
 
 pub compile_each-returns-clause-built : goal.compile_each-returns-clause-built
-compile_each-returns-clause-built g t c =
-    each_is_built (kit g.L.Leaf.Leaf g.M.Engine.RegexEngine) g.N.BuiltNode.answers (members_view c.args.members.now.entries) c.args.place.now
-    (planned c.args.plan) c.args.meter.now c.loop-name.meter c.loop-name.keywords.items
-    (listed (members_view c.loop-name.name-iterator)) c.loop-name.invariant.so_far (ap (λ l. listed (members_view l)) c.in-None.ensures.steps.0)
+compile_each-returns-clause-built g t c = each_is_built c.loop-name.invariant.so_far (ap (λ l. listed (members_view l)) c.in-None.ensures.steps.0)
 
 pub compile_each-returns-clause-refused : goal.compile_each-returns-clause-refused
 compile_each-returns-clause-refused g t c = tt
@@ -513,23 +402,23 @@ pub compile_places-returns-in_err-place-in-Itself-clause-built : goal.compile_pl
 compile_places-returns-in_err-place-in-Itself-clause-built g t c = IfOk-from_err _ _ c.from_residual.ensures.0
 
 pub compile_places-returns-in_err-place-in-Itself-clause-refused : goal.compile_places-returns-in_err-place-in-Itself-clause-refused
-compile_places-returns-in_err-place-in-Itself-clause-refused g t c = exit _ _ _ c.from_residual.ensures.1 (λ e q. refuses_memory _ _ _ _ e _ q (within_nothing _ _))
+compile_places-returns-in_err-place-in-Itself-clause-refused g t c = exit _ _ _ c.from_residual.ensures.1 (refuses_memory within_nothing)
 
 pub compile_places-returns-in_err-node-in-Itself-clause-built : goal.compile_places-returns-in_err-node-in-Itself-clause-built
 compile_places-returns-in_err-node-in-Itself-clause-built g t c = IfOk-from_err _ _ c.from_residual-in_err-node-in-Itself.ensures.0
 
 pub compile_places-returns-in_err-node-in-Itself-clause-refused : goal.compile_places-returns-in_err-node-in-Itself-clause-refused
 compile_places-returns-in_err-node-in-Itself-clause-refused g t c =
-    exit _ _ _ c.from_residual-in_err-node-in-Itself.ensures.1 (λ e q. itself_is_refused (kit g.L.Leaf.Leaf g.M.Engine.RegexEngine) g.N.BuiltNode.answers
-    (view c.args.value.now) c.args.location.now c.args.meter.now c.args.reads [] c.compile_schema.new.meter _ c.in_ok-place-in-Itself.ensures c.in-Itself.is e _ q c.in_err-node-in-Itself.ensures.refused)
+    exit _ _ _ c.from_residual-in_err-node-in-Itself.ensures.1 (itself_is_refused (kit g.L.Leaf.Leaf g.M.Engine.RegexEngine) g.N.BuiltNode.answers
+    (view c.args.value.now) c.args.location.now c.args.meter.now c.args.reads [] c.compile_schema.new.meter _ c.in_ok-place-in-Itself.ensures c.in-Itself.is c.in_err-node-in-Itself.ensures.refused)
 
 pub compile_places-returns-in_err-one-in-Itself-clause-built : goal.compile_places-returns-in_err-one-in-Itself-clause-built
 compile_places-returns-in_err-one-in-Itself-clause-built g t c = IfOk-from_err _ _ c.from_residual-in_err-one-in-Itself.ensures.0
 
 pub compile_places-returns-in_err-one-in-Itself-clause-refused : goal.compile_places-returns-in_err-one-in-Itself-clause-refused
 compile_places-returns-in_err-one-in-Itself-clause-refused g t c =
-    exit _ _ _ c.from_residual-in_err-one-in-Itself.ensures.1 (λ e q. itself_lost (kit g.L.Leaf.Leaf g.M.Engine.RegexEngine) g.N.BuiltNode.answers
-    (view c.args.value.now) c.args.location.now c.args.meter.now c.args.reads [] c.compile_schema.new.meter _ c.in_ok-place-in-Itself.ensures c.in-Itself.is _ c.in_ok-node-in-Itself.ensures.built e _ q)
+    exit _ _ _ c.from_residual-in_err-one-in-Itself.ensures.1 (itself_lost (kit g.L.Leaf.Leaf g.M.Engine.RegexEngine) g.N.BuiltNode.answers
+    (view c.args.value.now) c.args.location.now c.args.meter.now c.args.reads [] c.compile_schema.new.meter _ c.in_ok-place-in-Itself.ensures c.in-Itself.is _ c.in_ok-node-in-Itself.ensures.built)
 
 pub compile_places-returns-in_default : goal.compile_places-returns-in_default
 compile_places-returns-in_default g t c =

@@ -1,15 +1,12 @@
 use Rattle.std.proofs.Common.{◌≡◌, ◌++◌, List, map, String, Global}
 use Rattle.serde_json.specs.declared.value.Value.{Value}
-use Rattle.serde_json.specs.Data.{Data}
 use Rattle.serde_json.specs.View.{view, members_view}
-use Rattle.olk_spec.specs.Names.{Name}
 use Rattle.olk_spec.specs.Schemas.{listed, numbered}
 use Rattle.olk_base.specs.Kit.{kit}
 use Rattle.olk_build.specs.Building.{entries_read}
 use Rattle.olk_build.proofs.Built.{EntriesSoFar, InnerSoFar, branches_from}
-use Rattle.olk_build.specs.Placing.{PartsAreBuilt}
 use Rattle.olk_meaning.specs.Plans.{planned}
-use Rattle.olk_build.proofs.Each.{EachSoFar}
+use Rattle.olk_build.proofs.Each.{PartsSoFar, EachSoFar}
 use Rattle.olk_build.proofs.build.+compile.Given as goal
 
 -- the nodes so far are built for those of the entries so far that are read
@@ -36,9 +33,8 @@ invariant-compile_branches-loop-i g l =
 -- the parts so far are built for the members so far
 abbrev pub invariant-compile_parts-loop-name : goal.invariant-compile_parts-loop-name
 invariant-compile_parts-loop-name g l = record {
-  done : List (Name × Data);
-  built : PartsAreBuilt (kit g.L.Leaf.Leaf g.M.Engine.RegexEngine) g.N.BuiltNode.answers (members_view l.members.entries) l.parts.items done l.fn.place l.fn.meter l.meter;
-  rest : done ++ listed (members_view l.name-iterator) ≡ listed (members_view l.members.entries);
+  so_far : PartsSoFar (kit g.L.Leaf.Leaf g.M.Engine.RegexEngine) g.N.BuiltNode.answers (members_view l.members.entries) l.fn.place l.parts.items l.fn.meter
+      (listed (members_view l.name-iterator)) l.meter;
   next : (goal.iterator-compile_parts-loop-name g).can_next l.name-iterator;
   ends : (goal.iterator-compile_parts-loop-name g).is_finite l.name-iterator;
 }

@@ -9,7 +9,7 @@ use Rattle.olk_read.proofs.Spending.{within_nothing}
 use Rattle.olk_build.proofs.build.compile.Goals as goal
 
 pub returns-in_err-location-clause-costs_at_most : goal.returns-in_err-location-clause-costs_at_most
-returns-in_err-location-clause-costs_at_most g c = let p = err_from_is_err_and c.from_residual.result c.from_residual.ensures.1 in rw p.1 (within_nothing _ _)
+returns-in_err-location-clause-costs_at_most g c = let p = err_from_is_err_and c.from_residual.result c.from_residual.ensures.1 in rw p.1 within_nothing
 
 pub returns-in_err-compile_schema-clause-refused : goal.returns-in_err-compile_schema-clause-refused
 returns-in_err-compile_schema-clause-refused g c =

@@ -7,7 +7,7 @@ use Rattle.olk_read.proofs.Spending.{exit, refuses_memory, within_nothing}
 use Rattle.olk_build.proofs.build.compile_declared.Goals as goal
 
 pub returns-in_err-location-clause-refused : goal.returns-in_err-location-clause-refused
-returns-in_err-location-clause-refused g c = exit _ _ _ c.from_residual.ensures.1 (λ e q. refuses_memory _ _ _ _ e _ q (within_nothing _ _))
+returns-in_err-location-clause-refused g c = exit _ _ _ c.from_residual.ensures.1 (refuses_memory within_nothing)
 
 pub returns-in_err-compile_entries-clause-refused : goal.returns-in_err-compile_entries-clause-refused
 returns-in_err-compile_entries-clause-refused g c =

@@ -12,8 +12,8 @@ use Rattle.olk_build.proofs.build.compile_member.Goals as goal
 
 pub returns-in_err-location-clause-refused : goal.returns-in_err-location-clause-refused
 returns-in_err-location-clause-refused g c =
-    exit _ _ _ c.from_residual.ensures.1 (λ e q. refuses_part_memory (kit g.L.Leaf.Leaf g.M.Engine.RegexEngine) g.N.BuiltNode.answers _ c.args.name.now
-    (view c.args.value.now) (c.args.ctx.now.place // c.args.name.now) c.args.ctx.now.meter.now e _ q)
+    exit _ _ _ c.from_residual.ensures.1 (refuses_part_memory (kit g.L.Leaf.Leaf g.M.Engine.RegexEngine) g.N.BuiltNode.answers _ c.args.name.now
+    (view c.args.value.now) (c.args.ctx.now.place // c.args.name.now) c.args.ctx.now.meter.now)
 
 pub returns-clause-built : goal.returns-clause-built
 returns-clause-built g c =

@@ -1,7 +1,7 @@
 use Rattle.std.proofs.Common.{ℕ, option_map, is_some}
 use Rattle.serde_json.specs.View.{view}
 use Rattle.olk_tree.specs.Additional.{sides_of}
-use Rattle.olk_check.proofs.Choices.{Leaves, Spoken, patterns_from, patterns_left}
+use Rattle.olk_check.proofs.Choices.{Leaves, Spoken, patterns_from}
 use Rattle.olk_check.proofs.additional_properties.patterns_accept.Given as goal
 
 abbrev pub invariant-loop-index : goal.invariant-loop-index
@@ -15,4 +15,4 @@ invariant-loop-index g l =
       name = l.name;
       value = view l.value;
     } in
-    Leaves (patterns_from w (is_some l.declared) 0 w.sides.patterns) (patterns_left w l.spoken l.index) l.initial.ctx l.ctx
+    Leaves w (patterns_from w (is_some l.declared) 0 w.sides.patterns) l.spoken l.index l.initial.ctx l.ctx

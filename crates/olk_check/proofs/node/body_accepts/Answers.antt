@@ -1,10 +1,8 @@
-use Rattle.std.proofs.Common.{rules, sym, subst}
+use Rattle.std.proofs.Common.{rules}
 use Rattle.olk_base.specs.Kit.{kit}
 use Rattle.olk_base.specs.Nodes.{data_of}
 use Rattle.olk_tree.specs.Validators.{validator_means}
-use Rattle.olk_tree.specs.Bodies.{body_means}
-use Rattle.olk_tree.specs.Questions.{every}
-use Rattle.olk_check.specs.Asks.{Asks}
+use Rattle.olk_check.proofs.Walks.{keywords_asked}
 use Rattle.olk_check.proofs.node.body_accepts.Goals as goal
 
 pub returns-in-False : goal.returns-in-False
@@ -12,7 +10,4 @@ returns-in-False g c = search rules
 
 pub returns-in-Keywords : goal.returns-in-Keywords
 returns-in-Keywords g c =
-    subst (λ b. Asks c.args.ctx.now c.keywords_accept.new.ctx (body_means (validator_means (kit g.K.Leaf g.R.RegexEngine) g.N.Means.means) b
-    (data_of c.args.node)) c.keywords_accept.result) (sym c.in-Keywords.is)
-    (subst (λ l. Asks c.args.ctx.now c.keywords_accept.new.ctx (every (λ k. validator_means (kit g.K.Leaf g.R.RegexEngine) g.N.Means.means k
-    (data_of c.args.node)) l) c.keywords_accept.result) c.deref.ensures.value c.keywords_accept.ensures)
+    keywords_asked (validator_means (kit g.K.Leaf g.R.RegexEngine) g.N.Means.means) (data_of c.args.node) c.in-Keywords.is c.deref.ensures.value c.keywords_accept.ensures

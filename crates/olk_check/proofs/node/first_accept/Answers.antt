@@ -1,14 +1,9 @@
-use Rattle.std.proofs.Common.{sym, subst}
-use Rattle.olk_base.specs.Kit.{kit}
-use Rattle.olk_base.specs.Nodes.{data_of}
-use Rattle.olk_tree.specs.Validators.{answers_of, validator_means}
-use Rattle.olk_check.specs.Asks.{Asks}
+use Rattle.olk_tree.specs.Validators.{answers_of}
 use Rattle.olk_check.proofs.Answered.{answered_one, first_one, by_first, said}
 use Rattle.olk_check.proofs.node.first_accept.Goals as goal
 
 pub returns-in-Leaf : goal.returns-in-Leaf
 unfolding answers_of
 returns-in-Leaf g c =
-    first_one (λ k. validator_means (kit g.K.Leaf g.R.RegexEngine) g.N.Means.means k (data_of c.args.node)) c.args.ctx.now c.args.ctx.now c.one_if.result (by_first c.index-keywords-0.is c.requires)
-    (answered_one c.one_if.ensures (subst (λ k. Asks c.args.ctx.now c.args.ctx.now
-    (validator_means (kit g.K.Leaf g.R.RegexEngine) g.N.Means.means k (data_of c.args.node)) c.is_valid.result) (sym c.in-Leaf.is) (said c.args.ctx.now c.is_valid.ensures)))
+    first_one _ _ _ _ (by_first c.index-keywords-0.is c.requires) c.in-Leaf.is
+    (answered_one c.one_if.ensures (said c.args.ctx.now c.is_valid.ensures))

@@ -1,61 +1,49 @@
-use Rattle.std.proofs.Common.{sym, ap, subst, ◌∙◌}
+use Rattle.std.proofs.Common.{refl, sym, ap, subst, ◌∙◌}
 use Rattle.olk_base.specs.Kit.{kit}
 use Rattle.olk_base.specs.Nodes.{data_of}
 use Rattle.olk_tree.specs.Validators.{answers_of, validator_means}
 use Rattle.olk_tree.specs.Questions.{Question}
 use Rattle.olk_tree.specs.declared.node.KeywordOver.TheVariants as keyword
-use Rattle.olk_check.specs.Asks.{Asks}
-use Rattle.olk_check.specs.Together.{AsksOne, AsksTwo}
+use Rattle.olk_check.specs.Together.{AsksTwo}
 use Rattle.olk_check.proofs.Answered.{answered_one, first_one, first_two, by_first, by_first_two}
 use Rattle.olk_check.proofs.node.first_accept_apart.Goals as goal
 
 pub returns-else-keywords-gt1 : goal.returns-else-keywords-gt1
 unfolding answers_of
 returns-else-keywords-gt1 g c =
-    first_one (λ k. validator_means (kit g.K.Leaf g.R.RegexEngine) g.N.Means.means k (data_of c.args.node)) c.args.ctx.now c.properties_accept.new.ctx c.properties_accept.result
-    (by_first c.index-keywords-0.is c.requires)
-    (subst (λ k. AsksOne c.args.ctx.now c.properties_accept.new.ctx (validator_means (kit g.K.Leaf g.R.RegexEngine) g.N.Means.means k (data_of c.args.node)) c.properties_accept.result)
-    (sym c.in-Properties.is) c.properties_accept.ensures)
+    first_one _ _ _ _ (by_first c.index-keywords-0.is c.requires) c.in-Properties.is
+    c.properties_accept.ensures
 
 pub returns-in-PropertiesWithRequired2 : goal.returns-in-PropertiesWithRequired2
 unfolding answers_of
 returns-in-PropertiesWithRequired2 g c =
-    first_one (λ k. validator_means (kit g.K.Leaf g.R.RegexEngine) g.N.Means.means k
-    (data_of c.args.node)) c.args.ctx.now c.properties_with_required2_accept.new.ctx c.properties_with_required2_accept.result (by_first c.index-keywords-0.is c.requires)
-    (subst (λ k. AsksOne c.args.ctx.now c.properties_with_required2_accept.new.ctx
-    (validator_means (kit g.K.Leaf g.R.RegexEngine) g.N.Means.means k (data_of c.args.node)) c.properties_with_required2_accept.result)
-    (ap (λ p. keyword.PropertiesWithRequired2 record c.in-PropertiesWithRequired2.properties { value = p }) c.deref.ensures ∙ sym c.in-PropertiesWithRequired2.is) c.properties_with_required2_accept.ensures)
+    first_one _ _ _ _ (by_first c.index-keywords-0.is c.requires) (c.in-PropertiesWithRequired2.is ∙ ap
+    (λ p. keyword.PropertiesWithRequired2 record c.in-PropertiesWithRequired2.properties { value = p }) (sym c.deref.ensures))
+    c.properties_with_required2_accept.ensures
 
 pub returns-in-AdditionalProperties : goal.returns-in-AdditionalProperties
 unfolding answers_of
 returns-in-AdditionalProperties g c =
-    first_one (λ k. validator_means (kit g.K.Leaf g.R.RegexEngine) g.N.Means.means k
-    (data_of c.args.node)) c.args.ctx.now c.additional_properties_accept.new.ctx c.additional_properties_accept.result (by_first c.index-keywords-0.is c.requires)
-    (subst (λ k. AsksOne c.args.ctx.now c.additional_properties_accept.new.ctx
-    (validator_means (kit g.K.Leaf g.R.RegexEngine) g.N.Means.means k (data_of c.args.node)) c.additional_properties_accept.result)
-    (ap (λ a. keyword.AdditionalProperties record c.in-AdditionalProperties.additional { value = a }) c.deref-in-AdditionalProperties.ensures ∙ sym c.in-AdditionalProperties.is) c.additional_properties_accept.ensures)
+    first_one _ _ _ _ (by_first c.index-keywords-0.is c.requires) (c.in-AdditionalProperties.is ∙ ap
+    (λ a. keyword.AdditionalProperties record c.in-AdditionalProperties.additional { value = a }) (sym c.deref-in-AdditionalProperties.ensures))
+    c.additional_properties_accept.ensures
 
 pub returns-in-Required : goal.returns-in-Required
 unfolding answers_of
 returns-in-Required g c =
-    first_one (λ k. validator_means (kit g.K.Leaf g.R.RegexEngine) g.N.Means.means k (data_of c.args.node)) c.args.ctx.now c.is_valid.new._ctx c.one_if.result
-    (by_first c.index-keywords-0.is c.requires)
-    (answered_one c.one_if.ensures (subst (λ k. Asks c.args.ctx.now c.is_valid.new._ctx
-    (validator_means (kit g.K.Leaf g.R.RegexEngine) g.N.Means.means k (data_of c.args.node)) c.is_valid.result) (sym c.in-Required.is) c.is_valid.ensures))
+    first_one _ _ _ _ (by_first c.index-keywords-0.is c.requires) c.in-Required.is
+    (answered_one c.one_if.ensures c.is_valid.ensures)
 
 pub returns-in-AnyOf : goal.returns-in-AnyOf
 unfolding answers_of
 returns-in-AnyOf g c =
-    first_one (λ k. validator_means (kit g.K.Leaf g.R.RegexEngine) g.N.Means.means k (data_of c.args.node)) c.args.ctx.now c.is_valid-in-AnyOf.new.ctx c.one_if-in-AnyOf.result
-    (by_first c.index-keywords-0.is c.requires)
-    (answered_one c.one_if-in-AnyOf.ensures (subst (λ k. Asks c.args.ctx.now c.is_valid-in-AnyOf.new.ctx
-    (validator_means (kit g.K.Leaf g.R.RegexEngine) g.N.Means.means k (data_of c.args.node)) c.is_valid-in-AnyOf.result) (sym c.in-AnyOf.is) c.is_valid-in-AnyOf.ensures))
+    first_one _ _ _ _ (by_first c.index-keywords-0.is c.requires) c.in-AnyOf.is
+    (answered_one c.one_if-in-AnyOf.ensures c.is_valid-in-AnyOf.ensures)
 
 pub returns-in_default : goal.returns-in_default
 unfolding answers_of
 returns-in_default g c =
-    first_one (λ k. validator_means (kit g.K.Leaf g.R.RegexEngine) g.N.Means.means k (data_of c.args.node)) c.args.ctx.now c.keyword_accepts.new.ctx c.one_if-in_default.result
-    (by_first c.index-keywords-0.is c.requires)
+    first_one _ _ _ _ (by_first c.index-keywords-0.is c.requires) refl
     (answered_one c.one_if-in_default.ensures c.keyword_accepts.ensures)
 
 pub returns-in-Properties : goal.returns-in-Properties

@@ -19,7 +19,7 @@ returns-in_err-location g c = record {
   builds = neighbour_left (kit g.L.Leaf.Leaf g.M.Engine.RegexEngine) g.N.BuiltNode.answers (members_view c.args.parent.now.entries) c.args.ctx.now.place _
       (known_of (members_view c.args.parent.now.entries)) (codes "patternProperties")
       (view c.in-Some.value.now) _ _ _ _ c.from_residual.ensures.1
-      (patterns_known (kit g.L.Leaf.Leaf g.M.Engine.RegexEngine) g.N.BuiltNode.answers (members_view c.args.parent.now.entries) c.args.ctx.now.place)
+      (patterns_known (members_view c.args.parent.now.entries))
       (sym c.in-Some.ensures) c.in_err-location.ensures.refused;
   place = c.compile_member.ensures.place;
   same_meter = c.compile_member.ensures.same_meter;
@@ -27,14 +27,15 @@ returns-in_err-location g c = record {
 
 pub unreachable-requires : goal.unreachable-requires
 unreachable-requires g c =
-    no_other_patterns (kit g.L.Leaf.Leaf g.M.Engine.RegexEngine) g.N.BuiltNode.answers (members_view c.args.parent.now.entries) c.args.ctx.now.place c.in_ok-location.field-0
-    (view c.in-Some.value.now) _ _ c.in_ok-location.ensures.built c.in_default-shape.not-PatternProperties
+    no_other_patterns (kit g.L.Leaf.Leaf g.M.Engine.RegexEngine) g.N.BuiltNode.answers
+    (members_view c.args.parent.now.entries) c.args.ctx.now.place c.in_ok-location.ensures.built c.in_default-shape.not-PatternProperties
 
 pub returns : goal.returns
 returns g c = record {
   builds = (
-    patterns_built (kit g.L.Leaf.Leaf g.M.Engine.RegexEngine) g.N.BuiltNode.answers (members_view c.args.parent.now.entries) c.args.ctx.now.place c.in_ok-location.field-0
-        (view c.in-Some.value.now) _ _ c.in_ok-location.ensures.built c.in-PatternProperties.patterns c.in-PatternProperties.table c.in-PatternProperties.is (sym c.in-Some.ensures),
+    patterns_built (kit g.L.Leaf.Leaf g.M.Engine.RegexEngine) g.N.BuiltNode.answers
+        (members_view c.args.parent.now.entries) c.args.ctx.now.place c.in_ok-location.ensures.built c.in-PatternProperties.patterns c.in-PatternProperties.table c.in-PatternProperties.is
+        (sym c.in-Some.ensures),
     tt,
   );
   place = c.compile_member.ensures.place;

@@ -16,7 +16,7 @@ returns-in_err-shape g c = record {
   builds = neighbour_left (kit g.L.Leaf.Leaf g.M.Engine.RegexEngine) g.N.BuiltNode.answers (members_view c.args.parent.now.entries) c.args.ctx.now.place _
       (known_of (members_view c.args.parent.now.entries)) (codes "properties")
       (view c.in-Some.value.now) _ _ _ _ c.from_residual.ensures.1
-      (declared_known (kit g.L.Leaf.Leaf g.M.Engine.RegexEngine) g.N.BuiltNode.answers (members_view c.args.parent.now.entries) c.args.ctx.now.place)
+      (declared_known (members_view c.args.parent.now.entries))
       (sym c.in-Some.ensures) c.in_err-shape.ensures.refused;
   place = c.compile_member.ensures.place;
   same_meter = c.compile_member.ensures.same_meter;
@@ -24,14 +24,14 @@ returns-in_err-shape g c = record {
 
 pub unreachable-requires : goal.unreachable-requires
 unreachable-requires g c =
-    no_other_declared (kit g.L.Leaf.Leaf g.M.Engine.RegexEngine) g.N.BuiltNode.answers (members_view c.args.parent.now.entries) c.args.ctx.now.place c.in_ok-shape.field-0
-    (view c.in-Some.value.now) _ _ c.in_ok-shape.ensures.built c.in_default-shape.not-Properties
+    no_other_declared (kit g.L.Leaf.Leaf g.M.Engine.RegexEngine) g.N.BuiltNode.answers
+    (members_view c.args.parent.now.entries) c.args.ctx.now.place c.in_ok-shape.ensures.built c.in_default-shape.not-Properties
 
 pub returns : goal.returns
 returns g c = record {
   builds = (
-    declared_built (kit g.L.Leaf.Leaf g.M.Engine.RegexEngine) g.N.BuiltNode.answers (members_view c.args.parent.now.entries) c.args.ctx.now.place c.in_ok-shape.field-0
-        (view c.in-Some.value.now) _ _ c.in_ok-shape.ensures.built c.in-Properties.names c.in-Properties.is (sym c.in-Some.ensures),
+    declared_built (kit g.L.Leaf.Leaf g.M.Engine.RegexEngine) g.N.BuiltNode.answers
+        (members_view c.args.parent.now.entries) c.args.ctx.now.place c.in_ok-shape.ensures.built c.in-Properties.names c.in-Properties.is (sym c.in-Some.ensures),
     tt,
   );
   place = c.compile_member.ensures.place;

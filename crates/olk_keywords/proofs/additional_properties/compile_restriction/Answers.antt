@@ -1,28 +1,22 @@
 use Rattle.olk_base.specs.Kit.{kit}
 use Rattle.std.specs.Prelude.{codes, is_some, length, zip, option_map}
-use Rattle.std.proofs.Common.{rules, [], ◌∷◌, refl, sym, ◌∙◌, subst}
-use mathlib.Core.Path.{subst₂}
+use Rattle.std.proofs.Common.{rules, [], ◌∷◌, refl, ◌∙◌, subst}
 use Rattle.std.proofs.lemmas.Result.{IfOk-from_err}
 use Rattle.serde_json.specs.View.{view, members_view}
-use Rattle.olk_spec.specs.Names.{◌//◌}
 use Rattle.olk_meaning.specs.Conditions.{known_of}
 use Rattle.olk_meaning.specs.Plans.{planned}
 use Rattle.olk_make.specs.Forms.{IsAdditionalProperties}
 use Rattle.olk_make.specs.Making.{MakesRestriction}
-use Rattle.olk_build.specs.Building.{RefusesPart}
-use Rattle.olk_keywords.specs.Together.{member_at}
-use Rattle.olk_keywords.proofs.Together.{left_by, first_refused, second_refused, third_refused, memory_lost, RefusesAll}
+use Rattle.olk_keywords.proofs.Together.{left_by, first_refused, second_refused, third_refused, memory_lost}
 use Rattle.olk_keywords.proofs.AdditionalProperties.{others_known, declared_there, patterns_there, restriction_is_built, restriction_is_formed}
 use Rattle.olk_keywords.proofs.additional_properties.compile_restriction.Goals as goal
 
 pub returns-in_err-location : goal.returns-in_err-location
 returns-in_err-location g c = record {
-  builds = left_by _ _ _ _ c.from_residual.ensures.1 (λ e q. first_refused (kit g.L.Leaf.Leaf g.M.Engine.RegexEngine) g.N.BuiltNode.answers
+  builds = left_by _ _ _ _ c.from_residual.ensures.1 (first_refused (kit g.L.Leaf.Leaf g.M.Engine.RegexEngine) g.N.BuiltNode.answers
       (members_view c.args.parent.now.entries) c.args.ctx.now.place (codes "additionalProperties") (codes "properties") (codes "patternProperties")
-      (view c.args.schema.now) (known_of (members_view c.args.parent.now.entries)) _ _ e
-      (others_known (kit g.L.Leaf.Leaf g.M.Engine.RegexEngine) g.N.BuiltNode.answers (members_view c.args.parent.now.entries) c.args.ctx.now.place)
-      (subst (RefusesPart (kit g.L.Leaf.Leaf g.M.Engine.RegexEngine) (known_of (members_view c.args.parent.now.entries)) (codes "additionalProperties") (view c.args.schema.now)
-      (c.args.ctx.now.place // codes "additionalProperties") _ _) (sym q) c.in_err-location.ensures.refused));
+      (view c.args.schema.now) (known_of (members_view c.args.parent.now.entries))
+      (others_known (members_view c.args.parent.now.entries)) c.in_err-location.ensures.refused);
   form = IfOk-from_err c.from_residual.result _ c.from_residual.ensures.0;
   place = c.compile_member.ensures.place;
   same_meter = c.compile_member.ensures.same_meter;
@@ -30,13 +24,10 @@ returns-in_err-location g c = record {
 
 pub returns-in_err-properties : goal.returns-in_err-properties
 returns-in_err-properties g c = record {
-  builds = left_by _ _ _ _ c.from_residual-in_err-properties.ensures.1 (λ e q. second_refused (kit g.L.Leaf.Leaf g.M.Engine.RegexEngine) g.N.BuiltNode.answers
+  builds = left_by _ _ _ _ c.from_residual-in_err-properties.ensures.1 (second_refused (kit g.L.Leaf.Leaf g.M.Engine.RegexEngine) g.N.BuiltNode.answers
       (members_view c.args.parent.now.entries) c.args.ctx.now.place (codes "additionalProperties") (codes "properties") (codes "patternProperties")
       (view c.args.schema.now) _ _ (c.in_ok-location.ensures.built (members_view c.args.parent.now.entries) c.args.ctx.now.place refl
-      (others_known (kit g.L.Leaf.Leaf g.M.Engine.RegexEngine) g.N.BuiltNode.answers (members_view c.args.parent.now.entries) c.args.ctx.now.place)).spends _ e
-      (subst₂ (λ Q x. RefusesAll (kit g.L.Leaf.Leaf g.M.Engine.RegexEngine) g.N.BuiltNode.answers (members_view c.args.parent.now.entries) Q
-      (member_at (codes "properties") (members_view c.args.parent.now.entries))
-      c.compile_member.new.ctx.meter.now c.compile_properties.new.ctx.meter.now x) c.compile_member.ensures.place (sym q) c.in_err-properties.ensures.builds.1));
+      (others_known (members_view c.args.parent.now.entries))).spends c.compile_member.ensures.place c.in_err-properties.ensures.builds.1);
   form = IfOk-from_err c.from_residual-in_err-properties.result _ c.from_residual-in_err-properties.ensures.0;
   place = c.compile_properties.ensures.place ∙ c.compile_member.ensures.place;
   same_meter = c.compile_properties.ensures.same_meter ∙ c.compile_member.ensures.same_meter;
@@ -44,14 +35,12 @@ returns-in_err-properties g c = record {
 
 pub returns-in_err-patterns : goal.returns-in_err-patterns
 returns-in_err-patterns g c = record {
-  builds = left_by _ _ _ _ c.from_residual-in_err-patterns.ensures.1 (λ e q. third_refused (kit g.L.Leaf.Leaf g.M.Engine.RegexEngine) g.N.BuiltNode.answers
+  builds = left_by _ _ _ _ c.from_residual-in_err-patterns.ensures.1 (third_refused (kit g.L.Leaf.Leaf g.M.Engine.RegexEngine) g.N.BuiltNode.answers
       (members_view c.args.parent.now.entries) c.args.ctx.now.place (codes "additionalProperties") (codes "properties") (codes "patternProperties")
       (view c.args.schema.now) _ _ (c.in_ok-location.ensures.built (members_view c.args.parent.now.entries) c.args.ctx.now.place refl
-      (others_known (kit g.L.Leaf.Leaf g.M.Engine.RegexEngine) g.N.BuiltNode.answers (members_view c.args.parent.now.entries) c.args.ctx.now.place)).spends _
-      (declared_there c.compile_member.ensures.place c.in_ok-properties.ensures.builds.0).spends _ e
-      (subst₂ (λ Q x. RefusesAll (kit g.L.Leaf.Leaf g.M.Engine.RegexEngine) g.N.BuiltNode.answers (members_view c.args.parent.now.entries) Q
-      (member_at (codes "patternProperties") (members_view c.args.parent.now.entries))
-      c.compile_properties.new.ctx.meter.now c.compile_patterns.new.ctx.meter.now x) (c.compile_properties.ensures.place ∙ c.compile_member.ensures.place) (sym q) c.in_err-patterns.ensures.builds.1));
+      (others_known (members_view c.args.parent.now.entries))).spends _
+      (declared_there c.compile_member.ensures.place c.in_ok-properties.ensures.builds.0).spends (c.compile_properties.ensures.place
+      ∙ c.compile_member.ensures.place) c.in_err-patterns.ensures.builds.1);
   form = IfOk-from_err c.from_residual-in_err-patterns.result _ c.from_residual-in_err-patterns.ensures.0;
   place = c.compile_patterns.ensures.place ∙ c.compile_properties.ensures.place ∙ c.compile_member.ensures.place;
   same_meter = c.compile_patterns.ensures.same_meter ∙ c.compile_properties.ensures.same_meter ∙ c.compile_member.ensures.same_meter;
@@ -59,12 +48,12 @@ returns-in_err-patterns g c = record {
 
 pub returns-in_err-make : goal.returns-in_err-make
 returns-in_err-make g c = record {
-  builds = left_by _ _ _ _ c.from_residual-in_err-make.ensures.1 (λ e q. memory_lost (kit g.L.Leaf.Leaf g.M.Engine.RegexEngine) g.N.BuiltNode.answers
+  builds = left_by _ _ _ _ c.from_residual-in_err-make.ensures.1 (memory_lost (kit g.L.Leaf.Leaf g.M.Engine.RegexEngine) g.N.BuiltNode.answers
       (members_view c.args.parent.now.entries) c.args.ctx.now.place (codes "additionalProperties") (codes "properties") (codes "patternProperties")
       (view c.args.schema.now) _ _ (c.in_ok-location.ensures.built (members_view c.args.parent.now.entries) c.args.ctx.now.place refl
-      (others_known (kit g.L.Leaf.Leaf g.M.Engine.RegexEngine) g.N.BuiltNode.answers (members_view c.args.parent.now.entries) c.args.ctx.now.place)).spends _
+      (others_known (members_view c.args.parent.now.entries))).spends _
       (declared_there c.compile_member.ensures.place c.in_ok-properties.ensures.builds.0).spends _
-      (patterns_there (c.compile_properties.ensures.place ∙ c.compile_member.ensures.place) c.in_ok-patterns.ensures.builds.0).spends e _ q);
+      (patterns_there (c.compile_properties.ensures.place ∙ c.compile_member.ensures.place) c.in_ok-patterns.ensures.builds.0).spends);
   form = IfOk-from_err c.from_residual-in_err-make.result _ c.from_residual-in_err-make.ensures.0;
   place = c.compile_patterns.ensures.place ∙ c.compile_properties.ensures.place ∙ c.compile_member.ensures.place;
   same_meter = c.compile_patterns.ensures.same_meter ∙ c.compile_properties.ensures.same_meter ∙ c.compile_member.ensures.same_meter;
@@ -73,23 +62,22 @@ returns-in_err-make g c = record {
 pub returns : goal.returns
 returns g c = record {
   builds = (
-    restriction_is_built (kit g.L.Leaf.Leaf g.M.Engine.RegexEngine) g.N.BuiltNode.answers (members_view c.args.parent.now.entries) c.args.ctx.now.place c.in_ok-location.field-0
-        (view c.args.schema.now) _ _ c.in_ok-location.ensures.built c.requires.read c.pop.result (search rules)
-        (record { properties = c.in_ok-properties.properties; patterns = c.in_ok-patterns.patterns }) _ _
+    restriction_is_built (kit g.L.Leaf.Leaf g.M.Engine.RegexEngine) g.N.BuiltNode.answers
+        (members_view c.args.parent.now.entries) c.args.ctx.now.place c.in_ok-location.ensures.built c.requires.read c.pop.result (search rules)
+        (record { properties = c.in_ok-properties.properties; patterns = c.in_ok-patterns.patterns })
         (declared_there c.compile_member.ensures.place c.in_ok-properties.ensures.builds.0)
-        (patterns_there (c.compile_properties.ensures.place ∙ c.compile_member.ensures.place) c.in_ok-patterns.ensures.builds.0)
-        (planned c.of-plan.result) c.of-plan.ensures.plan (c.in_ok-make.field-0 ∷ []) c.of-plan.ensures.distinct
+        (patterns_there (c.compile_properties.ensures.place ∙ c.compile_member.ensures.place) c.in_ok-patterns.ensures.builds.0) c.of-plan.ensures.plan
+        (c.in_ok-make.field-0 ∷ []) c.of-plan.ensures.distinct
         (subst (λ Q. MakesRestriction (kit g.L.Leaf.Leaf g.M.Engine.RegexEngine) g.N.BuiltNode.answers c.in_ok-location.field-0.location c.pop.result
         (record { properties = c.in_ok-properties.properties; patterns = c.in_ok-patterns.patterns }) Q (planned c.of-plan.result) (c.in_ok-make.field-0 ∷ []))
         (c.compile_patterns.ensures.place ∙ c.compile_properties.ensures.place ∙ c.compile_member.ensures.place) c.in_ok-make.ensures.makes),
     tt,
   );
-  form = restriction_is_formed (kit g.L.Leaf.Leaf g.M.Engine.RegexEngine) g.N.BuiltNode.answers (members_view c.args.parent.now.entries) c.args.ctx.now.place c.in_ok-location.field-0
-      (view c.args.schema.now) _ _ c.in_ok-location.ensures.built c.requires.read c.pop.result (search rules)
-      (record { properties = c.in_ok-properties.properties; patterns = c.in_ok-patterns.patterns }) _ _
+  form = restriction_is_formed (kit g.L.Leaf.Leaf g.M.Engine.RegexEngine) g.N.BuiltNode.answers
+      (members_view c.args.parent.now.entries) c.args.ctx.now.place c.in_ok-location.ensures.built c.requires.read c.pop.result (search rules)
+      (record { properties = c.in_ok-properties.properties; patterns = c.in_ok-patterns.patterns })
       (declared_there c.compile_member.ensures.place c.in_ok-properties.ensures.builds.0)
-      (patterns_there (c.compile_properties.ensures.place ∙ c.compile_member.ensures.place) c.in_ok-patterns.ensures.builds.0)
-      (planned c.of-plan.result) c.of-plan.ensures.plan c.in_ok-make.field-0
+      (patterns_there (c.compile_properties.ensures.place ∙ c.compile_member.ensures.place) c.in_ok-patterns.ensures.builds.0) c.of-plan.ensures.plan c.in_ok-make.field-0
       (subst (λ Q. IsAdditionalProperties Q c.in_ok-location.field-0.location (is_some c.pop.result) (option_map (λ m. length m.names) c.in_ok-properties.properties)
       (option_map (λ x. length (zip x.patterns.items x.nodes.items)) c.in_ok-patterns.patterns) (planned c.of-plan.result).fused_one c.in_ok-make.field-0)
       (c.compile_patterns.ensures.place ∙ c.compile_properties.ensures.place ∙ c.compile_member.ensures.place) c.in_ok-make.ensures.form);

@@ -7,27 +7,24 @@ use Rattle.olk_keywords.proofs.dependencies.compile.Goals as goal
 
 pub unreachable-requires : goal.unreachable-requires
 unreachable-requires g c =
-    no_other_dependencies (kit g.L.Leaf.Leaf g.M.Engine.RegexEngine) g.N.BuiltNode.answers c.in-Ok.part _ (view c.args.schema.now) _ _ _ c.in-Ok.ensures.built c.in_default.not-Dependencies
+    no_other_dependencies _ c.in-Ok.ensures.built c.in_default.not-Dependencies
 
 pub returns-in-Ok-make-clause-gives : goal.returns-in-Ok-make-clause-gives
 returns-in-Ok-make-clause-gives g c = (
-  built_of_shape (kit g.L.Leaf.Leaf g.M.Engine.RegexEngine) g.N.BuiltNode.answers c.in-Ok.part _ (codes "dependencies")
-      (view c.args.schema.now) _ _ _ c.in-Ok.ensures.built refl _ c.in-Dependencies.is _ c.in-Ok-make.ensures.makes,
+  built_of_shape _ c.in-Ok.ensures.built refl c.in-Dependencies.is c.in-Ok-make.ensures.makes,
   tt,
 )
 
 pub returns-in-Ok-make-clause-form : goal.returns-in-Ok-make-clause-form
 returns-in-Ok-make-clause-form g c =
-    keys_of_shape (kit g.L.Leaf.Leaf g.M.Engine.RegexEngine) g.N.BuiltNode.answers c.in-Ok.part _ (codes "dependencies")
-    (view c.args.schema.now) _ _ _ c.in-Ok.ensures.built refl _ c.in-Dependencies.is c.in-Ok-make.keyword c.in-Ok-make.ensures.form
+    keys_of_shape _ c.in-Ok.ensures.built refl c.in-Dependencies.is c.in-Ok-make.keyword c.in-Ok-make.ensures.form
 
 pub returns-in-Err-make-clause-gives : goal.returns-in-Err-make-clause-gives
 returns-in-Err-make-clause-gives g c = (
   tt,
-  memory_after (kit g.L.Leaf.Leaf g.M.Engine.RegexEngine) g.N.BuiltNode.answers c.in-Ok.part _ (codes "dependencies")
-      (view c.args.schema.now) _ _ _ c.in-Ok.ensures.built refl _ c.in-Err-make.error refl,
+  memory_after _ c.in-Ok.ensures.built refl _ refl,
 )
 
 pub returns-in-Err-clause-gives : goal.returns-in-Err-clause-gives
 returns-in-Err-clause-gives g c =
-    (tt, refuses_member (kit g.L.Leaf.Leaf g.M.Engine.RegexEngine) g.N.BuiltNode.answers _ (codes "dependencies") (view c.args.schema.now) _ _ _ c.in-Err.error refl c.in-Err.ensures.refused)
+    (tt, refuses_member (kit g.L.Leaf.Leaf g.M.Engine.RegexEngine) _ (codes "dependencies") (view c.args.schema.now) refl c.in-Err.ensures.refused)

@@ -7,27 +7,24 @@ use Rattle.olk_keywords.proofs.dependencies.compile_dependent_required.Goals as 
 
 pub unreachable-requires : goal.unreachable-requires
 unreachable-requires g c =
-    no_other_dependent_required (kit g.L.Leaf.Leaf g.M.Engine.RegexEngine) g.N.BuiltNode.answers c.in-Ok.part _ (view c.args.schema.now) _ _ _ c.in-Ok.ensures.built c.in_default.not-DependentRequired
+    no_other_dependent_required _ c.in-Ok.ensures.built c.in_default.not-DependentRequired
 
 pub returns-in-Ok-make_required-clause-gives : goal.returns-in-Ok-make_required-clause-gives
 returns-in-Ok-make_required-clause-gives g c = (
-  built_without_nodes (kit g.L.Leaf.Leaf g.M.Engine.RegexEngine) g.N.BuiltNode.answers c.in-Ok.part _ (codes "dependentRequired")
-      (view c.args.schema.now) _ _ _ c.in-Ok.ensures.built refl _ c.in-DependentRequired.is refl _ c.in-Ok-make_required.ensures.makes,
+  built_without_nodes _ c.in-Ok.ensures.built refl c.in-DependentRequired.is refl c.in-Ok-make_required.ensures.makes,
   tt,
 )
 
 pub returns-in-Ok-make_required-clause-form : goal.returns-in-Ok-make_required-clause-form
 returns-in-Ok-make_required-clause-form g c =
-    keys_without_nodes (kit g.L.Leaf.Leaf g.M.Engine.RegexEngine) g.N.BuiltNode.answers c.in-Ok.part _ (codes "dependentRequired")
-    (view c.args.schema.now) _ _ _ c.in-Ok.ensures.built refl _ c.in-DependentRequired.is refl c.in-Ok-make_required.keyword c.in-Ok-make_required.ensures.form
+    keys_without_nodes _ c.in-Ok.ensures.built refl c.in-DependentRequired.is refl c.in-Ok-make_required.keyword c.in-Ok-make_required.ensures.form
 
 pub returns-in-Ok-clause-gives : goal.returns-in-Ok-clause-gives
 returns-in-Ok-clause-gives g c = (
   tt,
-  memory_after (kit g.L.Leaf.Leaf g.M.Engine.RegexEngine) g.N.BuiltNode.answers c.in-Ok.part _ (codes "dependentRequired")
-      (view c.args.schema.now) _ _ _ c.in-Ok.ensures.built refl _ c.in-Err-make_required.error refl,
+  memory_after _ c.in-Ok.ensures.built refl _ refl,
 )
 
 pub returns-clause-gives : goal.returns-clause-gives
 returns-clause-gives g c =
-    (tt, refuses_member (kit g.L.Leaf.Leaf g.M.Engine.RegexEngine) g.N.BuiltNode.answers _ (codes "dependentRequired") (view c.args.schema.now) _ _ _ c.in-Err.error refl c.in-Err.ensures.refused)
+    (tt, refuses_member (kit g.L.Leaf.Leaf g.M.Engine.RegexEngine) _ (codes "dependentRequired") (view c.args.schema.now) refl c.in-Err.ensures.refused)

@@ -7,27 +7,24 @@ use Rattle.olk_keywords.proofs.dependencies.compile_dependent_schemas.Goals as g
 
 pub unreachable-requires : goal.unreachable-requires
 unreachable-requires g c =
-    no_other_dependent_schemas (kit g.L.Leaf.Leaf g.M.Engine.RegexEngine) g.N.BuiltNode.answers c.in-Ok.part _ (view c.args.schema.now) _ _ _ c.in-Ok.ensures.built c.in_default.not-DependentSchemas
+    no_other_dependent_schemas _ c.in-Ok.ensures.built c.in_default.not-DependentSchemas
 
 pub returns-in-Ok-make_schemas-clause-gives : goal.returns-in-Ok-make_schemas-clause-gives
 returns-in-Ok-make_schemas-clause-gives g c = (
-  built_of_shape (kit g.L.Leaf.Leaf g.M.Engine.RegexEngine) g.N.BuiltNode.answers c.in-Ok.part _ (codes "dependentSchemas")
-      (view c.args.schema.now) _ _ _ c.in-Ok.ensures.built refl _ c.in-DependentSchemas.is _ c.in-Ok-make_schemas.ensures.makes,
+  built_of_shape _ c.in-Ok.ensures.built refl c.in-DependentSchemas.is c.in-Ok-make_schemas.ensures.makes,
   tt,
 )
 
 pub returns-in-Ok-make_schemas-clause-form : goal.returns-in-Ok-make_schemas-clause-form
 returns-in-Ok-make_schemas-clause-form g c =
-    keys_of_shape (kit g.L.Leaf.Leaf g.M.Engine.RegexEngine) g.N.BuiltNode.answers c.in-Ok.part _ (codes "dependentSchemas")
-    (view c.args.schema.now) _ _ _ c.in-Ok.ensures.built refl _ c.in-DependentSchemas.is c.in-Ok-make_schemas.keyword c.in-Ok-make_schemas.ensures.form
+    keys_of_shape _ c.in-Ok.ensures.built refl c.in-DependentSchemas.is c.in-Ok-make_schemas.keyword c.in-Ok-make_schemas.ensures.form
 
 pub returns-in-Err-make_schemas-clause-gives : goal.returns-in-Err-make_schemas-clause-gives
 returns-in-Err-make_schemas-clause-gives g c = (
   tt,
-  memory_after (kit g.L.Leaf.Leaf g.M.Engine.RegexEngine) g.N.BuiltNode.answers c.in-Ok.part _ (codes "dependentSchemas")
-      (view c.args.schema.now) _ _ _ c.in-Ok.ensures.built refl _ c.in-Err-make_schemas.error refl,
+  memory_after _ c.in-Ok.ensures.built refl _ refl,
 )
 
 pub returns-in-Err-clause-gives : goal.returns-in-Err-clause-gives
 returns-in-Err-clause-gives g c =
-    (tt, refuses_member (kit g.L.Leaf.Leaf g.M.Engine.RegexEngine) g.N.BuiltNode.answers _ (codes "dependentSchemas") (view c.args.schema.now) _ _ _ c.in-Err.error refl c.in-Err.ensures.refused)
+    (tt, refuses_member (kit g.L.Leaf.Leaf g.M.Engine.RegexEngine) _ (codes "dependentSchemas") (view c.args.schema.now) refl c.in-Err.ensures.refused)

@@ -6,25 +6,22 @@ use Rattle.olk_keywords.proofs.Modules.{no_other_not, not_without_node, not_buil
 use Rattle.olk_keywords.proofs.not.compile.Goals as goal
 
 pub unreachable-requires : goal.unreachable-requires
-unreachable-requires g c = no_other_not (kit g.L.Leaf.Leaf g.M.Engine.RegexEngine) g.N.BuiltNode.answers c.in-Ok.part _ (view c.args.schema.now) _ _ _ c.in-Ok.ensures.built c.in_default.not-Not
+unreachable-requires g c = no_other_not _ c.in-Ok.ensures.built c.in_default.not-Not
 
 pub unreachable-requires-in_default-make : goal.unreachable-requires-in_default-make
 unreachable-requires-in_default-make g c =
-    not_without_node (kit g.L.Leaf.Leaf g.M.Engine.RegexEngine) g.N.BuiltNode.answers c.in-Ok.part _
-    (view c.args.schema.now) _ _ _ c.in-Ok.ensures.built c.in-Not.original c.in-Not.is c.in_default-make.ensures.none
+    not_without_node _ c.in-Ok.ensures.built c.in-Not.original c.in-Not.is c.in_default-make.ensures.none
 
 pub returns-in-Some-clause-gives : goal.returns-in-Some-clause-gives
 returns-in-Some-clause-gives g c = (
-  not_built (kit g.L.Leaf.Leaf g.M.Engine.RegexEngine) g.N.BuiltNode.answers c.in-Ok.part _
-      (view c.args.schema.now) _ _ _ c.in-Ok.ensures.built c.in-Not.original c.in-Not.is _ c.in-Some.ensures.makes,
+  not_built _ c.in-Ok.ensures.built c.in-Not.original c.in-Not.is c.in-Some.ensures.makes,
   tt,
 )
 
 pub returns-in-Some-clause-form : goal.returns-in-Some-clause-form
 returns-in-Some-clause-form g c =
-    not_is_formed (kit g.L.Leaf.Leaf g.M.Engine.RegexEngine) g.N.BuiltNode.answers c.in-Ok.part _
-    (view c.args.schema.now) _ _ _ c.in-Ok.ensures.built c.in-Not.original c.in-Not.is c.in-Some.keyword c.in-Some.ensures.form
+    not_is_formed _ c.in-Ok.ensures.built c.in-Not.original c.in-Not.is c.in-Some.keyword c.in-Some.ensures.form
 
 pub returns-in-Err-clause-gives : goal.returns-in-Err-clause-gives
 returns-in-Err-clause-gives g c =
-    (tt, refuses_member (kit g.L.Leaf.Leaf g.M.Engine.RegexEngine) g.N.BuiltNode.answers _ (codes "not") (view c.args.schema.now) _ _ _ c.in-Err.error refl c.in-Err.ensures.refused)
+    (tt, refuses_member (kit g.L.Leaf.Leaf g.M.Engine.RegexEngine) _ (codes "not") (view c.args.schema.now) refl c.in-Err.ensures.refused)

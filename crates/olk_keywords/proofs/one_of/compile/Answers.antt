@@ -7,12 +7,12 @@ use Rattle.olk_keywords.proofs.one_of.compile.Goals as goal
 
 pub returns-in-Ok-clause-gives : goal.returns-in-Ok-clause-gives
 returns-in-Ok-clause-gives g c =
-    (one_of_built (kit g.L.Leaf.Leaf g.M.Engine.RegexEngine) g.N.BuiltNode.answers c.in-Ok.part _ (view c.args.schema.now) _ _ _ c.in-Ok.ensures.built _ c.make.ensures.makes, tt)
+    (one_of_built _ c.in-Ok.ensures.built c.make.ensures.makes, tt)
 
 pub returns-in-Ok-clause-form : goal.returns-in-Ok-clause-form
 returns-in-Ok-clause-form g c =
-    one_of_is_formed (kit g.L.Leaf.Leaf g.M.Engine.RegexEngine) g.N.BuiltNode.answers c.in-Ok.part _ (view c.args.schema.now) _ _ _ c.in-Ok.ensures.built c.make.result c.make.ensures.form
+    one_of_is_formed _ c.in-Ok.ensures.built c.make.result c.make.ensures.form
 
 pub returns-in-Err-clause-gives : goal.returns-in-Err-clause-gives
 returns-in-Err-clause-gives g c =
-    (tt, refuses_member (kit g.L.Leaf.Leaf g.M.Engine.RegexEngine) g.N.BuiltNode.answers _ (codes "oneOf") (view c.args.schema.now) _ _ _ c.in-Err.error refl c.in-Err.ensures.refused)
+    (tt, refuses_member (kit g.L.Leaf.Leaf g.M.Engine.RegexEngine) _ (codes "oneOf") (view c.args.schema.now) refl c.in-Err.ensures.refused)

@@ -11,13 +11,12 @@ use Rattle.olk_keywords.proofs.properties.compile.Goals as goal
 
 pub unreachable-requires : goal.unreachable-requires
 unreachable-requires g c =
-    no_other_properties (kit g.L.Leaf.Leaf g.M.Engine.RegexEngine) g.N.BuiltNode.answers c.in-Ok.part _ (view c.args.schema.now) _ _ _ c.in-Ok.ensures.built c.in_default.not-Properties
+    no_other_properties _ c.in-Ok.ensures.built c.in_default.not-Properties
 
 pub returns-in-Ok-make-clause-gives : goal.returns-in-Ok-make-clause-gives
 returns-in-Ok-make-clause-gives g c = (
-  properties_built (kit g.L.Leaf.Leaf g.M.Engine.RegexEngine) g.N.BuiltNode.answers c.in-Ok.part _
-      (view c.args.schema.now) _ _ _ c.in-Ok.ensures.built c.in-Properties.names c.in-Properties.is (members_view c.args.parent.now.entries)
-      (planned c.of-plan.result) c.of-plan.ensures.plan (search rules) (c.in-Ok-make.keyword ∷ [])
+  properties_built _ c.in-Ok.ensures.built c.in-Properties.names c.in-Properties.is (members_view c.args.parent.now.entries)
+      (planned c.of-plan.result) c.of-plan.ensures.plan (search rules)
       (subst (λ P. MakesClaims (kit g.L.Leaf.Leaf g.M.Engine.RegexEngine) g.N.BuiltNode.answers (shape.Properties c.in-Properties.names) c.in-Ok.part.location c.in-Ok.part.nodes.items P
       (planned c.of-plan.result) (c.in-Ok-make.keyword ∷ [])) c.compile_member.ensures.place c.in-Ok-make.ensures.makes) c.of-plan.ensures.distinct,
   tt,
@@ -25,19 +24,18 @@ returns-in-Ok-make-clause-gives g c = (
 
 pub returns-in-Ok-make-clause-form : goal.returns-in-Ok-make-clause-form
 returns-in-Ok-make-clause-form g c =
-    properties_is_formed (kit g.L.Leaf.Leaf g.M.Engine.RegexEngine) g.N.BuiltNode.answers c.in-Ok.part _
-    (view c.args.schema.now) _ _ _ c.in-Ok.ensures.built c.in-Properties.names c.in-Properties.is (members_view c.args.parent.now.entries)
+    properties_is_formed _ c.in-Ok.ensures.built c.in-Properties.names c.in-Properties.is (members_view c.args.parent.now.entries)
     (planned c.of-plan.result) c.of-plan.ensures.plan (search rules) c.in-Ok-make.keyword
     (subst (λ P. IsProperties P c.in-Ok.part.location (length c.in-Properties.names)
     (planned c.of-plan.result).fused_pair c.in-Ok-make.keyword) c.compile_member.ensures.place c.in-Ok-make.ensures.form)
 
 pub returns-in-Err-make-clause-gives : goal.returns-in-Err-make-clause-gives
 returns-in-Err-make-clause-gives g c =
-    (tt, properties_memory (kit g.L.Leaf.Leaf g.M.Engine.RegexEngine) g.N.BuiltNode.answers c.in-Ok.part _ (view c.args.schema.now) _ _ _ c.in-Ok.ensures.built _ c.in-Err-make.error refl)
+    (tt, properties_memory _ c.in-Ok.ensures.built _ refl)
 
 pub returns-in-Err-clause-gives : goal.returns-in-Err-clause-gives
 returns-in-Err-clause-gives g c =
-    (tt, refuses_member (kit g.L.Leaf.Leaf g.M.Engine.RegexEngine) g.N.BuiltNode.answers _ (codes "properties") (view c.args.schema.now) _ _ _ c.in-Err.error refl c.in-Err.ensures.refused)
+    (tt, refuses_member (kit g.L.Leaf.Leaf g.M.Engine.RegexEngine) _ (codes "properties") (view c.args.schema.now) refl c.in-Err.ensures.refused)
 
 pub returns-in-Err-clause-place : goal.returns-in-Err-clause-place
 returns-in-Err-clause-place g c = c.compile_member.ensures.place

@@ -11,7 +11,7 @@ use Rattle.olk_read.proofs.Spending.{exit, refuses_memory, within_nothing}
 use Rattle.olk_keywords.proofs.properties.compile_small_map.Goals as goal
 
 pub returns-in_err-names-clause-refused : goal.returns-in_err-names-clause-refused
-returns-in_err-names-clause-refused g c = exit _ _ _ c.from_residual.ensures.1 (λ e q. refuses_memory _ _ _ _ e _ q (within_nothing _ _))
+returns-in_err-names-clause-refused g c = exit _ _ _ c.from_residual.ensures.1 (refuses_memory within_nothing)
 
 pub returns-clause-names : goal.returns-clause-names
 returns-clause-names g c =

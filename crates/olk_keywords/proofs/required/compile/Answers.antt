@@ -6,16 +6,16 @@ use Rattle.olk_keywords.proofs.Modules.{no_other_required, required_built, requi
 use Rattle.olk_keywords.proofs.required.compile.Goals as goal
 
 pub unreachable-requires : goal.unreachable-requires
-unreachable-requires g c = no_other_required (kit g.L.Leaf.Leaf g.M.Engine.RegexEngine) g.N.BuiltNode.answers c.in-Ok.part _ (view c.args.schema.now) _ _ _ c.in-Ok.ensures.built c.in_default.not-Required
+unreachable-requires g c = no_other_required _ c.in-Ok.ensures.built c.in_default.not-Required
 
 pub returns-in-Required-clause-gives : goal.returns-in-Required-clause-gives
 returns-in-Required-clause-gives g c =
-    (required_built (kit g.L.Leaf.Leaf g.M.Engine.RegexEngine) g.N.BuiltNode.answers c.in-Ok.part _ (view c.args.schema.now) _ _ _ c.in-Ok.ensures.built c.in-Required.required c.in-Required.is, tt)
+    (required_built _ c.in-Ok.ensures.built c.in-Required.required c.in-Required.is, tt)
 
 pub returns-in-Required-clause-form : goal.returns-in-Required-clause-form
 returns-in-Required-clause-form g c =
-    required_is_formed (kit g.L.Leaf.Leaf g.M.Engine.RegexEngine) g.N.BuiltNode.answers c.in-Ok.part _ (view c.args.schema.now) _ _ _ c.in-Ok.ensures.built c.in-Required.required c.in-Required.is
+    required_is_formed _ c.in-Ok.ensures.built c.in-Required.required c.in-Required.is
 
 pub returns-in-Err-clause-gives : goal.returns-in-Err-clause-gives
 returns-in-Err-clause-gives g c =
-    (tt, refuses_member (kit g.L.Leaf.Leaf g.M.Engine.RegexEngine) g.N.BuiltNode.answers _ (codes "required") (view c.args.schema.now) _ _ _ c.in-Err.error refl c.in-Err.ensures.refused)
+    (tt, refuses_member (kit g.L.Leaf.Leaf g.M.Engine.RegexEngine) _ (codes "required") (view c.args.schema.now) refl c.in-Err.ensures.refused)

@@ -1,53 +1,38 @@
-use Rattle.std.proofs.Common.{string_bytes, sym, ap, subst}
-use Rattle.serde_json.specs.View.{view, members_view}
+use Rattle.std.proofs.Common.{ap}
+use Rattle.serde_json.specs.View.{members_view}
 use Rattle.olk_spec.specs.Schemas.{listed}
-use Rattle.olk_base.specs.Kit.{kit, world}
-use Rattle.olk_meaning.specs.PatternProperties.{pattern_faults, matcher_made}
-use Rattle.olk_read.specs.Refusing.{Refuses}
 use Rattle.olk_read.proofs.Spending.{exit, refuses_memory, within_nothing}
 use Rattle.olk_read.proofs.PatternsSoFar.{no_patterns, patterns_read, pattern_refused, one_more_pattern, pattern_memory}
 use Rattle.olk_read.proofs.patterns.patterns_of_entries.Goals as goal
 
 pub returns-in_err-patterns-clause-refused : goal.returns-in_err-patterns-clause-refused
-returns-in_err-patterns-clause-refused g c = exit _ _ _ c.from_residual.ensures.1 (λ e q. refuses_memory _ _ _ _ e _ q (within_nothing _ _))
+returns-in_err-patterns-clause-refused g c = exit _ _ _ c.from_residual.ensures.1 (refuses_memory within_nothing)
 
 pub loop-pattern-init : goal.loop-pattern-init
 loop-pattern-init g c =
     record {
-      so_far = no_patterns (kit g.L.Leaf.Leaf g.M.Engine.RegexEngine) c.args.location.now
-          (listed (members_view c.args.entries.now.entries)) c.args.meter.now c.in_ok-patterns.patterns.items _ c.in_ok-patterns.ensures.items
-          (ap (λ l. listed (members_view l)) c.into_iter-pattern-iterator.ensures.into_iter_gives.0);
+      so_far = no_patterns c.in_ok-patterns.ensures.items (ap (λ l. listed (members_view l)) c.into_iter-pattern-iterator.ensures.into_iter_gives.0);
       next = tt;
       ends = tt;
     }
 
 pub returns-in_err-compiled-clause-refused : goal.returns-in_err-compiled-clause-refused
 returns-in_err-compiled-clause-refused g c =
-    exit _ _ _ c.from_residual-in_err-compiled.ensures.1 (λ e q. pattern_refused (kit g.L.Leaf.Leaf g.M.Engine.RegexEngine) c.args.location.now
-    (listed (members_view c.args.entries.now.entries)) c.args.meter.now (string_bytes c.in-Some.pattern.now, view c.in-Some.field-0-1.now)
-    (listed (members_view c.loop-pattern.pattern-iterator)) (listed (members_view c.next.new.self))
-    (ap (λ l. listed (members_view l)) c.in-Some.ensures.steps) c.loop-pattern.patterns.items c.loop-pattern.meter c.read_pattern.new.meter c.loop-pattern.invariant.so_far e
-    (subst (λ x. Refuses (pattern_faults (world g.L.Leaf.Leaf g.M.Engine.RegexEngine) c.args.location.now (string_bytes c.in-Some.pattern.now))
-    (matcher_made (world g.L.Leaf.Leaf g.M.Engine.RegexEngine) (string_bytes c.in-Some.pattern.now)) c.loop-pattern.meter c.read_pattern.new.meter x) (sym q) c.in_err-compiled.ensures.refused))
+    exit _ _ _ c.from_residual-in_err-compiled.ensures.1 (pattern_refused c.loop-pattern.invariant.so_far (ap (λ l. listed (members_view l)) c.in-Some.ensures.steps) c.in_err-compiled.ensures.refused)
 
 pub loop-pattern-preserved : goal.loop-pattern-preserved
 loop-pattern-preserved g c =
     record {
-      so_far = one_more_pattern (kit g.L.Leaf.Leaf g.M.Engine.RegexEngine) c.args.location.now (listed (members_view c.args.entries.now.entries)) c.args.meter.now
-          (string_bytes c.in-Some.pattern.now, view c.in-Some.field-0-1.now) (listed (members_view c.loop-pattern.pattern-iterator))
-          (listed (members_view c.next.new.self)) (ap (λ l. listed (members_view l)) c.in-Some.ensures.steps) c.loop-pattern.patterns.items c.loop-pattern.meter c.read_pattern.new.meter c.loop-pattern.invariant.so_far c.in_ok-compiled.ensures.right c.in_ok-compiled.ensures.spends c.in_ok-compiled.compiled _ c.in_ok-compiled.ensures.pattern c.in_ok-append.ensures.items;
+      so_far = one_more_pattern c.loop-pattern.invariant.so_far (ap (λ l. listed (members_view l)) c.in-Some.ensures.steps)
+          c.in_ok-compiled.ensures.right c.in_ok-compiled.ensures.spends c.in_ok-compiled.ensures.pattern c.in_ok-append.ensures.items;
       next = tt;
       ends = tt;
     }
 
 pub returns-in_err-append-clause-refused : goal.returns-in_err-append-clause-refused
 returns-in_err-append-clause-refused g c =
-    exit _ _ _ c.from_residual-in_err-append.ensures.1 (λ e q. pattern_memory (kit g.L.Leaf.Leaf g.M.Engine.RegexEngine) c.args.location.now
-    (listed (members_view c.args.entries.now.entries)) c.args.meter.now (string_bytes c.in-Some.pattern.now, view c.in-Some.field-0-1.now)
-    (listed (members_view c.loop-pattern.pattern-iterator)) (listed (members_view c.next.new.self))
-    (ap (λ l. listed (members_view l)) c.in-Some.ensures.steps) c.loop-pattern.patterns.items c.loop-pattern.meter c.read_pattern.new.meter c.loop-pattern.invariant.so_far c.in_ok-compiled.ensures.right c.in_ok-compiled.ensures.spends e _ q)
+    exit _ _ _ c.from_residual-in_err-append.ensures.1 (pattern_memory c.loop-pattern.invariant.so_far (ap (λ l. listed (members_view l)) c.in-Some.ensures.steps)
+    c.in_ok-compiled.ensures.right c.in_ok-compiled.ensures.spends)
 
 pub returns-clause-read : goal.returns-clause-read
-returns-clause-read g c =
-    patterns_read (kit g.L.Leaf.Leaf g.M.Engine.RegexEngine) c.args.location.now (listed (members_view c.args.entries.now.entries)) c.args.meter.now c.loop-pattern.patterns.items
-    (listed (members_view c.loop-pattern.pattern-iterator)) _ (ap (λ l. listed (members_view l)) c.in-None.ensures.steps.0) c.loop-pattern.invariant.so_far
+returns-clause-read g c = patterns_read c.loop-pattern.invariant.so_far (ap (λ l. listed (members_view l)) c.in-None.ensures.steps.0)

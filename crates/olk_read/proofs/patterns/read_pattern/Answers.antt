@@ -1,4 +1,4 @@
-use Rattle.std.proofs.Common.{◌≡◌, ◌⊎◌, false, string_bytes, refl, sym, subst}
+use Rattle.std.proofs.Common.{◌≡◌, ◌⊎◌, false, string_bytes, sym, subst}
 use Rattle.olk_base.specs.Kit.{world}
 use Rattle.olk_base.specs.Lawful.{matcher, IsRefused}
 use Rattle.olk_base.specs.Compiled.{pattern_builds, count_open}
@@ -19,6 +19,7 @@ returns-in-Err-Refused-clause-refused g c = record {
 
 pub returns-in-Err-Memory-clause-refused : goal.returns-in-Err-Memory-clause-refused
 returns-in-Err-Memory-clause-refused g c =
-    refuses_memory _ _ _ _ _ c.in-Err-Memory.error c.from.ensures (spends_open_at_most (world g.L.Leaf.Leaf g.M.Engine.RegexEngine)
+    refuses_memory (spends_open_at_most (world g.L.Leaf.Leaf g.M.Engine.RegexEngine)
     (string_bytes c.args.pattern.now) c.args.meter.now c.compile_pattern.new.meter
-    (subst (λ n. (c.compile_pattern.new.meter ≡ c.args.meter.now) ⊎ (c.compile_pattern.new.meter ≡ count_open n c.args.meter.now)) c.as_str.ensures.value c.in-Err-Memory.ensures.made_at_most))
+    (subst (λ n. (c.compile_pattern.new.meter ≡ c.args.meter.now) ⊎
+    (c.compile_pattern.new.meter ≡ count_open n c.args.meter.now)) c.as_str.ensures.value c.in-Err-Memory.ensures.made_at_most)) _ c.from.ensures

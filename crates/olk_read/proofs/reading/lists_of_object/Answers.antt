@@ -19,4 +19,4 @@ returns-in_err-entries-clause-refused c =
     (list_faults c.args.location.now (members (view c.args.value.now))) e (subst (TellsOneOf _) (sym q) c.in_err-entries.ensures.refused))
 
 pub returns-in_err-keys-clause-refused : goal.returns-in_err-keys-clause-refused
-returns-in_err-keys-clause-refused c = exit _ _ _ c.from_residual-in_err-keys.ensures.1 (λ e q. tells_memory _ e _ q)
+returns-in_err-keys-clause-refused c = exit _ _ _ c.from_residual-in_err-keys.ensures.1 (tells_memory _)

@@ -7,20 +7,20 @@ use Rattle.olk_read.proofs.Entries.{none_so_far, one_more_entry, entry_refused, 
 use Rattle.olk_read.proofs.reading.names_of_entries.Goals as goal
 
 pub loop-key-init : goal.loop-key-init
-loop-key-init c = none_so_far _ _ _ _ _ _ c.new-required.ensures.items c.into_iter-key-iterator.ensures.into_iter_gives.0
+loop-key-init c = none_so_far c.new-required.ensures.items c.into_iter-key-iterator.ensures.into_iter_gives.0
 
 pub loop-key-preserved : goal.loop-key-preserved
 loop-key-preserved c =
-    one_more_entry _ _ _ _ _ _ _ _ c.in-Some.ensures.steps _ _ _ c.in_ok-append.ensures.items c.in_ok-names.ensures.names
-    (subst (λ n. name_list_refusals n (view c.in-Some.value.now) c.args.location.now ≡ []) c.as_str.ensures.value c.in_ok-names.ensures.right) c.loop-key.invariant
+    one_more_entry c.loop-key.invariant c.in-Some.ensures.steps c.in_ok-append.ensures.items c.in_ok-names.ensures.names
+    (subst (λ n. name_list_refusals n (view c.in-Some.value.now) c.args.location.now ≡ []) c.as_str.ensures.value c.in_ok-names.ensures.right)
 
 pub returns-in_err-names-clause-refused : goal.returns-in_err-names-clause-refused
 returns-in_err-names-clause-refused c =
-    exit _ _ _ c.from_residual.ensures.1 (λ e q. entry_refused _ _ _ _ _ _ _ _ c.in-Some.ensures.steps _ e c.loop-key.invariant
+    exit _ _ _ c.from_residual.ensures.1 (λ e q. entry_refused c.loop-key.invariant c.in-Some.ensures.steps e
     (subst (λ n. TellsOneOf (name_list_refusals n (view c.in-Some.value.now) c.args.location.now) e) c.as_str.ensures.value (subst (TellsOneOf _) (sym q) c.in_err-names.ensures.refused)))
 
 pub returns-clause-names : goal.returns-clause-names
-returns-clause-names c = entries_shown _ _ _ _ _ _ c.loop-key.invariant c.in-None.ensures.steps.0
+returns-clause-names c = entries_shown c.loop-key.invariant c.in-None.ensures.steps.0
 
 pub returns-clause-right : goal.returns-clause-right
-returns-clause-right c = entries_right _ _ _ _ _ _ c.loop-key.invariant c.in-None.ensures.steps.0
+returns-clause-right c = entries_right c.loop-key.invariant c.in-None.ensures.steps.0

@@ -15,7 +15,7 @@ pub returns-in_err-place : goal.returns-in_err-place
 returns-in_err-place c = record {
   names = IfOk-from_err c.from_residual.result _ c.from_residual.ensures.0;
   right = IfOk-from_err c.from_residual.result _ c.from_residual.ensures.0;
-  refused = exit _ _ _ c.from_residual.ensures.1 (λ e q. tells_memory _ e _ q);
+  refused = exit _ _ _ c.from_residual.ensures.1 (tells_memory _);
 }
 
 pub returns-in_err-items : goal.returns-in_err-items
@@ -31,7 +31,7 @@ pub returns-in_err-has_repeated_text : goal.returns-in_err-has_repeated_text
 returns-in_err-has_repeated_text c = record {
   names = IfOk-from_err c.from_residual-in_err-has_repeated_text.result _ c.from_residual-in_err-has_repeated_text.ensures.0;
   right = IfOk-from_err c.from_residual-in_err-has_repeated_text.result _ c.from_residual-in_err-has_repeated_text.ensures.0;
-  refused = exit _ _ _ c.from_residual-in_err-has_repeated_text.ensures.1 (λ e q. tells_memory _ e _ q);
+  refused = exit _ _ _ c.from_residual-in_err-has_repeated_text.ensures.1 (tells_memory _);
 }
 
 pub returns-then-branch-clause-refused : goal.returns-then-branch-clause-refused

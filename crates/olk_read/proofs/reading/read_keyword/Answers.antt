@@ -8,8 +8,8 @@ use Rattle.olk_spec.specs.Faults.{fault}
 use Rattle.olk_reports.proofs.Errors.{kind_of_unsupported}
 use Rattle.olk_meaning.specs.Conditions.{known}
 use Rattle.olk_read.specs.Refusing.{TellsOneOf}
-use Rattle.olk_read.proofs.Spending.{exit}
-use Rattle.olk_read.proofs.Read.{conditional_is_read, others_are_read, own_not, right_properties, right_dependent_schemas, right_required, right_all_of, right_any_of, right_one_of, own_if, own_then, own_else, refuses_own, refuses_name, refuses_without_memory, is_read, right_dependent_required, right_dependencies, right_property_dependencies, names_are_read, own_properties, own_additional_properties, own_required, own_dependent_required, own_dependent_schemas, own_dependencies, own_property_dependencies, own_all_of, own_any_of, own_one_of}
+use Rattle.olk_read.proofs.Spending.{exit, refuses_memory, within_nothing}
+use Rattle.olk_read.proofs.Read.{read_as, conditional_is_read, others_are_read, own_not, right_properties, right_dependent_schemas, right_required, right_all_of, right_any_of, right_one_of, own_if, own_then, own_else, refuses_own, refuses_name, is_read, right_dependent_required, right_dependencies, right_property_dependencies, names_are_read, own_properties, own_additional_properties, own_required, own_dependent_required, own_dependent_schemas, own_dependencies, own_property_dependencies, own_all_of, own_any_of, own_one_of}
 use Rattle.olk_spec.specs.Schemas.{members}
 use Rattle.olk_read.proofs.NameLists.{name_lists_are_arrays}
 use Rattle.olk_read.proofs.reading.read_keyword.Goals as goal
@@ -18,10 +18,9 @@ pub returns-in_err-names_of_object-in-Properties : goal.returns-in_err-names_of_
 returns-in_err-names_of_object-in-Properties g c = record {
   built = IfOk-from_err c.from_residual.result _ c.from_residual.ensures.0;
   refused =
-      exit _ _ _ c.from_residual.ensures.1 (λ e q. refuses_own (world g.L.Leaf.Leaf g.M.Engine.RegexEngine) c.args.name.now (codes "properties")
-      (view c.args.value.now) c.args.location.now _ _ c.args.meter.now e (subst (IsFor c.args.name.now) c.in-Properties.is c.keyword_for.ensures)
-      (own_properties (world g.L.Leaf.Leaf g.M.Engine.RegexEngine) (view c.args.value.now) c.args.location.now)
-      (subst (TellsOneOf _) (sym q) c.in_err-names_of_object-in-Properties.ensures.refused));
+      exit _ _ _ c.from_residual.ensures.1 (λ e q. refuses_own (world g.L.Leaf.Leaf g.M.Engine.RegexEngine) (view c.args.value.now) c.args.location.now _ (subst
+      (IsFor c.args.name.now) c.in-Properties.is c.keyword_for.ensures)
+      own_properties (subst (TellsOneOf _) (sym q) c.in_err-names_of_object-in-Properties.ensures.refused));
 }
 
 pub returns-in_err-texts_of_array-in-Required : goal.returns-in_err-texts_of_array-in-Required
@@ -29,9 +28,8 @@ returns-in_err-texts_of_array-in-Required g c = record {
   built = IfOk-from_err c.from_residual-in_err-texts_of_array-in-Required.result _ c.from_residual-in_err-texts_of_array-in-Required.ensures.0;
   refused =
       exit _ _ _ c.from_residual-in_err-texts_of_array-in-Required.ensures.1
-      (λ e q. refuses_own (world g.L.Leaf.Leaf g.M.Engine.RegexEngine) c.args.name.now (codes "required") (view c.args.value.now) c.args.location.now _ _ c.args.meter.now e
-      (subst (IsFor c.args.name.now) c.in-Required.is c.keyword_for.ensures) (own_required (world g.L.Leaf.Leaf g.M.Engine.RegexEngine) (view c.args.value.now) c.args.location.now)
-      (subst (TellsOneOf _) (sym q) c.in_err-texts_of_array-in-Required.ensures.refused));
+      (λ e q. refuses_own (world g.L.Leaf.Leaf g.M.Engine.RegexEngine) (view c.args.value.now) c.args.location.now _ (subst
+      (IsFor c.args.name.now) c.in-Required.is c.keyword_for.ensures) own_required (subst (TellsOneOf _) (sym q) c.in_err-texts_of_array-in-Required.ensures.refused));
 }
 
 pub returns-in_err-keys-in-DependentRequired : goal.returns-in_err-keys-in-DependentRequired
@@ -39,10 +37,8 @@ returns-in_err-keys-in-DependentRequired g c = record {
   built = IfOk-from_err c.from_residual-in_err-keys-in-DependentRequired.result _ c.from_residual-in_err-keys-in-DependentRequired.ensures.0;
   refused =
       exit _ _ _ c.from_residual-in_err-keys-in-DependentRequired.ensures.1
-      (λ e q. refuses_own (world g.L.Leaf.Leaf g.M.Engine.RegexEngine) c.args.name.now (codes "dependentRequired")
-      (view c.args.value.now) c.args.location.now _ _ c.args.meter.now e (subst (IsFor c.args.name.now) c.in-DependentRequired.is c.keyword_for.ensures)
-      (own_dependent_required (world g.L.Leaf.Leaf g.M.Engine.RegexEngine) (view c.args.value.now) c.args.location.now)
-      (subst (TellsOneOf _) (sym q) c.in_err-keys-in-DependentRequired.ensures.refused));
+      (λ e q. refuses_own (world g.L.Leaf.Leaf g.M.Engine.RegexEngine) (view c.args.value.now) c.args.location.now _ (subst (IsFor c.args.name.now) c.in-DependentRequired.is c.keyword_for.ensures)
+      own_dependent_required (subst (TellsOneOf _) (sym q) c.in_err-keys-in-DependentRequired.ensures.refused));
 }
 
 pub returns-in_err-names_of_object-in-DependentSchemas : goal.returns-in_err-names_of_object-in-DependentSchemas
@@ -50,19 +46,17 @@ returns-in_err-names_of_object-in-DependentSchemas g c = record {
   built = IfOk-from_err c.from_residual-in_err-names_of_object-in-DependentSchemas.result _ c.from_residual-in_err-names_of_object-in-DependentSchemas.ensures.0;
   refused =
       exit _ _ _ c.from_residual-in_err-names_of_object-in-DependentSchemas.ensures.1
-      (λ e q. refuses_own (world g.L.Leaf.Leaf g.M.Engine.RegexEngine) c.args.name.now (codes "dependentSchemas")
-      (view c.args.value.now) c.args.location.now _ _ c.args.meter.now e (subst (IsFor c.args.name.now) c.in-DependentSchemas.is c.keyword_for.ensures)
-      (own_dependent_schemas (world g.L.Leaf.Leaf g.M.Engine.RegexEngine) (view c.args.value.now) c.args.location.now)
-      (subst (TellsOneOf _) (sym q) c.in_err-names_of_object-in-DependentSchemas.ensures.refused));
+      (λ e q. refuses_own (world g.L.Leaf.Leaf g.M.Engine.RegexEngine) (view c.args.value.now) c.args.location.now _ (subst (IsFor c.args.name.now) c.in-DependentSchemas.is c.keyword_for.ensures)
+      own_dependent_schemas (subst (TellsOneOf _) (sym q) c.in_err-names_of_object-in-DependentSchemas.ensures.refused));
 }
 
 pub returns-in_err-keys-in-Dependencies : goal.returns-in_err-keys-in-Dependencies
 returns-in_err-keys-in-Dependencies g c = record {
   built = IfOk-from_err c.from_residual-in_err-keys-in-Dependencies.result _ c.from_residual-in_err-keys-in-Dependencies.ensures.0;
   refused =
-      exit _ _ _ c.from_residual-in_err-keys-in-Dependencies.ensures.1 (λ e q. refuses_own (world g.L.Leaf.Leaf g.M.Engine.RegexEngine) c.args.name.now
-      (codes "dependencies") (view c.args.value.now) c.args.location.now _ _ c.args.meter.now e (subst (IsFor c.args.name.now) c.in-Dependencies.is c.keyword_for.ensures)
-      (own_dependencies (world g.L.Leaf.Leaf g.M.Engine.RegexEngine) (view c.args.value.now) c.args.location.now) (subst (TellsOneOf _) (sym q) c.in_err-keys-in-Dependencies.ensures.refused));
+      exit _ _ _ c.from_residual-in_err-keys-in-Dependencies.ensures.1 (λ e q. refuses_own (world g.L.Leaf.Leaf g.M.Engine.RegexEngine) (view c.args.value.now) c.args.location.now _ (subst
+      (IsFor c.args.name.now) c.in-Dependencies.is c.keyword_for.ensures)
+      own_dependencies (subst (TellsOneOf _) (sym q) c.in_err-keys-in-Dependencies.ensures.refused));
 }
 
 pub returns-in_err-keys-in-PropertyDependencies : goal.returns-in_err-keys-in-PropertyDependencies
@@ -70,10 +64,8 @@ returns-in_err-keys-in-PropertyDependencies g c = record {
   built = IfOk-from_err c.from_residual-in_err-keys-in-PropertyDependencies.result _ c.from_residual-in_err-keys-in-PropertyDependencies.ensures.0;
   refused =
       exit _ _ _ c.from_residual-in_err-keys-in-PropertyDependencies.ensures.1
-      (λ e q. refuses_own (world g.L.Leaf.Leaf g.M.Engine.RegexEngine) c.args.name.now (codes "propertyDependencies")
-      (view c.args.value.now) c.args.location.now _ _ c.args.meter.now e (subst (IsFor c.args.name.now) c.in-PropertyDependencies.is c.keyword_for.ensures)
-      (own_property_dependencies (world g.L.Leaf.Leaf g.M.Engine.RegexEngine) (view c.args.value.now) c.args.location.now)
-      (subst (TellsOneOf _) (sym q) c.in_err-keys-in-PropertyDependencies.ensures.refused));
+      (λ e q. refuses_own (world g.L.Leaf.Leaf g.M.Engine.RegexEngine) (view c.args.value.now) c.args.location.now _ (subst (IsFor c.args.name.now) c.in-PropertyDependencies.is c.keyword_for.ensures)
+      own_property_dependencies (subst (TellsOneOf _) (sym q) c.in_err-keys-in-PropertyDependencies.ensures.refused));
 }
 
 pub returns-in_err-shape_of_others-in-AdditionalProperties : goal.returns-in_err-shape_of_others-in-AdditionalProperties
@@ -81,10 +73,8 @@ returns-in_err-shape_of_others-in-AdditionalProperties g c = record {
   built = IfOk-from_err c.from_residual-in_err-shape_of_others-in-AdditionalProperties.result _ c.from_residual-in_err-shape_of_others-in-AdditionalProperties.ensures.0;
   refused =
       exit _ _ _ c.from_residual-in_err-shape_of_others-in-AdditionalProperties.ensures.1
-      (λ e q. refuses_own (world g.L.Leaf.Leaf g.M.Engine.RegexEngine) c.args.name.now (codes "additionalProperties")
-      (view c.args.value.now) c.args.location.now _ _ c.args.meter.now e (subst (IsFor c.args.name.now) c.in-AdditionalProperties.is c.keyword_for.ensures)
-      (own_additional_properties (world g.L.Leaf.Leaf g.M.Engine.RegexEngine) (view c.args.value.now) c.args.location.now)
-      (subst (TellsOneOf _) (sym q) c.in_err-shape_of_others-in-AdditionalProperties.ensures.refused));
+      (λ e q. refuses_own (world g.L.Leaf.Leaf g.M.Engine.RegexEngine) (view c.args.value.now) c.args.location.now _ (subst (IsFor c.args.name.now) c.in-AdditionalProperties.is c.keyword_for.ensures)
+      own_additional_properties (subst (TellsOneOf _) (sym q) c.in_err-shape_of_others-in-AdditionalProperties.ensures.refused));
 }
 
 pub returns-in_err-shape_of_branches-in-AllOf : goal.returns-in_err-shape_of_branches-in-AllOf
@@ -92,9 +82,8 @@ returns-in_err-shape_of_branches-in-AllOf g c = record {
   built = IfOk-from_err c.from_residual-in_err-shape_of_branches-in-AllOf.result _ c.from_residual-in_err-shape_of_branches-in-AllOf.ensures.0;
   refused =
       exit _ _ _ c.from_residual-in_err-shape_of_branches-in-AllOf.ensures.1
-      (λ e q. refuses_own (world g.L.Leaf.Leaf g.M.Engine.RegexEngine) c.args.name.now (codes "allOf") (view c.args.value.now) c.args.location.now _ _ c.args.meter.now e
-      (subst (IsFor c.args.name.now) c.in-AllOf.is c.keyword_for.ensures) (own_all_of (world g.L.Leaf.Leaf g.M.Engine.RegexEngine) (view c.args.value.now) c.args.location.now)
-      (subst (TellsOneOf _) (sym q) c.in_err-shape_of_branches-in-AllOf.ensures.refused));
+      (λ e q. refuses_own (world g.L.Leaf.Leaf g.M.Engine.RegexEngine) (view c.args.value.now) c.args.location.now _ (subst
+      (IsFor c.args.name.now) c.in-AllOf.is c.keyword_for.ensures) own_all_of (subst (TellsOneOf _) (sym q) c.in_err-shape_of_branches-in-AllOf.ensures.refused));
 }
 
 pub returns-in_err-shape_of_branches-in-AnyOf : goal.returns-in_err-shape_of_branches-in-AnyOf
@@ -102,9 +91,8 @@ returns-in_err-shape_of_branches-in-AnyOf g c = record {
   built = IfOk-from_err c.from_residual-in_err-shape_of_branches-in-AnyOf.result _ c.from_residual-in_err-shape_of_branches-in-AnyOf.ensures.0;
   refused =
       exit _ _ _ c.from_residual-in_err-shape_of_branches-in-AnyOf.ensures.1
-      (λ e q. refuses_own (world g.L.Leaf.Leaf g.M.Engine.RegexEngine) c.args.name.now (codes "anyOf") (view c.args.value.now) c.args.location.now _ _ c.args.meter.now e
-      (subst (IsFor c.args.name.now) c.in-AnyOf.is c.keyword_for.ensures) (own_any_of (world g.L.Leaf.Leaf g.M.Engine.RegexEngine) (view c.args.value.now) c.args.location.now)
-      (subst (TellsOneOf _) (sym q) c.in_err-shape_of_branches-in-AnyOf.ensures.refused));
+      (λ e q. refuses_own (world g.L.Leaf.Leaf g.M.Engine.RegexEngine) (view c.args.value.now) c.args.location.now _ (subst
+      (IsFor c.args.name.now) c.in-AnyOf.is c.keyword_for.ensures) own_any_of (subst (TellsOneOf _) (sym q) c.in_err-shape_of_branches-in-AnyOf.ensures.refused));
 }
 
 pub returns-in_err-shape_of_branches-in-OneOf : goal.returns-in_err-shape_of_branches-in-OneOf
@@ -112,15 +100,14 @@ returns-in_err-shape_of_branches-in-OneOf g c = record {
   built = IfOk-from_err c.from_residual-in_err-shape_of_branches-in-OneOf.result _ c.from_residual-in_err-shape_of_branches-in-OneOf.ensures.0;
   refused =
       exit _ _ _ c.from_residual-in_err-shape_of_branches-in-OneOf.ensures.1
-      (λ e q. refuses_own (world g.L.Leaf.Leaf g.M.Engine.RegexEngine) c.args.name.now (codes "oneOf") (view c.args.value.now) c.args.location.now _ _ c.args.meter.now e
-      (subst (IsFor c.args.name.now) c.in-OneOf.is c.keyword_for.ensures) (own_one_of (world g.L.Leaf.Leaf g.M.Engine.RegexEngine) (view c.args.value.now) c.args.location.now)
-      (subst (TellsOneOf _) (sym q) c.in_err-shape_of_branches-in-OneOf.ensures.refused));
+      (λ e q. refuses_own (world g.L.Leaf.Leaf g.M.Engine.RegexEngine) (view c.args.value.now) c.args.location.now _ (subst
+      (IsFor c.args.name.now) c.in-OneOf.is c.keyword_for.ensures) own_one_of (subst (TellsOneOf _) (sym q) c.in_err-shape_of_branches-in-OneOf.ensures.refused));
 }
 
 pub returns-in_err-clone-in-Not : goal.returns-in_err-clone-in-Not
 returns-in_err-clone-in-Not g c = record {
   built = IfOk-from_err c.from_residual-in_err-clone-in-Not.result _ c.from_residual-in_err-clone-in-Not.ensures.0;
-  refused = exit _ _ _ c.from_residual-in_err-clone-in-Not.ensures.1 (λ e q. refuses_without_memory _ _ c.args.meter.now e _ q);
+  refused = exit _ _ _ c.from_residual-in_err-clone-in-Not.ensures.1 (refuses_memory within_nothing);
 }
 
 pub returns-in-Refused : goal.returns-in-Refused
@@ -136,18 +123,15 @@ returns-in-Refused g c =
 pub returns-in-PropertyNames : goal.returns-in-PropertyNames
 returns-in-PropertyNames g c = record {
   built =
-      subst (λ x. IsRead (kit g.L.Leaf.Leaf g.M.Engine.RegexEngine) x (known c.args.neighbours) c.args.name.now
-      (view c.args.value.now) c.args.location.now c.args.meter.now c.args.meter.now) (sym c.shape_of_names.ensures)
-      (names_are_read (kit g.L.Leaf.Leaf g.M.Engine.RegexEngine) (known c.args.neighbours) c.args.name.now (view c.args.value.now) c.args.location.now c.args.meter.now
-      (subst (IsFor c.args.name.now) c.in-PropertyNames.is c.keyword_for.ensures));
+      read_as _ c.shape_of_names.ensures
+      (names_are_read (kit g.L.Leaf.Leaf g.M.Engine.RegexEngine) (view c.args.value.now) (subst (IsFor c.args.name.now) c.in-PropertyNames.is c.keyword_for.ensures));
   refused = tt;
 }
 
 pub returns-in_ok-keys-in-DependentRequired : goal.returns-in_ok-keys-in-DependentRequired
 returns-in_ok-keys-in-DependentRequired g c = record {
   built =
-      is_read (kit g.L.Leaf.Leaf g.M.Engine.RegexEngine) _ (known c.args.neighbours) c.args.name.now (codes "dependentRequired")
-      (view c.args.value.now) c.args.location.now c.args.meter.now (subst (IsFor c.args.name.now) c.in-DependentRequired.is c.keyword_for.ensures) (
+      is_read _ (subst (IsFor c.args.name.now) c.in-DependentRequired.is c.keyword_for.ensures) (
         refl,
         c.in_ok-keys-in-DependentRequired.ensures.object,
         c.in_ok-keys-in-DependentRequired.ensures.keys,
@@ -163,8 +147,7 @@ returns-in_ok-keys-in-DependentRequired g c = record {
 pub returns-in_ok-keys-in-Dependencies : goal.returns-in_ok-keys-in-Dependencies
 returns-in_ok-keys-in-Dependencies g c = record {
   built =
-      is_read (kit g.L.Leaf.Leaf g.M.Engine.RegexEngine) _ (known c.args.neighbours) c.args.name.now (codes "dependencies")
-      (view c.args.value.now) c.args.location.now c.args.meter.now (subst (IsFor c.args.name.now) c.in-Dependencies.is c.keyword_for.ensures)
+      is_read _ (subst (IsFor c.args.name.now) c.in-Dependencies.is c.keyword_for.ensures)
       (refl, c.in_ok-keys-in-Dependencies.ensures.object, c.in_ok-keys-in-Dependencies.ensures.keys, c.in_ok-keys-in-Dependencies.ensures.lists) tt
       (right_dependencies (world g.L.Leaf.Leaf g.M.Engine.RegexEngine)
       (view c.args.value.now) c.args.location.now c.in_ok-keys-in-Dependencies.ensures.object c.in_ok-keys-in-Dependencies.ensures.texts) refl;
@@ -174,8 +157,7 @@ returns-in_ok-keys-in-Dependencies g c = record {
 pub returns-in_ok-keys-in-PropertyDependencies : goal.returns-in_ok-keys-in-PropertyDependencies
 returns-in_ok-keys-in-PropertyDependencies g c = record {
   built =
-      is_read (kit g.L.Leaf.Leaf g.M.Engine.RegexEngine) _ (known c.args.neighbours) c.args.name.now (codes "propertyDependencies")
-      (view c.args.value.now) c.args.location.now c.args.meter.now (subst (IsFor c.args.name.now) c.in-PropertyDependencies.is c.keyword_for.ensures)
+      is_read _ (subst (IsFor c.args.name.now) c.in-PropertyDependencies.is c.keyword_for.ensures)
       (refl, c.in_ok-keys-in-PropertyDependencies.ensures.object, c.in_ok-keys-in-PropertyDependencies.ensures.keys, c.in_ok-keys-in-PropertyDependencies.ensures.texts) tt
       (right_property_dependencies (world g.L.Leaf.Leaf g.M.Engine.RegexEngine)
       (view c.args.value.now) c.args.location.now c.in_ok-keys-in-PropertyDependencies.ensures.object c.in_ok-keys-in-PropertyDependencies.ensures.objects) refl;
@@ -185,10 +167,8 @@ returns-in_ok-keys-in-PropertyDependencies g c = record {
 pub returns-in-If : goal.returns-in-If
 returns-in-If g c = record {
   built =
-      subst (λ x. IsRead (kit g.L.Leaf.Leaf g.M.Engine.RegexEngine) x (known c.args.neighbours) c.args.name.now
-      (view c.args.value.now) c.args.location.now c.args.meter.now c.args.meter.now) (sym c.shape_beside.ensures)
-      (conditional_is_read (kit g.L.Leaf.Leaf g.M.Engine.RegexEngine) shape.If (known c.args.neighbours) c.args.name.now (codes "if")
-      (view c.args.value.now) c.args.location.now c.args.meter.now (subst (IsFor c.args.name.now) c.in-If.is c.keyword_for.ensures) refl (λ e. e) refl
+      read_as _ c.shape_beside.ensures
+      (conditional_is_read (kit g.L.Leaf.Leaf g.M.Engine.RegexEngine) shape.If (known c.args.neighbours) (subst (IsFor c.args.name.now) c.in-If.is c.keyword_for.ensures) refl (λ e. e) refl
       (own_if (world g.L.Leaf.Leaf g.M.Engine.RegexEngine) (view c.args.value.now) c.args.location.now) refl);
   refused = tt;
 }
@@ -196,10 +176,8 @@ returns-in-If g c = record {
 pub returns-in-Then : goal.returns-in-Then
 returns-in-Then g c = record {
   built =
-      subst (λ x. IsRead (kit g.L.Leaf.Leaf g.M.Engine.RegexEngine) x (known c.args.neighbours) c.args.name.now
-      (view c.args.value.now) c.args.location.now c.args.meter.now c.args.meter.now) (sym c.shape_beside-in-Then.ensures)
-      (conditional_is_read (kit g.L.Leaf.Leaf g.M.Engine.RegexEngine) shape.Then (known c.args.neighbours) c.args.name.now (codes "then")
-      (view c.args.value.now) c.args.location.now c.args.meter.now (subst (IsFor c.args.name.now) c.in-Then.is c.keyword_for.ensures) refl (λ e. e) refl
+      read_as _ c.shape_beside-in-Then.ensures
+      (conditional_is_read (kit g.L.Leaf.Leaf g.M.Engine.RegexEngine) shape.Then (known c.args.neighbours) (subst (IsFor c.args.name.now) c.in-Then.is c.keyword_for.ensures) refl (λ e. e) refl
       (own_then (world g.L.Leaf.Leaf g.M.Engine.RegexEngine) (view c.args.value.now) c.args.location.now) refl);
   refused = tt;
 }
@@ -207,10 +185,8 @@ returns-in-Then g c = record {
 pub returns-in-Else : goal.returns-in-Else
 returns-in-Else g c = record {
   built =
-      subst (λ x. IsRead (kit g.L.Leaf.Leaf g.M.Engine.RegexEngine) x (known c.args.neighbours) c.args.name.now
-      (view c.args.value.now) c.args.location.now c.args.meter.now c.args.meter.now) (sym c.shape_beside-in-Else.ensures)
-      (conditional_is_read (kit g.L.Leaf.Leaf g.M.Engine.RegexEngine) shape.Else (known c.args.neighbours) c.args.name.now (codes "else")
-      (view c.args.value.now) c.args.location.now c.args.meter.now (subst (IsFor c.args.name.now) c.in-Else.is c.keyword_for.ensures) refl (λ e. e) refl
+      read_as _ c.shape_beside-in-Else.ensures
+      (conditional_is_read (kit g.L.Leaf.Leaf g.M.Engine.RegexEngine) shape.Else (known c.args.neighbours) (subst (IsFor c.args.name.now) c.in-Else.is c.keyword_for.ensures) refl (λ e. e) refl
       (own_else (world g.L.Leaf.Leaf g.M.Engine.RegexEngine) (view c.args.value.now) c.args.location.now) refl);
   refused = tt;
 }
@@ -224,8 +200,7 @@ returns-in_ok-read_other-in-Other g c = record {
 pub returns-in_ok-names_of_object-in-Properties : goal.returns-in_ok-names_of_object-in-Properties
 returns-in_ok-names_of_object-in-Properties g c = record {
   built =
-      is_read (kit g.L.Leaf.Leaf g.M.Engine.RegexEngine) _ (known c.args.neighbours) c.args.name.now (codes "properties")
-      (view c.args.value.now) c.args.location.now c.args.meter.now (subst (IsFor c.args.name.now) c.in-Properties.is c.keyword_for.ensures)
+      is_read _ (subst (IsFor c.args.name.now) c.in-Properties.is c.keyword_for.ensures)
       (refl, c.in_ok-names_of_object-in-Properties.ensures.object, c.in_ok-names_of_object-in-Properties.ensures.names) tt
       (right_properties (world g.L.Leaf.Leaf g.M.Engine.RegexEngine) (view c.args.value.now) c.args.location.now c.in_ok-names_of_object-in-Properties.ensures.object) refl;
   refused = tt;
@@ -234,8 +209,7 @@ returns-in_ok-names_of_object-in-Properties g c = record {
 pub returns-in_ok-names_of_object-in-DependentSchemas : goal.returns-in_ok-names_of_object-in-DependentSchemas
 returns-in_ok-names_of_object-in-DependentSchemas g c = record {
   built =
-      is_read (kit g.L.Leaf.Leaf g.M.Engine.RegexEngine) _ (known c.args.neighbours) c.args.name.now (codes "dependentSchemas")
-      (view c.args.value.now) c.args.location.now c.args.meter.now (subst (IsFor c.args.name.now) c.in-DependentSchemas.is c.keyword_for.ensures)
+      is_read _ (subst (IsFor c.args.name.now) c.in-DependentSchemas.is c.keyword_for.ensures)
       (refl, c.in_ok-names_of_object-in-DependentSchemas.ensures.object, c.in_ok-names_of_object-in-DependentSchemas.ensures.names) tt
       (right_dependent_schemas (world g.L.Leaf.Leaf g.M.Engine.RegexEngine) (view c.args.value.now) c.args.location.now c.in_ok-names_of_object-in-DependentSchemas.ensures.object) refl;
   refused = tt;
@@ -244,8 +218,7 @@ returns-in_ok-names_of_object-in-DependentSchemas g c = record {
 pub returns-in_ok-texts_of_array-in-Required : goal.returns-in_ok-texts_of_array-in-Required
 returns-in_ok-texts_of_array-in-Required g c = record {
   built =
-      is_read (kit g.L.Leaf.Leaf g.M.Engine.RegexEngine) _ (known c.args.neighbours) c.args.name.now (codes "required") (view c.args.value.now) c.args.location.now c.args.meter.now
-      (subst (IsFor c.args.name.now) c.in-Required.is c.keyword_for.ensures) (
+      is_read _ (subst (IsFor c.args.name.now) c.in-Required.is c.keyword_for.ensures) (
         refl,
         c.in_ok-texts_of_array-in-Required.ensures.array,
         c.in_ok-texts_of_array-in-Required.ensures.names,
@@ -257,10 +230,8 @@ returns-in_ok-texts_of_array-in-Required g c = record {
 pub returns-in_ok-shape_of_branches-in-AllOf : goal.returns-in_ok-shape_of_branches-in-AllOf
 returns-in_ok-shape_of_branches-in-AllOf g c = record {
   built =
-      subst (λ x. IsRead (kit g.L.Leaf.Leaf g.M.Engine.RegexEngine) x (known c.args.neighbours) c.args.name.now
-      (view c.args.value.now) c.args.location.now c.args.meter.now c.args.meter.now) (sym c.in_ok-shape_of_branches-in-AllOf.ensures.same)
-      (is_read (kit g.L.Leaf.Leaf g.M.Engine.RegexEngine) shape.AllOf (known c.args.neighbours) c.args.name.now (codes "allOf")
-      (view c.args.value.now) c.args.location.now c.args.meter.now (subst (IsFor c.args.name.now) c.in-AllOf.is c.keyword_for.ensures)
+      read_as _ c.in_ok-shape_of_branches-in-AllOf.ensures.same
+      (is_read _ (subst (IsFor c.args.name.now) c.in-AllOf.is c.keyword_for.ensures)
       (refl, c.in_ok-shape_of_branches-in-AllOf.ensures.array) tt (right_all_of (world g.L.Leaf.Leaf g.M.Engine.RegexEngine)
       (view c.args.value.now) c.args.location.now c.in_ok-shape_of_branches-in-AllOf.ensures.array) refl);
   refused = tt;
@@ -269,10 +240,8 @@ returns-in_ok-shape_of_branches-in-AllOf g c = record {
 pub returns-in_ok-shape_of_branches-in-AnyOf : goal.returns-in_ok-shape_of_branches-in-AnyOf
 returns-in_ok-shape_of_branches-in-AnyOf g c = record {
   built =
-      subst (λ x. IsRead (kit g.L.Leaf.Leaf g.M.Engine.RegexEngine) x (known c.args.neighbours) c.args.name.now
-      (view c.args.value.now) c.args.location.now c.args.meter.now c.args.meter.now) (sym c.in_ok-shape_of_branches-in-AnyOf.ensures.same)
-      (is_read (kit g.L.Leaf.Leaf g.M.Engine.RegexEngine) shape.AnyOf (known c.args.neighbours) c.args.name.now (codes "anyOf")
-      (view c.args.value.now) c.args.location.now c.args.meter.now (subst (IsFor c.args.name.now) c.in-AnyOf.is c.keyword_for.ensures)
+      read_as _ c.in_ok-shape_of_branches-in-AnyOf.ensures.same
+      (is_read _ (subst (IsFor c.args.name.now) c.in-AnyOf.is c.keyword_for.ensures)
       (refl, c.in_ok-shape_of_branches-in-AnyOf.ensures.array) tt (right_any_of (world g.L.Leaf.Leaf g.M.Engine.RegexEngine)
       (view c.args.value.now) c.args.location.now c.in_ok-shape_of_branches-in-AnyOf.ensures.array) refl);
   refused = tt;
@@ -281,10 +250,8 @@ returns-in_ok-shape_of_branches-in-AnyOf g c = record {
 pub returns-in_ok-shape_of_branches-in-OneOf : goal.returns-in_ok-shape_of_branches-in-OneOf
 returns-in_ok-shape_of_branches-in-OneOf g c = record {
   built =
-      subst (λ x. IsRead (kit g.L.Leaf.Leaf g.M.Engine.RegexEngine) x (known c.args.neighbours) c.args.name.now
-      (view c.args.value.now) c.args.location.now c.args.meter.now c.args.meter.now) (sym c.in_ok-shape_of_branches-in-OneOf.ensures.same)
-      (is_read (kit g.L.Leaf.Leaf g.M.Engine.RegexEngine) shape.OneOf (known c.args.neighbours) c.args.name.now (codes "oneOf")
-      (view c.args.value.now) c.args.location.now c.args.meter.now (subst (IsFor c.args.name.now) c.in-OneOf.is c.keyword_for.ensures)
+      read_as _ c.in_ok-shape_of_branches-in-OneOf.ensures.same
+      (is_read _ (subst (IsFor c.args.name.now) c.in-OneOf.is c.keyword_for.ensures)
       (refl, c.in_ok-shape_of_branches-in-OneOf.ensures.array) tt (right_one_of (world g.L.Leaf.Leaf g.M.Engine.RegexEngine)
       (view c.args.value.now) c.args.location.now c.in_ok-shape_of_branches-in-OneOf.ensures.array) refl);
   refused = tt;
@@ -293,18 +260,16 @@ returns-in_ok-shape_of_branches-in-OneOf g c = record {
 pub returns-in_ok-shape_of_others-in-AdditionalProperties : goal.returns-in_ok-shape_of_others-in-AdditionalProperties
 returns-in_ok-shape_of_others-in-AdditionalProperties g c = record {
   built =
-      subst (λ x. IsRead (kit g.L.Leaf.Leaf g.M.Engine.RegexEngine) x (known c.args.neighbours) c.args.name.now
-      (view c.args.value.now) c.args.location.now c.args.meter.now c.args.meter.now) (sym c.in_ok-shape_of_others-in-AdditionalProperties.ensures.shape)
-      (others_are_read (kit g.L.Leaf.Leaf g.M.Engine.RegexEngine) (known c.args.neighbours) c.args.name.now (view c.args.value.now) c.args.location.now c.args.meter.now
-      (subst (IsFor c.args.name.now) c.in-AdditionalProperties.is c.keyword_for.ensures) c.in_ok-shape_of_others-in-AdditionalProperties.ensures.rule);
+      read_as _ c.in_ok-shape_of_others-in-AdditionalProperties.ensures.shape
+      (others_are_read (kit g.L.Leaf.Leaf g.M.Engine.RegexEngine) (view c.args.value.now) (subst
+      (IsFor c.args.name.now) c.in-AdditionalProperties.is c.keyword_for.ensures) c.in_ok-shape_of_others-in-AdditionalProperties.ensures.rule);
   refused = tt;
 }
 
 pub returns-in_ok-clone-in-Not : goal.returns-in_ok-clone-in-Not
 returns-in_ok-clone-in-Not g c = record {
   built =
-      is_read (kit g.L.Leaf.Leaf g.M.Engine.RegexEngine) _ (known c.args.neighbours) c.args.name.now (codes "not") (view c.args.value.now) c.args.location.now c.args.meter.now
-      (subst (IsFor c.args.name.now) c.in-Not.is c.keyword_for.ensures) (refl, c.in_ok-clone-in-Not.ensures.cases) tt
+      is_read _ (subst (IsFor c.args.name.now) c.in-Not.is c.keyword_for.ensures) (refl, c.in_ok-clone-in-Not.ensures.cases) tt
       (own_not (world g.L.Leaf.Leaf g.M.Engine.RegexEngine) (view c.args.value.now) c.args.location.now) refl;
   refused = tt;
 }

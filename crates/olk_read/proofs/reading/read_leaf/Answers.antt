@@ -1,5 +1,5 @@
 use Rattle.olk_base.specs.Kit.{world}
-use Rattle.std.proofs.Common.{[], ◌∷◌, refl, sym, subst}
+use Rattle.std.proofs.Common.{[], ◌∷◌, sym, subst}
 use Rattle.serde_json.specs.View.{view}
 use Rattle.olk_spec.specs.Faults.{fault}
 use Rattle.olk_read.specs.Refusing.{TellsOneOf}
@@ -18,4 +18,4 @@ returns-in-Err-Refused-clause-refused g c n =
 pub returns-in-Err-Memory-clause-refused : goal.returns-in-Err-Memory-clause-refused
 returns-in-Err-Memory-clause-refused g c n =
     refuses_leaf_memory (world g.L.Leaf.Leaf g.M.Engine.RegexEngine) c.args.name.now
-    (view c.args.value.now) c.requires.leaf c.args.meter.now c.make.new.meter c.make.ensures.counts n _ _ c.in-Err-Memory.error c.from.ensures
+    (view c.args.value.now) c.requires.leaf c.args.meter.now c.make.new.meter c.make.ensures.counts n _ _ c.from.ensures

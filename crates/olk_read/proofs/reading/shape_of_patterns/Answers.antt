@@ -12,10 +12,8 @@ use Rattle.olk_read.proofs.reading.shape_of_patterns.Goals as goal
 
 pub returns-in_err-entries-clause-refused : goal.returns-in_err-entries-clause-refused
 returns-in_err-entries-clause-refused g c =
-    exit _ _ _ c.from_residual.ensures.1 (λ e q. refuses_own (world g.L.Leaf.Leaf g.M.Engine.RegexEngine) (codes "patternProperties") (codes "patternProperties")
-    (view c.args.value.now) c.args.location.now _ _ c.args.meter.now e refl
-    (own_pattern_properties (world g.L.Leaf.Leaf g.M.Engine.RegexEngine) (view c.args.value.now) c.args.location.now)
-    (tells_left _ _ e (subst (TellsOneOf _) (sym q) c.in_err-entries.ensures.refused)))
+    exit _ _ _ c.from_residual.ensures.1 (λ e q. refuses_own (world g.L.Leaf.Leaf g.M.Engine.RegexEngine) (view c.args.value.now) c.args.location.now _ {k = codes "patternProperties"} refl
+    own_pattern_properties (tells_left _ _ e (subst (TellsOneOf _) (sym q) c.in_err-entries.ensures.refused)))
 
 pub returns-in_err-patterns-clause-refused : goal.returns-in_err-patterns-clause-refused
 returns-in_err-patterns-clause-refused g c =
@@ -27,12 +25,12 @@ returns-in_err-patterns-clause-refused g c =
 
 pub returns-in_err-table-clause-refused : goal.returns-in_err-table-clause-refused
 returns-in_err-table-clause-refused g c =
-    exit _ _ _ c.from_residual-in_err-table.ensures.1 (λ e q. table_without_memory (kit g.L.Leaf.Leaf g.M.Engine.RegexEngine) (known c.args.neighbours)
+    exit _ _ _ c.from_residual-in_err-table.ensures.1 (table_without_memory (kit g.L.Leaf.Leaf g.M.Engine.RegexEngine) (known c.args.neighbours)
     (view c.args.value.now) c.args.location.now (ap is_object c.in_ok-entries.ensures.object) c.args.meter.now c.patterns_of_entries.new.meter c.in_ok-patterns.patterns
     (subst (λ d. PatternsAreRead (kit g.L.Leaf.Leaf g.M.Engine.RegexEngine) c.in_ok-patterns.patterns.items
     (members d) c.args.location.now c.args.meter.now c.patterns_of_entries.new.meter)
     (sym c.in_ok-entries.ensures.object) c.in_ok-patterns.ensures.read) c.as_slice.result.now c.as_slice.ensures.value
-    c.table_of_declared.new.meter e _ q c.in_err-table.ensures.asked_at_most)
+    c.table_of_declared.new.meter c.in_err-table.ensures.asked_at_most)
 
 pub returns-clause-built : goal.returns-clause-built
 returns-clause-built g c =

@@ -9,20 +9,20 @@ use Rattle.olk_read.proofs.Entries.{none_so_far, one_more_entry, entry_refused, 
 use Rattle.olk_read.proofs.reading.texts_of_entries.Goals as goal
 
 pub loop-key-init : goal.loop-key-init
-loop-key-init c = none_so_far _ _ _ _ _ _ c.new-texts.ensures.items c.into_iter-key-iterator.ensures.into_iter_gives.0
+loop-key-init c = none_so_far c.new-texts.ensures.items c.into_iter-key-iterator.ensures.into_iter_gives.0
 
 pub loop-key-preserved : goal.loop-key-preserved
 loop-key-preserved c =
-    one_more_entry _ _ _ _ _ _ _ _ c.in-Some.ensures.steps _ _ _ c.in_ok-append.ensures.items c.in_ok-names.ensures.names (object_is_right _ _ c.in_ok-names.ensures.object) c.loop-key.invariant
+    one_more_entry c.loop-key.invariant c.in-Some.ensures.steps c.in_ok-append.ensures.items c.in_ok-names.ensures.names (object_is_right _ _ c.in_ok-names.ensures.object)
 
 pub returns-in_err-names-clause-refused : goal.returns-in_err-names-clause-refused
 returns-in_err-names-clause-refused c =
-    exit _ _ _ c.from_residual-in_err-names.ensures.1 (λ e q. entry_refused _ _ _ _ _ _ _ _ c.in-Some.ensures.steps _ e c.loop-key.invariant
+    exit _ _ _ c.from_residual-in_err-names.ensures.1 (λ e q. entry_refused c.loop-key.invariant c.in-Some.ensures.steps e
     (subst (λ P. TellsOneOf (unless_object (view c.in-Some.value.now) P) e) (c.in_ok-place.ensures ∙ ap (λ n. c.args.location.now // n) c.as_str.ensures.value)
     (subst (TellsOneOf _) (sym q) c.in_err-names.ensures.refused)))
 
 pub returns-clause-names : goal.returns-clause-names
-returns-clause-names c = sym (each_as_it_is c.loop-key.texts.items) ∙ entries_shown _ _ _ _ _ _ c.loop-key.invariant c.in-None.ensures.steps.0
+returns-clause-names c = sym (each_as_it_is c.loop-key.texts.items) ∙ entries_shown c.loop-key.invariant c.in-None.ensures.steps.0
 
 pub returns-clause-objects : goal.returns-clause-objects
-returns-clause-objects c = entries_right _ _ _ _ _ _ c.loop-key.invariant c.in-None.ensures.steps.0
+returns-clause-objects c = entries_right c.loop-key.invariant c.in-None.ensures.steps.0

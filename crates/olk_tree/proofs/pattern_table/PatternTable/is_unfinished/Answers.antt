@@ -6,12 +6,10 @@ use Rattle.olk_tree.specs.Tables.{known_says, table_says, place_in}
 use Rattle.olk_tree.proofs.pattern_table.PatternTable.is_unfinished.Goals as goal
 
 none_told : (o : Option Bool) (b : Bool) → is_some o ≡ not b → b ≡ is_unfinished (known_says o)
-none_told None true e = refl
 none_told None false e = cc
 none_told (Some true) true e = cc
-none_told (Some true) false e = refl
 none_told (Some false) true e = cc
-none_told (Some false) false e = refl
+none_told _ _ e = refl
 
 pub returns-in-Some : goal.returns-in-Some
 returns-in-Some c =
