@@ -1,15 +1,23 @@
 -- What is asked of a member beside `additionalProperties`, node by node.
-use Rattle.olk_errors.proofs.Common.{◌≡◌, ℕ, Bool, true, false, not, ◌&&◌, cond, List, [], ◌∷◌, ◌++◌, drop, Option, option_to_list, refl, sym, ap, subst, ◌∙◌, Result, Ok, append-nil, Data, Name, Path, ◌//◌, put_if, is_empty, Says, Fault, Asking, Question, Outcome, of_node, of_branches, declared_nodes, Walks, ErrorSink, Stop}
-use Rattle.std.proofs.Common.{◌+◌, ◌||◌, is_none, is_some}
+use Rattle.std.proofs.Common.{◌≡◌, ℕ, ◌+◌, Bool, true, false, not, ◌&&◌, ◌||◌, cond, List, [], ◌∷◌, ◌++◌, drop, Option, is_none, is_some, option_to_list, refl, sym, ap, subst, ◌∙◌, Result, Ok}
+use Rattle.std.proofs.lemmas.List.{append-nil}
 use Rattle.std.proofs.Math.Bool.{and-false, and-true}
-use Rattle.olk_spec.specs.World.{reads_as}
+use Rattle.serde_json.specs.Data.{Data}
+use Rattle.olk_spec.specs.Names.{Name, Path, ◌//◌, put_if, is_empty}
+use Rattle.olk_spec.specs.World.{Says, reads_as}
+use Rattle.olk_spec.specs.Faults.{Fault}
+use Rattle.olk_base.specs.Lawful.{Asking}
 use Rattle.olk_base.specs.Compiled.{pattern_answers}
 use Rattle.olk_base.specs.declared.pattern.CompiledPattern.{CompiledPattern}
-use Rattle.olk_tree.specs.Questions.{said_to}
+use Rattle.olk_tree.specs.Questions.{Question, said_to}
 use Rattle.olk_tree.specs.Additional.{Sides, known_at, known_or, known_or_asked, is_matched_by, matching_from, sides_of}
 use Rattle.olk_tree.specs.declared.additional_properties.AdditionalProperties.{AdditionalProperties}
 use Rattle.olk_tree.specs.AdditionalAgreement.{match_is_said}
-use Rattle.olk_errors.specs.Outcomes.{unspoken_from, asked_from, asked_at, unexpected_at, if_matched}
+use Rattle.olk_errors.specs.Found.{Outcome}
+use Rattle.olk_errors.specs.Outcomes.{of_node, of_branches, declared_nodes, unspoken_from, asked_from, asked_at, unexpected_at, if_matched}
+use Rattle.olk_errors.specs.Sinks.{Walks}
+use Rattle.olk_errors.specs.declared.sink.ErrorSink.{ErrorSink}
+use Rattle.olk_errors.specs.declared.sink.Stop.{Stop}
 use Rattle.olk_errors.proofs.Loops.{Turns, turns_as, Walking, walking_start, walking_end, several_turn, last_turn}
 use Rattle.olk_errors.proofs.Due.{one_branch}
 

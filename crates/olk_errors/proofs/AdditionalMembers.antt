@@ -1,20 +1,36 @@
 -- What asking the members comes to beside `additionalProperties`, and then the name that is wanted.
-use Rattle.olk_errors.proofs.Common.{◌≡◌, ℕ, Bool, true, false, true≢false, not, ◌&&◌, cond, List, [], ◌∷◌, ◌++◌, map, Option, Some, None, option_to_list, string_bytes, refl, sym, ap, subst, ◌∙◌, inr, Result, Ok, Err, subst₂, append_assoc, append-nil, map-append, flat_map, Contains, Contains-append_right, Data, as_object, Name, Path, ◌//◌, put_if, is_empty, Says, Fault, is_object, has, members, Asking, Question, every, or_else, first_of, OnlyAsks, only_same, only_then, Outcome, Passes, IsErrorOf, of_branches, declared_nodes, of_names, wants_one, GoesOn, Ends, Walks, ErrorSink, Stop}
-use Rattle.std.proofs.Common.{is_none, is_some}
+use Rattle.std.proofs.Common.{◌≡◌, ℕ, Bool, true, false, true≢false, not, ◌&&◌, cond, List, [], ◌∷◌, ◌++◌, map, Option, Some, None, is_none, is_some, option_to_list, string_bytes, refl, sym, ap, subst, ◌∙◌, inr, Result, Ok, Err}
+use mathlib.Core.Path.{subst₂}
 use Rattle.std.proofs.Math.Bool.{and_assoc}
+use Rattle.std.proofs.lemmas.List.{append_assoc, append-nil, map-append}
+use Rattle.std.specs.List.{flat_map, Contains}
 use Rattle.std.specs.Result.{IsErr}
-use Rattle.olk_spec.specs.Names.{filter_once}
+use Rattle.std.proofs.lemmas.List.Elements.{Contains-append_right}
+use Rattle.serde_json.specs.Data.{Data}
+use Rattle.serde_json.specs.Find.{as_object}
+use Rattle.olk_spec.specs.Names.{Name, Path, ◌//◌, filter_once, put_if, is_empty}
+use Rattle.olk_spec.specs.World.{Says}
+use Rattle.olk_spec.specs.Faults.{Fault}
+use Rattle.olk_spec.specs.Schemas.{is_object, has, members}
 use Rattle.olk_spec.specs.Accepts.{missing}
 use Rattle.olk_spec.specs.Malformed.{has_repeat}
 use Rattle.olk_spec.specs.Reports.{unexpected_faults}
+use Rattle.olk_base.specs.Lawful.{Asking}
+use Rattle.olk_tree.specs.Questions.{Question, every}
 use Rattle.olk_tree.specs.Additional.{Sides, at_name, nodes_matching, is_additional, nodes_asked, is_unexpected, repeats, member_means, member_report, member_first, means_in_turn, report_in_turn, first_in_turn, named_means, named_report, named_first, sides_of, has_neighbours, required_text, required_place, lacks}
 use Rattle.olk_tree.specs.AdditionalAgreement.{member_accepted}
+use Rattle.olk_tree.specs.Firsts.{or_else, first_of}
 use Rattle.olk_tree.specs.declared.additional_properties.AdditionalProperties as keyword
 use Rattle.olk_tree.specs.declared.additional_properties.RequiredName.{RequiredName}
 use Rattle.olk_tree.proofs.Faults.{or_around}
 use Rattle.olk_tree.proofs.Members_met.{no_members}
-use Rattle.olk_errors.specs.Outcomes.{unspoken_from, asked_at, unexpected_at, of_unexpected, of_asked_members}
-use Rattle.olk_errors.specs.Sinks.{Stopped, EndsAlone}
+use Rattle.olk_check.specs.Asks.{OnlyAsks}
+use Rattle.olk_check.proofs.Asked.{only_same, only_then}
+use Rattle.olk_errors.specs.Found.{Outcome, Passes, IsErrorOf}
+use Rattle.olk_errors.specs.Outcomes.{of_branches, declared_nodes, unspoken_from, asked_at, unexpected_at, of_unexpected, of_asked_members, of_names}
+use Rattle.olk_errors.specs.Sinks.{wants_one, GoesOn, Stopped, Ends, EndsAlone, Walks}
+use Rattle.olk_errors.specs.declared.sink.ErrorSink.{ErrorSink}
+use Rattle.olk_errors.specs.declared.sink.Stop.{Stop}
 use Rattle.olk_errors.proofs.Missing.{one_first, other_lacks_none, other_lacks_nothing}
 use Rattle.olk_errors.proofs.Sinks.{after, contains_first, pass_both, goes_after, goes_same, goes_keeping, goes_passing, goes_either, stopped_where, stopped_same, stopped_before, stopped_after, ends_left, ends_past, ends_through}
 use Rattle.olk_errors.proofs.Unexpected.{told_of_one, kept_of_first}

@@ -1,12 +1,14 @@
 -- Lists of errors that grow.
-use Rattle.olk_errors.proofs.Common.{◌≡◌, List, [], ◌∷◌, ◌++◌, sym, ap, subst, ◌∙◌, Result, append_assoc, append-nil, map-append, Fault, ◌∼◌, fault_of, ValidationError, Appends}
-use Rattle.std.proofs.Common.{IfErr}
+use Rattle.std.proofs.Common.{◌≡◌, List, [], ◌∷◌, ◌++◌, sym, ap, subst, ◌∙◌, Result, IfErr}
+use Rattle.std.proofs.lemmas.List.{append_assoc, append-nil, map-append}
 use Rattle.std.proofs.lemmas.Result.{IfErr-weaker}
 use Rattle.olk_reports.specs.declared.error.ValidateError.{ValidateError}
 use Rattle.olk_reports.specs.declared.error.ValidateError.TheVariants.{Invalid, Memory}
-use Rattle.olk_spec.specs.Faults.{like_empty, like_through}
+use Rattle.olk_spec.specs.Faults.{Fault, ◌∼◌, like_empty, like_through}
 use Rattle.olk_spec.proofs.Order.{∼_append, ∼_same}
-use Rattle.olk_errors.specs.Found.{IfInvalid}
+use Rattle.olk_reports.specs.Errors.{fault_of}
+use Rattle.olk_reports.specs.declared.error.ValidationError.{ValidationError}
+use Rattle.olk_errors.specs.Found.{Appends, IfInvalid}
 
 pub appends_nothing : (errors : List ValidationError) → Appends errors errors []
 appends_nothing errors = record { added = []; is = sym (append-nil errors); same = like_empty }

@@ -1,11 +1,21 @@
 -- What asking the nodes of a dependency comes to, over what a walk has left at its start.
-use Rattle.olk_errors.proofs.Common.{◌≡◌, Bool, List, [], ◌∷◌, refl, sym, subst, Ok, Data, Members, object, Name, Path, Fault, listed, Question, every, left_of, Asking, OnlyAsks, of_each, of_node, of_branches, Walks, ErrorSink}
+use Rattle.std.proofs.Common.{◌≡◌, Bool, List, [], ◌∷◌, refl, sym, subst, Ok}
+use Rattle.serde_json.specs.Data.{Data, Members, object}
+use Rattle.olk_spec.specs.Names.{Name, Path}
+use Rattle.olk_spec.specs.Faults.{Fault}
+use Rattle.olk_spec.specs.Schemas.{listed}
+use Rattle.olk_tree.specs.Questions.{Question, every}
 use Rattle.olk_tree.specs.Dependencies.{due_nodes}
 use Rattle.olk_tree.specs.PropertyDependencies.{chosen_nodes}
-use Rattle.olk_tree.specs.Visited.{names_met}
+use Rattle.olk_tree.specs.Visited.{names_met, left_of}
 use Rattle.olk_tree.specs.declared.map.SmallMap.{SmallMap}
 use Rattle.olk_tree.specs.declared.declared.DeclaredMembers.{DeclaredMembers}
+use Rattle.olk_base.specs.Lawful.{Asking}
+use Rattle.olk_check.specs.Asks.{OnlyAsks}
 use Rattle.olk_tree.proofs.Due.{every_due, each_due, first_due, chosen, every_chosen, each_chosen, first_chosen}
+use Rattle.olk_errors.specs.Outcomes.{of_each, of_node, of_branches}
+use Rattle.olk_errors.specs.Sinks.{Walks}
+use Rattle.olk_errors.specs.declared.sink.ErrorSink.{ErrorSink}
 use Rattle.olk_errors.proofs.Sinks.{walks_past}
 use Rattle.olk_errors.proofs.Loops.{each_one}
 

@@ -1,7 +1,12 @@
 -- Two names that are wanted, and then the members.
-use Rattle.olk_errors.proofs.Common.{◌≡◌, Bool, true, false, not, ◌&&◌, List, [], ◌∷◌, map, refl, Data, Name, Path, put_if, is_empty, Fault, fault, has, is_object, Outcome, of_names}
-use Rattle.olk_spec.specs.Faults.{Required}
+use Rattle.std.proofs.Common.{◌≡◌, Bool, true, false, not, ◌&&◌, List, [], ◌∷◌, map, refl}
+use Rattle.serde_json.specs.Data.{Data}
+use Rattle.olk_spec.specs.Names.{Name, Path, put_if, is_empty}
+use Rattle.olk_spec.specs.Faults.{Fault, fault, Required}
+use Rattle.olk_spec.specs.Schemas.{has, is_object}
 use Rattle.olk_tree.specs.Firsts.{head_of}
+use Rattle.olk_errors.specs.Found.{Outcome}
+use Rattle.olk_errors.specs.Outcomes.{of_names}
 use Rattle.olk_errors.proofs.Sinks.{after}
 
 module _ (h : Name → Fault) (n m : Name) where

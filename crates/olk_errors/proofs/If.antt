@@ -1,5 +1,11 @@
 -- What asking a branch comes to that is asked in one of two cases.
-use Rattle.olk_errors.proofs.Common.{◌≡◌, Bool, true, false, cond, [], sym, ap, Result, Ok, Asking, OnlyAsks, Outcome, Walks, ErrorSink, Stop}
+use Rattle.std.proofs.Common.{◌≡◌, Bool, true, false, cond, [], sym, ap, Result, Ok}
+use Rattle.olk_base.specs.Lawful.{Asking}
+use Rattle.olk_check.specs.Asks.{OnlyAsks}
+use Rattle.olk_errors.specs.Found.{Outcome}
+use Rattle.olk_errors.specs.Sinks.{Walks}
+use Rattle.olk_errors.specs.declared.sink.ErrorSink.{ErrorSink}
+use Rattle.olk_errors.specs.declared.sink.Stop.{Stop}
 use Rattle.olk_errors.proofs.Sinks.{walks_past, walks_same}
 
 module _ (o : Outcome) where

@@ -1,4 +1,3 @@
-pub mod Common
 pub mod Appending
 pub mod Sinks
 pub mod Own

@@ -1,9 +1,21 @@
 -- Walks over each of a list, by one or by several at once.
-use Rattle.olk_errors.proofs.Common.{◌≡◌, Bool, List, [], ◌∷◌, ◌++◌, refl, sym, ap, subst, ◌∙◌, Result, Ok, Err, append_assoc, append-nil, Asking, Fault, or_else, first_of, Question, OnlyAsks, only_same, only_then, Outcome, of_each, GoesOn, Ends, Walks, ErrorSink, Stop}
+use Rattle.std.proofs.Common.{◌≡◌, Bool, List, [], ◌∷◌, ◌++◌, refl, sym, ap, subst, ◌∙◌, Result, Ok, Err}
 use Rattle.std.proofs.Math.Bool.{and-true}
 use Rattle.std.proofs.lemmas.Grind.{flat_map-append}
+use Rattle.std.proofs.lemmas.List.{append_assoc, append-nil}
+use Rattle.olk_base.specs.Lawful.{Asking}
+use Rattle.olk_spec.specs.Faults.{Fault}
+use Rattle.olk_tree.specs.Firsts.{or_else, first_of}
+use Rattle.olk_tree.specs.Questions.{Question}
 use Rattle.olk_tree.proofs.Questions.{every-append}
 use Rattle.olk_tree.proofs.Faults.{or_around}
+use Rattle.olk_check.specs.Asks.{OnlyAsks}
+use Rattle.olk_check.proofs.Asked.{only_same, only_then}
+use Rattle.olk_errors.specs.Found.{Outcome}
+use Rattle.olk_errors.specs.Outcomes.{of_each}
+use Rattle.olk_errors.specs.Sinks.{GoesOn, Ends, Walks}
+use Rattle.olk_errors.specs.declared.sink.ErrorSink.{ErrorSink}
+use Rattle.olk_errors.specs.declared.sink.Stop.{Stop}
 use Rattle.olk_errors.proofs.Sinks.{after, goes_nowhere, goes_after, goes_same, stopped_same, stopped_after, stopped_before, walks_same}
 
 -- ---- what a turn of a loop comes to: the loop goes on, or it is left

@@ -1,10 +1,20 @@
 -- Names that an object lacks, one by one.
-use Rattle.olk_errors.proofs.Common.{◌≡◌, Bool, true, false, not, ◌&&◌, List, [], ◌∷◌, ◌++◌, map, string_bytes, refl, sym, ap, subst, ◌∙◌, None, Ok, flat_map, Data, object, Members, as_object, Name, Path, put_if, is_empty, Fault, fault, Kind, itself, has, is_object, texts_of, or_else, first_of, Question, always, every, of_each, of_names, Passes, Ends, ErrorSink}
-use Rattle.std.proofs.Common.{String, Global}
-use Rattle.olk_spec.specs.Faults.{Required}
+use Rattle.std.proofs.Common.{◌≡◌, Bool, true, false, not, ◌&&◌, List, [], ◌∷◌, ◌++◌, map, String, Global, string_bytes, refl, sym, ap, subst, ◌∙◌, None, Ok}
+use Rattle.std.specs.List.{flat_map}
+use Rattle.serde_json.specs.Data.{Data, object, Members}
+use Rattle.serde_json.specs.Find.{as_object}
+use Rattle.olk_spec.specs.Names.{Name, Path, put_if, is_empty}
+use Rattle.olk_spec.specs.Faults.{Fault, fault, Kind, Required, itself}
+use Rattle.olk_spec.specs.Schemas.{has, is_object}
 use Rattle.olk_spec.specs.Accepts.{missing}
 use Rattle.olk_spec.specs.Reports.{required_faults}
-use Rattle.olk_tree.specs.Firsts.{head_of}
+use Rattle.olk_tree.specs.Maps.{texts_of}
+use Rattle.olk_tree.specs.Firsts.{or_else, first_of, head_of}
+use Rattle.olk_tree.specs.Questions.{Question, always, every}
+use Rattle.olk_errors.specs.Outcomes.{of_each, of_names}
+use Rattle.olk_errors.specs.Found.{Passes}
+use Rattle.olk_errors.specs.Sinks.{Ends}
+use Rattle.olk_errors.specs.declared.sink.ErrorSink.{ErrorSink}
 use Rattle.olk_errors.proofs.Sinks.{ends_past}
 use Rattle.olk_errors.proofs.Own.{IsOwn, is_own, like_at}
 

@@ -1,10 +1,20 @@
 -- The errors of members' names, told of the object.
-use Rattle.olk_errors.proofs.Common.{◌≡◌, ℕ, zero, suc, ◌<◌, length, get_or, Bool, List, [], ◌∷◌, map, refl, sym, ap, subst, arith, flat_map, Contains, Data, Members, string, object, Name, Path, Fault, fault, IsLike, ◌∼◌, listed, members, wrapped, fault_of, ValidationError, Question, every, first_of, of_each, of_asked_name, Appends, Outcome, Passes, IsErrorOf}
+use Rattle.std.proofs.Common.{◌≡◌, ℕ, zero, suc, ◌<◌, length, get_or, Bool, List, [], ◌∷◌, map, refl, sym, ap, subst, arith}
 use Rattle.std.proofs.lemmas.Simd.{map-map}
+use Rattle.std.specs.List.{flat_map, Contains}
 use Rattle.olk_meaning.proofs.PropertyNames.{like_wrapped, ∼_wrapped}
 use Rattle.olk_errors.proofs.Own.{no_place}
-use Rattle.olk_spec.specs.Reports.{cut}
-use Rattle.olk_errors.specs.Outcomes.{of_asked_names}
+use Rattle.serde_json.specs.Data.{Data, Members, string, object}
+use Rattle.olk_spec.specs.Names.{Name, Path}
+use Rattle.olk_spec.specs.Faults.{Fault, fault, IsLike, ◌∼◌}
+use Rattle.olk_spec.specs.Schemas.{listed, members}
+use Rattle.olk_spec.specs.Reports.{wrapped, cut}
+use Rattle.olk_reports.specs.Errors.{fault_of}
+use Rattle.olk_reports.specs.declared.error.ValidationError.{ValidationError}
+use Rattle.olk_tree.specs.Questions.{Question, every}
+use Rattle.olk_tree.specs.Firsts.{first_of}
+use Rattle.olk_errors.specs.Outcomes.{of_each, of_asked_name, of_asked_names}
+use Rattle.olk_errors.specs.Found.{Appends, Outcome, Passes, IsErrorOf}
 
 module _ (v : Data) (Q : Path) where
   abbrev pub told_of : Outcome → Outcome

@@ -1,13 +1,15 @@
 -- The error of `oneOf`.
-use Rattle.olk_errors.proofs.Common.{◌≡◌, inl, inr, not, Bool, ℕ, ◌<◌, true, false, List, [], Option, Some, None, refl, sym, ap, subst, Data, Path, Fault, fault, Kind, OneOfNotValid, context, context_faults, AreLike, Outcome, Passes}
-use Rattle.std.proofs.Common.{◌==◌}
-use Rattle.olk_spec.specs.Faults.{OneOfMultipleValid, IsLikeKind}
+use Rattle.std.proofs.Common.{◌≡◌, inl, inr, not, Bool, ℕ, ◌<◌, ◌==◌, true, false, List, [], Option, Some, None, refl, sym, ap, subst}
+use Rattle.serde_json.specs.Data.{Data}
+use Rattle.olk_spec.specs.Names.{Path}
+use Rattle.olk_spec.specs.Faults.{Fault, fault, Kind, OneOfNotValid, OneOfMultipleValid, IsLikeKind, context}
 use Rattle.olk_spec.specs.Reports.{cut_kind}
 use Rattle.olk_reports.specs.Errors.{kind_of}
 use Rattle.olk_reports.specs.declared.error.ValidationErrorKind.{ValidationErrorKind}
 use Rattle.olk_reports.specs.declared.error.ValidationErrorKind as the
-use Rattle.olk_reports.proofs.Errors.{Contexts, kind_of_one_of_not_valid, kind_of_one_of_multiple_valid}
+use Rattle.olk_reports.proofs.Errors.{Contexts, context_faults, kind_of_one_of_not_valid, kind_of_one_of_multiple_valid}
 use Rattle.olk_tree.proofs.OneOf.{none_accepts, one_accepts, several_accept, several_is_not_one}
+use Rattle.olk_errors.specs.Found.{AreLike, Outcome, Passes}
 use Rattle.olk_errors.specs.Outcomes.{own, of_one_of, IsKindOfOneOf}
 use Rattle.olk_errors.proofs.Own.{IsOwn, is_own, like_at, kind_like, not_valid_like, multiple_like}
 

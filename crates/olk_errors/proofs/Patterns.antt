@@ -1,12 +1,20 @@
 -- What asking the members whose names patterns match comes to, over the members and the patterns of a walk.
-use Rattle.olk_errors.proofs.Common.{◌≡◌, inl, inr, Bool, true, false, cond, List, [], ◌∷◌, ◌++◌, None, sym, ap, subst, ◌∙◌, flat_map, Contains, Contains-append_right, Data, Members, object, as_object, Name, Path, ◌//◌, Says, Fault, listed, Question, always, conditional, every, match_question, Outcome, Passes, IsErrorOf, of_each, of_node, of_match, of_patterns}
-use Rattle.std.proofs.Common.{◌⊎◌}
-use Rattle.std.proofs.lemmas.List.Elements.{Contains-append_left, Contains-append_cases}
+use Rattle.std.proofs.Common.{◌≡◌, ◌⊎◌, inl, inr, Bool, true, false, cond, List, [], ◌∷◌, ◌++◌, None, sym, ap, subst, ◌∙◌}
+use Rattle.std.specs.List.{flat_map, Contains}
+use Rattle.std.proofs.lemmas.List.Elements.{Contains-append_left, Contains-append_right, Contains-append_cases}
+use Rattle.serde_json.specs.Data.{Data, Members, object}
+use Rattle.serde_json.specs.Find.{as_object}
+use Rattle.olk_spec.specs.Names.{Name, Path, ◌//◌}
+use Rattle.olk_spec.specs.World.{Says}
+use Rattle.olk_spec.specs.Faults.{Fault}
+use Rattle.olk_spec.specs.Schemas.{listed}
 use Rattle.olk_base.specs.declared.pattern.CompiledPattern.{CompiledPattern}
-use Rattle.olk_tree.specs.Matched.{is_match}
+use Rattle.olk_tree.specs.Questions.{Question, always, conditional, every}
+use Rattle.olk_tree.specs.Matched.{is_match, match_question}
 use Rattle.olk_tree.specs.PatternProperties.{inside_out}
 use Rattle.olk_tree.proofs.Patterns.{each_of_those, first_of_those, matched_nothing, patterns_nothing, matched_first_nothing, patterns_first_nothing}
-use Rattle.olk_errors.specs.Outcomes.{of_matched, of_matching}
+use Rattle.olk_errors.specs.Found.{Outcome, Passes, IsErrorOf}
+use Rattle.olk_errors.specs.Outcomes.{of_each, of_node, of_match, of_matched, of_matching, of_patterns}
 use Rattle.olk_errors.proofs.Sinks.{contains_none}
 
 -- ---- each item of one list with each of another

@@ -1,12 +1,23 @@
 -- One walk after another, whatever the sink wants.
-use Rattle.olk_errors.proofs.Common.{◌≡◌, inl, inr, ℕ, Bool, true, false, true≢false, ◌&&◌, List, [], ◌∷◌, ◌++◌, length, Option, Some, refl, sym, ap, subst, ◌∙◌, arith, Result, Ok, Err, Contains, append_assoc, append-nil, Contains-append_right, Asking, Fault, fault_of, ValidationError, or_else, OnlyAsks, only_then, Appends, Outcome, Passes, IsErrorOf, wants_one, held, GoesOn, Ends, Takes, Walks, ErrorSink, Stop}
-use Rattle.std.proofs.Common.{take, Vec}
+use Rattle.std.proofs.Common.{◌≡◌, inl, inr, ℕ, Bool, true, false, true≢false, ◌&&◌, List, [], ◌∷◌, ◌++◌, length, take, Vec, Option, Some, refl, sym, ap, subst, ◌∙◌, arith, Result, Ok, Err}
+use Rattle.std.specs.List.{Contains}
 use Rattle.std.specs.Result.{IsErr}
-use Rattle.std.proofs.lemmas.List.Elements.{Contains-append_left}
+use Rattle.std.proofs.lemmas.List.{append_assoc, append-nil}
+use Rattle.std.proofs.lemmas.List.Elements.{Contains-append_left, Contains-append_right}
 use Rattle.std.proofs.Math.Seq.{take-append_seam}
 use Rattle.std.specs.declared.alloc.Global.{Global}
-use Rattle.olk_errors.specs.Sinks.{is_first, errors_in, Took, IsLonger, Kept, Keeps, Stopped, Ended, EndsBy, one_error}
+use Rattle.olk_base.specs.Lawful.{Asking}
+use Rattle.olk_spec.specs.Faults.{Fault}
+use Rattle.olk_reports.specs.Errors.{fault_of}
+use Rattle.olk_reports.specs.declared.error.ValidationError.{ValidationError}
+use Rattle.olk_tree.specs.Firsts.{or_else}
+use Rattle.olk_check.specs.Asks.{OnlyAsks}
+use Rattle.olk_check.proofs.Asked.{only_then}
+use Rattle.olk_errors.specs.Found.{Appends, Outcome, Passes, IsErrorOf}
+use Rattle.olk_errors.specs.Sinks.{is_first, errors_in, wants_one, held, Took, GoesOn, IsLonger, Kept, Keeps, Stopped, Ended, EndsBy, Ends, one_error, Takes, Walks}
+use Rattle.olk_errors.specs.declared.sink.ErrorSink.{ErrorSink}
 use Rattle.olk_errors.specs.declared.sink.Held.TheVariants.{First, All}
+use Rattle.olk_errors.specs.declared.sink.Stop.{Stop}
 use Rattle.olk_errors.proofs.Appending.{appends_nothing, appends_more, appends_one}
 
 -- one asking after the other

@@ -1,14 +1,19 @@
 -- What is told of members that are not expected.
-use Rattle.olk_errors.proofs.Common.{◌≡◌, ℕ, zero, suc, ◌<◌, Bool, true, false, List, [], ◌∷◌, ◌++◌, map, get_or, Some, None, refl, sym, ap, subst, ◌∙◌, arith, Result, Ok, append_assoc, append-nil, map-append, Contains, Data, Name, Path, Fault, fault, FalseSchema, IsLike, Appends, held, Takes, ErrorSink, Stop}
-use Rattle.std.proofs.Common.{slice_get}
-use Rattle.olk_spec.specs.Faults.{AdditionalProperties}
+use Rattle.std.proofs.Common.{◌≡◌, ℕ, zero, suc, ◌<◌, Bool, true, false, List, [], ◌∷◌, ◌++◌, map, get_or, Some, None, slice_get, refl, sym, ap, subst, ◌∙◌, arith, Result, Ok}
+use Rattle.std.proofs.lemmas.List.{append_assoc, append-nil, map-append}
+use Rattle.std.specs.List.{Contains}
+use Rattle.serde_json.specs.Data.{Data}
+use Rattle.olk_spec.specs.Names.{Name, Path}
+use Rattle.olk_spec.specs.Faults.{Fault, fault, AdditionalProperties, FalseSchema, IsLike}
 use Rattle.olk_spec.specs.Reports.{unexpected_faults, cut}
 use Rattle.olk_spec.proofs.Order.{like_itself}
 use Rattle.olk_tree.specs.Additional.{has_neighbours}
 use Rattle.olk_tree.specs.declared.additional_properties.AdditionalProperties as keyword
-use Rattle.olk_errors.specs.Found.{IsLikeOneOf, IsKeptOf}
+use Rattle.olk_errors.specs.Found.{Appends, IsLikeOneOf, IsKeptOf}
 use Rattle.olk_errors.specs.Outcomes.{of_unexpected}
-use Rattle.olk_errors.specs.Sinks.{EndsAlone}
+use Rattle.olk_errors.specs.Sinks.{held, EndsAlone, Takes}
+use Rattle.olk_errors.specs.declared.sink.ErrorSink.{ErrorSink}
+use Rattle.olk_errors.specs.declared.sink.Stop.{Stop}
 use Rattle.olk_errors.proofs.Own.{contains_one}
 use Rattle.olk_errors.proofs.Sinks.{goes_past, goes_own, ends_through, stopped_where}
 

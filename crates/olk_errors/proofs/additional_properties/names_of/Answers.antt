@@ -1,4 +1,5 @@
-use Rattle.olk_errors.proofs.Common.{arith, refl, next_at, past_end}
+use Rattle.std.proofs.Common.{arith, refl}
+use Rattle.olk_tree.proofs.Lists.{next_at, past_end}
 use Rattle.olk_errors.proofs.Unexpected.{one_name_more, all_names}
 use Rattle.olk_errors.proofs.additional_properties.names_of.Goals as goal
 

@@ -1,4 +1,4 @@
-use Rattle.olk_errors.proofs.Common.{◌≡◌, ◌++◌, map, drop}
+use Rattle.std.proofs.Common.{◌≡◌, ◌++◌, map, drop}
 use Rattle.olk_errors.proofs.additional_properties.names_of.Given as goal
 
 abbrev pub invariant-loop-member : goal.invariant-loop-member

@@ -1,6 +1,9 @@
-use Rattle.olk_errors.proofs.Common.{map, refl, ap, ◌∙◌, view, data_of, fault, path_at, kind_of_false_schema}
-use Rattle.olk_spec.specs.Faults.{AdditionalProperties}
-use Rattle.olk_reports.proofs.Errors.{kind_of_additional_properties}
+use Rattle.std.proofs.Common.{map, refl, ap, ◌∙◌}
+use Rattle.serde_json.specs.View.{view}
+use Rattle.olk_base.specs.Nodes.{data_of}
+use Rattle.olk_spec.specs.Faults.{fault, AdditionalProperties}
+use Rattle.olk_paths.specs.Trails.{path_at}
+use Rattle.olk_reports.proofs.Errors.{kind_of_false_schema, kind_of_additional_properties}
 use Rattle.olk_errors.proofs.Sinks.{ends_nowhere}
 use Rattle.olk_errors.proofs.Unexpected.{told, none_aside, told_by_name, told_by_value, none_unexpected}
 use Rattle.olk_errors.proofs.additional_properties.report_some.Goals as goal

@@ -1,4 +1,7 @@
-use Rattle.olk_errors.proofs.Common.{map, ap, view, data_of, path_at}
+use Rattle.std.proofs.Common.{map, ap}
+use Rattle.serde_json.specs.View.{view}
+use Rattle.olk_base.specs.Nodes.{data_of}
+use Rattle.olk_paths.specs.Trails.{path_at}
 use Rattle.olk_errors.proofs.Unexpected.{none_aside, none_unexpected}
 use Rattle.olk_errors.proofs.additional_properties.report_unexpected.Goals as goal
 

@@ -1,4 +1,6 @@
-use Rattle.olk_errors.proofs.Common.{ℕ, option_map, view, path_at}
+use Rattle.std.proofs.Common.{ℕ, option_map}
+use Rattle.serde_json.specs.View.{view}
+use Rattle.olk_paths.specs.Trails.{path_at}
 use Rattle.olk_errors.proofs.Additional.{WalkingMember, asked_member}
 use Rattle.olk_errors.proofs.additional_properties.walk_asked.Given as goal
 

@@ -1,5 +1,10 @@
-use Rattle.olk_errors.proofs.Common.{ℕ, ap, option_map, view, ◌//◌, path_at, only_same, declared_nodes}
+use Rattle.std.proofs.Common.{ℕ, ap, option_map}
+use Rattle.serde_json.specs.View.{view}
+use Rattle.olk_spec.specs.Names.{◌//◌}
+use Rattle.olk_paths.specs.Trails.{path_at}
+use Rattle.olk_check.proofs.Asked.{only_same}
 use Rattle.olk_errors.proofs.Due.{past_none}
+use Rattle.olk_errors.specs.Outcomes.{declared_nodes}
 use Rattle.olk_errors.proofs.additional_properties.walk_declared.Goals as goal
 
 pub returns-in-None : goal.returns-in-None

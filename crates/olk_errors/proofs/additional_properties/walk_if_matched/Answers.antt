@@ -1,9 +1,13 @@
-use Rattle.olk_errors.proofs.Common.{refl, view, ◌//◌, path_at, of_node}
+use Rattle.std.proofs.Common.{refl}
+use Rattle.serde_json.specs.View.{view}
 use Rattle.olk_base.specs.Compiled.{pattern_answers, pattern_costs}
+use Rattle.olk_spec.specs.Names.{◌//◌}
+use Rattle.olk_paths.specs.Trails.{path_at}
 use Rattle.olk_tree.specs.Tables.{known_says}
 use Rattle.olk_errors.proofs.Additional.{if_matched_is, one_alone}
 use Rattle.olk_errors.proofs.Due.{past_none}
 use Rattle.olk_errors.proofs.Sinks.{walks_same, walks_asked, walks_left, walks_on}
+use Rattle.olk_errors.specs.Outcomes.{of_node}
 use Rattle.olk_errors.proofs.additional_properties.walk_if_matched.Goals as goal
 
 pub returns-then-not-matches_unless_known-clause-walk : goal.returns-then-not-matches_unless_known-clause-walk

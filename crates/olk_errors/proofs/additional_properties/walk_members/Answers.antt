@@ -1,4 +1,7 @@
-use Rattle.olk_errors.proofs.Common.{map, sym, ap, ◌∙◌, members_view, view, listed, members, name_next, no_name_next}
+use Rattle.std.proofs.Common.{map, sym, ap, ◌∙◌}
+use Rattle.serde_json.specs.View.{members_view, view}
+use Rattle.olk_spec.specs.Schemas.{listed, members}
+use Rattle.olk_tree.proofs.Due.{name_next, no_name_next}
 use Rattle.olk_tree.specs.Additional.{repeats}
 use Rattle.olk_errors.proofs.AdditionalMembers.{map_more, members_start, members_stop, members_cut, members_more, members_aside, members_told, members_end}
 use Rattle.olk_errors.proofs.Sinks.{walks_left}

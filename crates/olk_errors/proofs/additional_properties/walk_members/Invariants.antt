@@ -1,4 +1,8 @@
-use Rattle.olk_errors.proofs.Common.{map, view, members_view, data_of, listed, path_at}
+use Rattle.std.proofs.Common.{map}
+use Rattle.serde_json.specs.View.{view, members_view}
+use Rattle.olk_base.specs.Nodes.{data_of}
+use Rattle.olk_spec.specs.Schemas.{listed}
+use Rattle.olk_paths.specs.Trails.{path_at}
 use Rattle.olk_errors.proofs.AdditionalMembers.{WalkingMembers}
 use Rattle.olk_errors.proofs.additional_properties.walk_members.Given as goal
 

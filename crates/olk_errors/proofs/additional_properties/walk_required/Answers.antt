@@ -1,4 +1,5 @@
-use Rattle.olk_errors.proofs.Common.{data_of, path_at}
+use Rattle.olk_base.specs.Nodes.{data_of}
+use Rattle.olk_paths.specs.Trails.{path_at}
 use Rattle.olk_errors.proofs.AdditionalMembers.{nothing_wanted}
 use Rattle.olk_errors.proofs.additional_properties.walk_required.Goals as goal
 

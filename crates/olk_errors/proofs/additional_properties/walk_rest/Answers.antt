@@ -1,4 +1,8 @@
-use Rattle.olk_errors.proofs.Common.{refl, ap, option_to_list, view, ◌//◌, path_at, only_same}
+use Rattle.std.proofs.Common.{refl, ap, option_to_list}
+use Rattle.serde_json.specs.View.{view}
+use Rattle.olk_spec.specs.Names.{◌//◌}
+use Rattle.olk_paths.specs.Trails.{path_at}
+use Rattle.olk_check.proofs.Asked.{only_same}
 use Rattle.olk_errors.proofs.Additional.{one_alone}
 use Rattle.olk_errors.proofs.Due.{past_none}
 use Rattle.olk_errors.proofs.Sinks.{walks_same, walks_left, walks_on}

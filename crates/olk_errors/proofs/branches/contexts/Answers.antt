@@ -1,4 +1,5 @@
-use Rattle.olk_errors.proofs.Common.{only_then, next_at, past_end}
+use Rattle.olk_check.proofs.Asked.{only_then}
+use Rattle.olk_tree.proofs.Lists.{next_at, past_end}
 use Rattle.olk_errors.proofs.Contexts.{branching_more, branching_end}
 use Rattle.olk_errors.proofs.branches.contexts.Goals as goal
 

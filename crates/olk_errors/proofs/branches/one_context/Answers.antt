@@ -1,5 +1,8 @@
-use Rattle.olk_errors.proofs.Common.{[], ◌∷◌, refl, data_of, path_at, only_same}
+use Rattle.std.proofs.Common.{[], ◌∷◌, refl}
 use Rattle.std.proofs.lemmas.Result.{IfOk-weaker}
+use Rattle.olk_base.specs.Nodes.{data_of}
+use Rattle.olk_paths.specs.Trails.{path_at}
+use Rattle.olk_check.proofs.Asked.{only_same}
 use Rattle.olk_errors.proofs.Contexts.{branching_start, branching_more, branching_end}
 use Rattle.olk_errors.proofs.branches.one_context.Goals as goal
 

@@ -1,4 +1,4 @@
-use Rattle.olk_errors.proofs.Common.{next_at, past_end}
+use Rattle.olk_tree.proofs.Lists.{next_at, past_end}
 use Rattle.olk_errors.proofs.Loops.{walking_start, walking_turn, walking_end}
 use Rattle.olk_errors.proofs.Sinks.{walks_left}
 use Rattle.olk_errors.proofs.branches.walk_each.Goals as goal

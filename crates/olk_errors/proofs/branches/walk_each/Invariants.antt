@@ -1,4 +1,6 @@
-use Rattle.olk_errors.proofs.Common.{drop, data_of, path_at}
+use Rattle.std.proofs.Common.{drop}
+use Rattle.olk_base.specs.Nodes.{data_of}
+use Rattle.olk_paths.specs.Trails.{path_at}
 use Rattle.olk_errors.proofs.Loops.{Walking}
 use Rattle.olk_errors.proofs.branches.walk_each.Given as goal
 

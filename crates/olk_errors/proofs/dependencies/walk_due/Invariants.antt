@@ -1,4 +1,6 @@
-use Rattle.olk_errors.proofs.Common.{data_of, path_at, left_of}
+use Rattle.olk_base.specs.Nodes.{data_of}
+use Rattle.olk_paths.specs.Trails.{path_at}
+use Rattle.olk_tree.specs.Visited.{left_of}
 use Rattle.olk_errors.proofs.Loops.{Walking}
 use Rattle.olk_errors.proofs.dependencies.walk_due.Given as goal
 

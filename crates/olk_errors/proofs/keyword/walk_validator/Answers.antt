@@ -1,5 +1,6 @@
-use Rattle.olk_errors.proofs.Common.{sym, only_same}
+use Rattle.std.proofs.Common.{sym}
 use Rattle.olk_tree.specs.Validators.{answers_of}
+use Rattle.olk_check.proofs.Asked.{only_same}
 use Rattle.olk_errors.proofs.Sinks.{walks_alone}
 use Rattle.olk_errors.proofs.keyword.walk_validator.Goals as goal
 

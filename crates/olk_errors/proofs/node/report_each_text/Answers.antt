@@ -1,12 +1,17 @@
-use Rattle.olk_errors.proofs.Common.{◌≡◌, [], ◌∷◌, map, length, sym, ap, subst, arith, ◌∙◌, string_bytes, into_iter_items, data_of, fault, path_at, texts_of, Takes}
-use Rattle.std.proofs.Common.{rules}
+use Rattle.std.proofs.Common.{◌≡◌, [], ◌∷◌, map, length, sym, ap, subst, arith, ◌∙◌, string_bytes, rules}
 use Rattle.std.proofs.lemmas.Simd.{map-map}
+use Rattle.std.specs.Vec.Iter.{into_iter_items}
+use Rattle.olk_base.specs.Nodes.{data_of}
+use Rattle.olk_spec.specs.Faults.{fault}
+use Rattle.olk_paths.specs.Trails.{path_at}
 use Rattle.olk_reports.proofs.Errors.{kind_of_leaf}
+use Rattle.olk_tree.specs.Maps.{texts_of}
 use Rattle.olk_errors.proofs.Own.{leaf_fault}
 use Rattle.olk_errors.proofs.Sinks.{ends_left, ends_nowhere}
 use Rattle.olk_errors.proofs.Telling.{nothing_left, telling_start, telling_turn, telling_end}
 use Rattle.olk_errors.proofs.Unexpected.{told}
 use Rattle.olk_errors.specs.Outcomes.{of_leaf}
+use Rattle.olk_errors.specs.Sinks.{Takes}
 use Rattle.olk_errors.proofs.node.report_each_text.Goals as goal
 
 pub returns-in_err-collect_errors : goal.returns-in_err-collect_errors

@@ -1,5 +1,7 @@
-use Rattle.olk_errors.proofs.Common.{◌≡◌, length, string_bytes, into_iter_items, data_of, path_at}
-use Rattle.std.specs.Vec.Iter.{into_iter_len}
+use Rattle.std.proofs.Common.{◌≡◌, length, string_bytes}
+use Rattle.std.specs.Vec.Iter.{into_iter_items, into_iter_len}
+use Rattle.olk_base.specs.Nodes.{data_of}
+use Rattle.olk_paths.specs.Trails.{path_at}
 use Rattle.olk_errors.proofs.Own.{leaf_fault}
 use Rattle.olk_errors.proofs.Telling.{Telling}
 use Rattle.olk_errors.proofs.node.report_each_text.Given as goal

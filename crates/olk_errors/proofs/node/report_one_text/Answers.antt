@@ -1,6 +1,8 @@
-use Rattle.olk_errors.proofs.Common.{ap, subst, ◌∙◌, string_bytes, data_of, fault, path_at}
+use Rattle.std.proofs.Common.{ap, subst, ◌∙◌, string_bytes}
 use Rattle.olk_base.specs.Lawful.{IsOneOf}
-use Rattle.olk_spec.specs.Faults.{Leaf}
+use Rattle.olk_base.specs.Nodes.{data_of}
+use Rattle.olk_spec.specs.Faults.{fault, Leaf}
+use Rattle.olk_paths.specs.Trails.{path_at}
 use Rattle.olk_reports.proofs.Errors.{kind_of_leaf}
 use Rattle.olk_errors.proofs.Own.{leaf_error}
 use Rattle.olk_errors.proofs.Sinks.{ends_nowhere, ends_wanted}

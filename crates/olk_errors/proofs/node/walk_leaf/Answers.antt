@@ -1,4 +1,6 @@
-use Rattle.olk_errors.proofs.Common.{sym, ◌∙◌, data_of, path_at}
+use Rattle.std.proofs.Common.{sym, ◌∙◌}
+use Rattle.olk_base.specs.Nodes.{data_of}
+use Rattle.olk_paths.specs.Trails.{path_at}
 use Rattle.olk_errors.proofs.Own.{leaf_fault, leaf_past}
 use Rattle.olk_errors.proofs.node.walk_leaf.Goals as goal
 

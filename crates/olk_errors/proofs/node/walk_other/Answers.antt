@@ -1,7 +1,13 @@
-use Rattle.olk_errors.proofs.Common.{true, false, refl, sym, subst, Ok, data_of, itself, FalseSchema, path_at, kind_of_false_schema, only_same, Walks}
+use Rattle.std.proofs.Common.{true, false, refl, sym, subst, Ok}
+use Rattle.olk_base.specs.Nodes.{data_of}
+use Rattle.olk_spec.specs.Faults.{itself, FalseSchema}
+use Rattle.olk_paths.specs.Trails.{path_at}
+use Rattle.olk_reports.proofs.Errors.{kind_of_false_schema}
+use Rattle.olk_check.proofs.Asked.{only_same}
 use Rattle.olk_errors.proofs.Own.{like_at, walks_own, is_own}
 use Rattle.olk_errors.proofs.Sinks.{walks_past}
 use Rattle.olk_errors.specs.Outcomes.{of_body}
+use Rattle.olk_errors.specs.Sinks.{Walks}
 use Rattle.olk_errors.proofs.node.walk_other.Goals as goal
 
 pub returns-in-True : goal.returns-in-True

@@ -1,4 +1,8 @@
-use Rattle.olk_errors.proofs.Common.{map, subst, data_of, path_at, context_faults, AreLike}
+use Rattle.std.proofs.Common.{map, subst}
+use Rattle.olk_base.specs.Nodes.{data_of}
+use Rattle.olk_paths.specs.Trails.{path_at}
+use Rattle.olk_reports.proofs.Errors.{context_faults}
+use Rattle.olk_errors.specs.Found.{AreLike}
 use Rattle.olk_errors.proofs.OneOf.{kind_of_none, kind_of_several}
 use Rattle.olk_errors.proofs.one_of.one_of_kind.Goals as goal
 

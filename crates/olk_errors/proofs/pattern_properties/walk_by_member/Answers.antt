@@ -1,7 +1,13 @@
-use Rattle.olk_errors.proofs.Common.{ap, members_view, listed, path_at, name_next, no_name_next, object_of, of_patterns}
+use Rattle.std.proofs.Common.{ap}
+use Rattle.serde_json.specs.View.{members_view}
+use Rattle.olk_spec.specs.Schemas.{listed}
+use Rattle.olk_paths.specs.Trails.{path_at}
+use Rattle.olk_tree.proofs.Due.{name_next, no_name_next}
+use Rattle.olk_tree.specs.Visited.{object_of}
 use Rattle.olk_errors.proofs.Loops.{walking_from, walking_turn, walking_end}
 use Rattle.olk_errors.proofs.Patterns.{patterns_pass, patterns_err}
 use Rattle.olk_errors.proofs.Sinks.{ends_first, walks_by, walks_left}
+use Rattle.olk_errors.specs.Outcomes.{of_patterns}
 use Rattle.olk_errors.proofs.pattern_properties.walk_by_member.Goals as goal
 
 pub loop-name-init : goal.loop-name-init

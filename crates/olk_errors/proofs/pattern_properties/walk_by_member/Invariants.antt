@@ -1,4 +1,9 @@
-use Rattle.olk_errors.proofs.Common.{true, members_view, listed, path_at, always, conditional, every, match_question}
+use Rattle.std.proofs.Common.{true}
+use Rattle.serde_json.specs.View.{members_view}
+use Rattle.olk_spec.specs.Schemas.{listed}
+use Rattle.olk_paths.specs.Trails.{path_at}
+use Rattle.olk_tree.specs.Questions.{always, conditional, every}
+use Rattle.olk_tree.specs.Matched.{match_question}
 use Rattle.olk_errors.specs.Outcomes.{of_matching}
 use Rattle.olk_errors.proofs.Loops.{Walking}
 use Rattle.olk_errors.proofs.pattern_properties.walk_by_member.Given as goal

@@ -1,6 +1,10 @@
-use Rattle.olk_errors.proofs.Common.{refl, path_at, next_at, past_end, object_of, of_patterns}
+use Rattle.std.proofs.Common.{refl}
+use Rattle.olk_paths.specs.Trails.{path_at}
+use Rattle.olk_tree.proofs.Lists.{next_at, past_end}
+use Rattle.olk_tree.specs.Visited.{object_of}
 use Rattle.olk_errors.proofs.Loops.{walking_start, walking_turn, walking_end}
 use Rattle.olk_errors.proofs.Sinks.{ends_all, walks_by, walks_left}
+use Rattle.olk_errors.specs.Outcomes.{of_patterns}
 use Rattle.olk_errors.proofs.pattern_properties.walk_by_pattern.Goals as goal
 
 pub loop-entry-init : goal.loop-entry-init

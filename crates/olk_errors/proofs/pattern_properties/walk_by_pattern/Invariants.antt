@@ -1,4 +1,6 @@
-use Rattle.olk_errors.proofs.Common.{drop, path_at, object_of}
+use Rattle.std.proofs.Common.{drop}
+use Rattle.olk_paths.specs.Trails.{path_at}
+use Rattle.olk_tree.specs.Visited.{object_of}
 use Rattle.olk_tree.specs.PatternProperties.{matched_mean}
 use Rattle.olk_errors.specs.Outcomes.{of_matched}
 use Rattle.olk_errors.proofs.Loops.{Walking}

@@ -1,6 +1,10 @@
-use Rattle.olk_errors.proofs.Common.{refl, view, ◌//◌, path_at, of_node}
+use Rattle.std.proofs.Common.{refl}
+use Rattle.serde_json.specs.View.{view}
+use Rattle.olk_spec.specs.Names.{◌//◌}
+use Rattle.olk_paths.specs.Trails.{path_at}
 use Rattle.olk_errors.proofs.Patterns.{unmatched_passes, unmatched_nothing, matched_as_node}
 use Rattle.olk_errors.proofs.Sinks.{walks_past, walks_same, walks_asked}
+use Rattle.olk_errors.specs.Outcomes.{of_node}
 use Rattle.olk_errors.proofs.pattern_properties.walk_if_matched.Goals as goal
 
 pub returns-then-not-matches : goal.returns-then-not-matches

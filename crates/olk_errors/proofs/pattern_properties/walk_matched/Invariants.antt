@@ -1,4 +1,10 @@
-use Rattle.olk_errors.proofs.Common.{true, members_view, listed, path_at, always, conditional, match_question, of_match}
+use Rattle.std.proofs.Common.{true}
+use Rattle.serde_json.specs.View.{members_view}
+use Rattle.olk_spec.specs.Schemas.{listed}
+use Rattle.olk_paths.specs.Trails.{path_at}
+use Rattle.olk_tree.specs.Questions.{always, conditional}
+use Rattle.olk_tree.specs.Matched.{match_question}
+use Rattle.olk_errors.specs.Outcomes.{of_match}
 use Rattle.olk_errors.proofs.Loops.{Walking}
 use Rattle.olk_errors.proofs.pattern_properties.walk_matched.Given as goal
 

@@ -1,4 +1,6 @@
-use Rattle.olk_errors.proofs.Common.{view, path_at, next_at, past_end}
+use Rattle.serde_json.specs.View.{view}
+use Rattle.olk_paths.specs.Trails.{path_at}
+use Rattle.olk_tree.proofs.Lists.{next_at, past_end}
 use Rattle.olk_errors.proofs.Loops.{walking_start, walking_turn, walking_end}
 use Rattle.olk_errors.proofs.Patterns.{matching_of_walk}
 use Rattle.olk_errors.proofs.Sinks.{walks_same, walks_left}

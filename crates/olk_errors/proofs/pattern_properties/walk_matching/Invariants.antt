@@ -1,4 +1,9 @@
-use Rattle.olk_errors.proofs.Common.{drop, true, view, path_at, always, conditional, match_question, of_match}
+use Rattle.std.proofs.Common.{drop, true}
+use Rattle.serde_json.specs.View.{view}
+use Rattle.olk_paths.specs.Trails.{path_at}
+use Rattle.olk_tree.specs.Questions.{always, conditional}
+use Rattle.olk_tree.specs.Matched.{match_question}
+use Rattle.olk_errors.specs.Outcomes.{of_match}
 use Rattle.olk_errors.proofs.Loops.{Walking}
 use Rattle.olk_errors.proofs.pattern_properties.walk_matching.Given as goal
 

@@ -1,5 +1,9 @@
-use Rattle.olk_errors.proofs.Common.{ap, option_to_list, view, ◌//◌, path_at, only_same}
+use Rattle.std.proofs.Common.{ap, option_to_list}
 use Rattle.std.specs.Option.{option_copied}
+use Rattle.serde_json.specs.View.{view}
+use Rattle.olk_spec.specs.Names.{◌//◌}
+use Rattle.olk_paths.specs.Trails.{path_at}
+use Rattle.olk_check.proofs.Asked.{only_same}
 use Rattle.olk_errors.proofs.Due.{past_none}
 use Rattle.olk_errors.proofs.properties.walk_if_declared.Goals as goal
 

@@ -1,5 +1,8 @@
-use Rattle.olk_errors.proofs.Common.{sym, ap, option_to_list, ◌∙◌, data_of, path_at, only_same}
+use Rattle.std.proofs.Common.{sym, ap, option_to_list, ◌∙◌}
 use Rattle.std.specs.Option.{option_copied}
+use Rattle.olk_base.specs.Nodes.{data_of}
+use Rattle.olk_paths.specs.Trails.{path_at}
+use Rattle.olk_check.proofs.Asked.{only_same}
 use Rattle.olk_errors.proofs.Due.{past_none}
 use Rattle.olk_errors.proofs.property_dependencies.walk_choice.Goals as goal
 

@@ -1,4 +1,7 @@
-use Rattle.olk_errors.proofs.Common.{members_view, data_of, path_at, named}
+use Rattle.serde_json.specs.View.{members_view}
+use Rattle.olk_base.specs.Nodes.{data_of}
+use Rattle.olk_paths.specs.Trails.{path_at}
+use Rattle.olk_tree.specs.Maps.{named}
 use Rattle.olk_errors.proofs.Due.{chosen_of_walk}
 use Rattle.olk_errors.proofs.Loops.{walking_start, walking_turn, walking_end}
 use Rattle.olk_errors.proofs.Sinks.{walks_same, walks_left}

@@ -1,5 +1,9 @@
-use Rattle.olk_errors.proofs.Common.{data_of, path_at, every, left_of, of_branches}
+use Rattle.olk_base.specs.Nodes.{data_of}
+use Rattle.olk_paths.specs.Trails.{path_at}
+use Rattle.olk_tree.specs.Questions.{every}
+use Rattle.olk_tree.specs.Visited.{left_of}
 use Rattle.olk_tree.proofs.Due.{chosen}
+use Rattle.olk_errors.specs.Outcomes.{of_branches}
 use Rattle.olk_errors.proofs.Loops.{Walking}
 use Rattle.olk_errors.proofs.property_dependencies.walk_chosen.Given as goal
 

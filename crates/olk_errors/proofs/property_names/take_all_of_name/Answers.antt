@@ -1,9 +1,16 @@
-use Rattle.olk_errors.proofs.Common.{◌≡◌, [], ◌∷◌, map, length, sym, ap, subst, arith, ◌∙◌, string_bytes, into_iter_items, string, data_of, ◌∼◌, wrapped, path_at, fault_of, of_asked_name}
-use Rattle.std.proofs.Common.{rules}
+use Rattle.std.proofs.Common.{◌≡◌, [], ◌∷◌, map, length, sym, ap, subst, arith, ◌∙◌, string_bytes, rules}
+use Rattle.std.specs.Vec.Iter.{into_iter_items}
+use Rattle.serde_json.specs.Data.{string}
+use Rattle.olk_base.specs.Nodes.{data_of}
+use Rattle.olk_spec.specs.Faults.{◌∼◌}
+use Rattle.olk_spec.specs.Reports.{wrapped}
+use Rattle.olk_paths.specs.Trails.{path_at}
+use Rattle.olk_reports.specs.Errors.{fault_of}
 use Rattle.olk_errors.proofs.Names.{names_told}
 use Rattle.olk_errors.proofs.Sinks.{ends_left, walks_nowhere}
 use Rattle.olk_errors.proofs.Telling.{nothing_left, telling_start, telling_turn, telling_like}
 use Rattle.olk_errors.proofs.Unexpected.{told}
+use Rattle.olk_errors.specs.Outcomes.{of_asked_name}
 use Rattle.olk_errors.proofs.property_names.take_all_of_name.Goals as goal
 
 pub returns-in_err-errors : goal.returns-in_err-errors

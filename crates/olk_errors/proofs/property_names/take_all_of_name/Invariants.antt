@@ -1,5 +1,9 @@
-use Rattle.olk_errors.proofs.Common.{◌≡◌, length, into_iter_items, data_of, path_at, wrapped, fault_of}
-use Rattle.std.specs.Vec.Iter.{into_iter_len}
+use Rattle.std.proofs.Common.{◌≡◌, length}
+use Rattle.std.specs.Vec.Iter.{into_iter_items, into_iter_len}
+use Rattle.olk_base.specs.Nodes.{data_of}
+use Rattle.olk_paths.specs.Trails.{path_at}
+use Rattle.olk_spec.specs.Reports.{wrapped}
+use Rattle.olk_reports.specs.Errors.{fault_of}
 use Rattle.olk_errors.proofs.Telling.{Telling}
 use Rattle.olk_errors.proofs.property_names.take_all_of_name.Given as goal
 

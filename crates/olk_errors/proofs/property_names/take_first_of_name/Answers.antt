@@ -1,7 +1,12 @@
-use Rattle.olk_errors.proofs.Common.{refl, subst, string_bytes, string, data_of, path_at, fault_of, of_node}
+use Rattle.std.proofs.Common.{refl, subst, string_bytes}
+use Rattle.serde_json.specs.Data.{string}
+use Rattle.olk_base.specs.Nodes.{data_of}
+use Rattle.olk_paths.specs.Trails.{path_at}
+use Rattle.olk_reports.specs.Errors.{fault_of}
 use Rattle.olk_errors.proofs.Names.{name_errs}
 use Rattle.olk_errors.proofs.Sinks.{ends_wanted, walks_nowhere}
 use Rattle.olk_errors.specs.Found.{IsFirstOf}
+use Rattle.olk_errors.specs.Outcomes.{of_node}
 use Rattle.olk_errors.proofs.property_names.take_first_of_name.Goals as goal
 
 pub returns-in_err-error : goal.returns-in_err-error

@@ -1,4 +1,9 @@
-use Rattle.olk_errors.proofs.Common.{refl, ap, members_view, data_of, listed, path_at, name_next, no_name_next}
+use Rattle.std.proofs.Common.{refl, ap}
+use Rattle.serde_json.specs.View.{members_view}
+use Rattle.olk_base.specs.Nodes.{data_of}
+use Rattle.olk_spec.specs.Schemas.{listed}
+use Rattle.olk_paths.specs.Trails.{path_at}
+use Rattle.olk_tree.proofs.Due.{name_next, no_name_next}
 use Rattle.olk_errors.proofs.Loops.{walking_from, walking_turn, walking_end}
 use Rattle.olk_errors.proofs.Names.{names_of_walk}
 use Rattle.olk_errors.proofs.Sinks.{walks_same, walks_left}

@@ -1,4 +1,9 @@
-use Rattle.olk_errors.proofs.Common.{string, members_view, data_of, path_at, listed, of_asked_name}
+use Rattle.serde_json.specs.Data.{string}
+use Rattle.serde_json.specs.View.{members_view}
+use Rattle.olk_base.specs.Nodes.{data_of}
+use Rattle.olk_paths.specs.Trails.{path_at}
+use Rattle.olk_spec.specs.Schemas.{listed}
+use Rattle.olk_errors.specs.Outcomes.{of_asked_name}
 use Rattle.olk_errors.proofs.Loops.{Walking}
 use Rattle.olk_errors.proofs.property_names.walk_names.Given as goal
 

@@ -1,5 +1,9 @@
-use Rattle.olk_errors.proofs.Common.{subst₂, data_of, fault, path_at, Takes}
+use mathlib.Core.Path.{subst₂}
+use Rattle.olk_base.specs.Nodes.{data_of}
+use Rattle.olk_spec.specs.Faults.{fault}
+use Rattle.olk_paths.specs.Trails.{path_at}
 use Rattle.olk_reports.proofs.Errors.{kind_of_required}
+use Rattle.olk_errors.specs.Sinks.{Takes}
 use Rattle.olk_errors.proofs.required.report_absent.Goals as goal
 
 pub returns : goal.returns

@@ -1,4 +1,7 @@
-use Rattle.olk_errors.proofs.Common.{refl, members_view, data_of, path_at}
+use Rattle.std.proofs.Common.{refl}
+use Rattle.serde_json.specs.View.{members_view}
+use Rattle.olk_base.specs.Nodes.{data_of}
+use Rattle.olk_paths.specs.Trails.{path_at}
 use Rattle.olk_errors.proofs.Missing.{there_past, lacked_own}
 use Rattle.olk_errors.proofs.Own.{ends_own}
 use Rattle.olk_errors.proofs.required.report_if_missing.Goals as goal

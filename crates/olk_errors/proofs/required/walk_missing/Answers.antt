@@ -1,7 +1,11 @@
-use Rattle.olk_errors.proofs.Common.{[], ◌∷◌, sym, ap, ◌∙◌, data_of, path_at, next_at, past_end, of_names}
+use Rattle.std.proofs.Common.{[], ◌∷◌, sym, ap, ◌∙◌}
+use Rattle.olk_base.specs.Nodes.{data_of}
+use Rattle.olk_paths.specs.Trails.{path_at}
+use Rattle.olk_tree.proofs.Lists.{next_at, past_end}
 use Rattle.olk_errors.proofs.Loops.{walked_start, walked_turn, walked_end}
 use Rattle.olk_errors.proofs.Missing.{names_together}
 use Rattle.olk_errors.proofs.Sinks.{goes_same, ends_left, ends_same}
+use Rattle.olk_errors.specs.Outcomes.{of_names}
 use Rattle.olk_errors.proofs.required.walk_missing.Goals as goal
 
 pub loop-name-init : goal.loop-name-init

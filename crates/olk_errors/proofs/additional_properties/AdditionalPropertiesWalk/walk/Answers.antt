@@ -1,4 +1,6 @@
-use Rattle.olk_errors.proofs.Common.{data_of, path_at, only_same}
+use Rattle.olk_base.specs.Nodes.{data_of}
+use Rattle.olk_paths.specs.Trails.{path_at}
+use Rattle.olk_check.proofs.Asked.{only_same}
 use Rattle.olk_errors.proofs.AdditionalMembers.{by_wanted, same_keyword, other_finds_nothing, other_passes}
 use Rattle.olk_errors.proofs.Sinks.{walks_past, walks_same, walks_alone, walks_after, walks_left, walks_before}
 use Rattle.olk_errors.proofs.additional_properties.AdditionalPropertiesWalk.walk.Goals as goal

@@ -1,7 +1,12 @@
-use Rattle.olk_errors.proofs.Common.{not, [], ◌∷◌, sym, ap, subst, data_of, AnyOf, context, path_at, context_faults, only_then, AreLike}
-use Rattle.olk_reports.proofs.Errors.{kind_of_any_of}
+use Rattle.std.proofs.Common.{not, [], ◌∷◌, sym, ap, subst}
+use Rattle.olk_base.specs.Nodes.{data_of}
+use Rattle.olk_spec.specs.Faults.{AnyOf, context}
+use Rattle.olk_paths.specs.Trails.{path_at}
+use Rattle.olk_reports.proofs.Errors.{context_faults, kind_of_any_of}
+use Rattle.olk_check.proofs.Asked.{only_then}
 use Rattle.olk_errors.proofs.Own.{walks_own, own_past, any_of_own}
 use Rattle.olk_errors.proofs.Sinks.{walks_nowhere}
+use Rattle.olk_errors.specs.Found.{AreLike}
 use Rattle.olk_errors.proofs.any_of.SingleAnyOfWalk.walk.Goals as goal
 
 pub returns-then-is_valid : goal.returns-then-is_valid

@@ -1,6 +1,9 @@
-use Rattle.olk_errors.proofs.Common.{sym, data_of, path_at, of_node}
+use Rattle.std.proofs.Common.{sym}
+use Rattle.olk_base.specs.Nodes.{data_of}
+use Rattle.olk_paths.specs.Trails.{path_at}
 use Rattle.olk_errors.proofs.If.{past_else, walks_else}
 use Rattle.olk_errors.proofs.Sinks.{walks_asked}
+use Rattle.olk_errors.specs.Outcomes.{of_node}
 use Rattle.olk_errors.proofs.if_.IfElseWalk.walk.Goals as goal
 
 pub returns-then-is_valid : goal.returns-then-is_valid

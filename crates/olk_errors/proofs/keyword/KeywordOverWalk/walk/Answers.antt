@@ -1,5 +1,5 @@
-use Rattle.olk_errors.proofs.Common.{only_same}
 use Rattle.olk_tree.specs.Validators.{answers_of}
+use Rattle.olk_check.proofs.Asked.{only_same}
 use Rattle.olk_errors.proofs.Sinks.{walks_alone}
 use Rattle.olk_errors.proofs.keyword.KeywordOverWalk.walk.Goals as goal
 

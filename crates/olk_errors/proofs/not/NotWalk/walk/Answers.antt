@@ -1,5 +1,8 @@
-use Rattle.olk_errors.proofs.Common.{not, refl, sym, ap, view, data_of, itself, path_at}
-use Rattle.olk_spec.specs.Faults.{Not}
+use Rattle.std.proofs.Common.{not, refl, sym, ap}
+use Rattle.serde_json.specs.View.{view}
+use Rattle.olk_base.specs.Nodes.{data_of}
+use Rattle.olk_spec.specs.Faults.{itself, Not}
+use Rattle.olk_paths.specs.Trails.{path_at}
 use Rattle.olk_reports.proofs.Errors.{kind_of_not}
 use Rattle.olk_errors.proofs.Own.{like_at, walks_own, own_past, is_own}
 use Rattle.olk_errors.proofs.not.NotWalk.walk.Goals as goal

@@ -1,4 +1,6 @@
-use Rattle.olk_errors.proofs.Common.{map, data_of, path_at}
+use Rattle.std.proofs.Common.{map}
+use Rattle.olk_base.specs.Nodes.{data_of}
+use Rattle.olk_paths.specs.Trails.{path_at}
 use Rattle.olk_tree.specs.Questions.{how_many}
 use Rattle.olk_errors.proofs.OneOf.{one_of_own, one_of_passes, one_of_nothing}
 use Rattle.olk_errors.proofs.Own.{walks_own}

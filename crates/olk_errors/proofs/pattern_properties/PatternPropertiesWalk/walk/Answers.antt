@@ -1,5 +1,7 @@
-use Rattle.olk_errors.proofs.Common.{data_of, path_at, only_same}
+use Rattle.olk_base.specs.Nodes.{data_of}
+use Rattle.olk_paths.specs.Trails.{path_at}
 use Rattle.olk_tree.proofs.Patterns.{patterns_find_nothing}
+use Rattle.olk_check.proofs.Asked.{only_same}
 use Rattle.olk_errors.proofs.Patterns.{other_patterns_pass}
 use Rattle.olk_errors.proofs.Sinks.{walks_past}
 use Rattle.olk_errors.proofs.pattern_properties.PatternPropertiesWalk.walk.Goals as goal

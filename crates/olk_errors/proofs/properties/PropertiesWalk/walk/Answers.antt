@@ -1,6 +1,8 @@
-use Rattle.olk_errors.proofs.Common.{data_of, path_at, only_same}
+use Rattle.olk_base.specs.Nodes.{data_of}
+use Rattle.olk_paths.specs.Trails.{path_at}
 use Rattle.olk_tree.proofs.Members_met.{reports_nothing}
 use Rattle.olk_tree.specs.Maps.{mapped}
+use Rattle.olk_check.proofs.Asked.{only_same}
 use Rattle.olk_errors.proofs.Members.{other_passes}
 use Rattle.olk_errors.proofs.Sinks.{walks_past}
 use Rattle.olk_errors.proofs.properties.PropertiesWalk.walk.Goals as goal

@@ -1,11 +1,16 @@
-use Rattle.olk_errors.proofs.Common.{[], ◌∷◌, refl, ◌++◌, string_bytes, object, members_view, data_of, path_at, named, only_same, of_names}
+use Rattle.std.proofs.Common.{[], ◌∷◌, refl, ◌++◌, string_bytes}
+use Rattle.serde_json.specs.Data.{object}
+use Rattle.serde_json.specs.View.{members_view}
+use Rattle.olk_base.specs.Nodes.{data_of}
+use Rattle.olk_paths.specs.Trails.{path_at}
 use Rattle.olk_tree.proofs.Members_met.{object_is, reports_nothing}
-use Rattle.olk_tree.specs.Maps.{two_texts}
+use Rattle.olk_tree.specs.Maps.{named, two_texts}
+use Rattle.olk_check.proofs.Asked.{only_same}
 use Rattle.olk_errors.proofs.Fused.{two_then_members}
 use Rattle.olk_errors.proofs.Members.{other_passes}
 use Rattle.olk_errors.proofs.Missing.{other_lacks_none, other_lacks_nothing}
 use Rattle.olk_errors.proofs.Sinks.{pass_both, goes_after, walks_past, walks_same, walks_alone, walks_after, walks_left, walks_before}
-use Rattle.olk_errors.specs.Outcomes.{of_properties}
+use Rattle.olk_errors.specs.Outcomes.{of_names, of_properties}
 use Rattle.olk_errors.proofs.properties.SmallPropertiesWithRequired2Walk.walk.Goals as goal
 
 pub returns-in_err-report_if_missing-in-Some : goal.returns-in_err-report_if_missing-in-Some

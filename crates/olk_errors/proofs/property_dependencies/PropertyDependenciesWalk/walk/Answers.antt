@@ -1,5 +1,8 @@
-use Rattle.olk_errors.proofs.Common.{data_of, path_at, named, only_same}
+use Rattle.olk_base.specs.Nodes.{data_of}
+use Rattle.olk_paths.specs.Trails.{path_at}
 use Rattle.olk_tree.proofs.Due.{none_chosen}
+use Rattle.olk_tree.specs.Maps.{named}
+use Rattle.olk_check.proofs.Asked.{only_same}
 use Rattle.olk_errors.proofs.Due.{past_none}
 use Rattle.olk_errors.proofs.property_dependencies.PropertyDependenciesWalk.walk.Goals as goal
 

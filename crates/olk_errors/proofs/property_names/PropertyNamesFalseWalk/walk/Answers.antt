@@ -1,4 +1,8 @@
-use Rattle.olk_errors.proofs.Common.{not, refl, sym, ap, data_of, itself, FalseSchema, path_at, kind_of_false_schema}
+use Rattle.std.proofs.Common.{not, refl, sym, ap}
+use Rattle.olk_base.specs.Nodes.{data_of}
+use Rattle.olk_spec.specs.Faults.{itself, FalseSchema}
+use Rattle.olk_paths.specs.Trails.{path_at}
+use Rattle.olk_reports.proofs.Errors.{kind_of_false_schema}
 use Rattle.olk_errors.proofs.Own.{like_at, walks_own, own_past, is_own}
 use Rattle.olk_errors.proofs.property_names.PropertyNamesFalseWalk.walk.Goals as goal
 

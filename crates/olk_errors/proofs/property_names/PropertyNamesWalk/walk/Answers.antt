@@ -1,5 +1,7 @@
-use Rattle.olk_errors.proofs.Common.{data_of, path_at, only_same}
+use Rattle.olk_base.specs.Nodes.{data_of}
+use Rattle.olk_paths.specs.Trails.{path_at}
 use Rattle.olk_tree.proofs.Members_met.{no_members}
+use Rattle.olk_check.proofs.Asked.{only_same}
 use Rattle.olk_errors.proofs.Names.{no_names_pass, no_names_told}
 use Rattle.olk_errors.proofs.Sinks.{walks_past}
 use Rattle.olk_errors.proofs.property_names.PropertyNamesWalk.walk.Goals as goal

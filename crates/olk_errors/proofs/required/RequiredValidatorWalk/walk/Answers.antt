@@ -1,4 +1,7 @@
-use Rattle.olk_errors.proofs.Common.{data_of, path_at, texts_of, only_same}
+use Rattle.olk_base.specs.Nodes.{data_of}
+use Rattle.olk_paths.specs.Trails.{path_at}
+use Rattle.olk_tree.specs.Maps.{texts_of}
+use Rattle.olk_check.proofs.Asked.{only_same}
 use Rattle.olk_errors.proofs.Missing.{other_lacks_none, other_lacks_nothing}
 use Rattle.olk_errors.proofs.Sinks.{walks_past}
 use Rattle.olk_errors.proofs.required.RequiredValidatorWalk.walk.Goals as goal

@@ -1,6 +1,9 @@
-use Rattle.olk_errors.proofs.Common.{ap, subst, ◌∙◌, data_of, fault, Takes}
+use Rattle.std.proofs.Common.{ap, subst, ◌∙◌}
+use Rattle.olk_base.specs.Nodes.{data_of}
+use Rattle.olk_spec.specs.Faults.{fault}
 use Rattle.olk_reports.specs.Errors.{kind_of}
 use Rattle.olk_errors.proofs.Sinks.{ends_nowhere}
+use Rattle.olk_errors.specs.Sinks.{Takes}
 use Rattle.olk_errors.proofs.sink.ErrorSink.report.Goals as goal
 
 pub returns-in_err-instance_path : goal.returns-in_err-instance_path
