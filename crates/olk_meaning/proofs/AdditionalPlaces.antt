@@ -4,7 +4,7 @@ use Rattle.std.specs.List.{list_all, flat_map}
 use Rattle.std.proofs.Common.{refl, sym, ◌∙◌, ap}
 use Rattle.std.proofs.lemmas.List.{append-nil}
 use mathlib.Core.Bool.{true≢false}
-use Rattle.serde_json.specs.Data.{Data, null, boolean, number, string, array, object, Members}
+use Rattle.serde_json.specs.Data.{Data, boolean, object, Members}
 use Rattle.olk_spec.specs.Names.{Name, Path, ◌//◌, down, put_if}
 use Rattle.olk_spec.specs.World.{World}
 use Rattle.olk_spec.specs.Vocabulary.{additional_properties}

@@ -6,7 +6,7 @@ use Rattle.serde_json.specs.Data.{Data, string}
 use Rattle.olk_spec.specs.Names.{Name}
 use Rattle.olk_spec.specs.World.{World}
 use Rattle.olk_spec.specs.Vocabulary.{Keyword, pattern_properties, any_of, one_of, not_keyword, if_keyword, keyword_named}
-use Rattle.olk_spec.specs.Schemas.{Schema, truth, keywords, no_schema, Keywords, Part, members, is_object}
+use Rattle.olk_spec.specs.Schemas.{Schema, keywords, Keywords, Part, members, is_object}
 use Rattle.olk_spec.specs.Meanings.{Meaning, applied, is_conditional}
 use Rattle.olk_spec.specs.Asks.{asks_at, own_asks, keyword_asks}
 use Rattle.olk_spec.specs.Meaning.{asks, meaning, meaning_step}

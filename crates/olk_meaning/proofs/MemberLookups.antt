@@ -1,5 +1,5 @@
 -- Members by their names.
-use Rattle.std.proofs.Common.{◌≡◌, List, [], ◌∷◌, Option, Some, None, option_map, option_copied, Bor, is_some, cond, String, Global, Ordering, Less, Equal, Greater, string_bytes, refl, ap, ◌∙◌}
+use Rattle.std.proofs.Common.{◌≡◌, List, [], ◌∷◌, Option, Some, None, option_map, option_copied, Bor, is_some, cond, String, Global, Ordering, Equal, string_bytes, refl, ap, ◌∙◌}
 use Rattle.std.specs.Ordering.{nat_cmp, is_eq}
 use Rattle.std.specs.Cmp.Lexicographic.{slice_cmp}
 use Rattle.std.specs.BTreeMap.{is_at}

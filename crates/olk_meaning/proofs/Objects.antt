@@ -4,7 +4,7 @@ use Rattle.std.specs.List.{list_all, flat_map}
 use Rattle.std.proofs.Common.{refl, sym, ◌∙◌, ap}
 use Rattle.std.proofs.lemmas.List.Folds.{list_all-map}
 use Rattle.std.proofs.lemmas.List.Sums.{sum_by-cons}
-use Rattle.serde_json.specs.Data.{Data, null, boolean, number, string, array, object, Members}
+use Rattle.serde_json.specs.Data.{Data, boolean, object, Members}
 use Rattle.olk_spec.specs.Names.{Path}
 use Rattle.olk_spec.specs.Faults.{fault, MultipleTypes}
 use Rattle.olk_spec.specs.Schemas.{listed, read_members}

@@ -4,7 +4,7 @@ use Rattle.std.specs.List.{flat_map, list_any}
 use Rattle.std.proofs.Common.{refl, sym, ◌∙◌, ap, arith, suc}
 use Rattle.std.proofs.lemmas.Bool.Decides.{nat_tests}
 use mathlib.Core.Bool.{true≢false}
-use Rattle.serde_json.specs.Data.{Data, null, boolean, number, string, array, object, no_items, item, Members}
+use Rattle.serde_json.specs.Data.{Data, null, boolean, string, array, no_items, item, Members}
 use Rattle.olk_spec.specs.Names.{Name, Path, ◌//◌, lookup_name, is_empty}
 use Rattle.olk_spec.specs.World.{World}
 use Rattle.olk_spec.specs.Vocabulary.{keyword_named}

@@ -2,7 +2,7 @@
 use Rattle.std.specs.Prelude.{◌≡◌, ◌&&◌, ◌||◌, Bool, true, false, cond, Option, Some, None, is_some, is_none, unwrap_or, codes, bytes_eq}
 use Rattle.std.proofs.Common.{refl, sym, ◌∙◌, ap, ◌⊎◌, inl, inr}
 use mathlib.Core.Bool.{true≢false}
-use Rattle.serde_json.specs.Data.{Data, null, boolean, number, string, array, object, Members, no_items, item}
+use Rattle.serde_json.specs.Data.{Data, boolean, string, array, object, Members, no_items, item}
 use Rattle.olk_spec.specs.Names.{Name, lookup_name}
 use Rattle.olk_spec.specs.Schemas.{listed}
 use Rattle.olk_spec.proofs.Walks.{same_name, bytes_eq-sym}

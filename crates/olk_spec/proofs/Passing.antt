@@ -3,7 +3,7 @@ use Rattle.std.specs.Prelude.{◌≡◌, false, List, [], ◌∷◌, codes}
 use Rattle.std.specs.List.{flat_map}
 use Rattle.std.proofs.Common.{refl}
 use Rattle.std.proofs.Math.Bool.{or-true}
-use Rattle.serde_json.specs.Data.{Data, null, boolean, number, string, array, object}
+use Rattle.serde_json.specs.Data.{Data, object}
 use Rattle.olk_spec.specs.Names.{filter_once}
 use Rattle.olk_spec.specs.Schemas.{members, is_object}
 use Rattle.olk_spec.specs.Meaning.{meaning}

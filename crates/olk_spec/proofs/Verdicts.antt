@@ -7,7 +7,7 @@ use Rattle.serde_json.specs.Data.{Data, string}
 use Rattle.olk_spec.specs.Names.{Name, Path, ◌//◌, down, put_if, is_empty}
 use Rattle.olk_spec.specs.World.{World}
 use Rattle.olk_spec.specs.Vocabulary.{Keyword, additional_properties, property_names, required, dependent_required, dependencies, any_of, one_of, not_keyword, leaf, keyword_named}
-use Rattle.olk_spec.specs.Schemas.{is_object, is_truth, Schema, truth, keywords, no_schema, Keywords, Part, members, names}
+use Rattle.olk_spec.specs.Schemas.{is_object, is_truth, Schema, truth, keywords, Keywords, Part, members, names}
 use Rattle.olk_spec.specs.Meanings.{Meaning, holds, applied, additional}
 use Rattle.olk_spec.specs.Accepts.{wanted, keyword_accepts, missing, due, accepting}
 use Rattle.olk_spec.specs.Faults.{fault, FalseSchema, Not, Required, Leaf, AnyOf, OneOfNotValid, OneOfMultipleValid, Kind}

@@ -11,7 +11,7 @@ use Rattle.olk_meaning.proofs.PropertyNames.{false_is_no_object, object_is_not_f
 use mathlib.Core.Bool.{true≢false}
 use Rattle.serde_json.specs.Data.{Data}
 use Rattle.olk_spec.specs.Names.{Name, Path, ◌//◌, lookup_name, first_if_equal, put_if, is_empty}
-use Rattle.olk_spec.specs.World.{Says, matched, unmatched, unfinished, reads_as}
+use Rattle.olk_spec.specs.World.{Says, matched, unfinished, reads_as}
 use Rattle.olk_spec.specs.Faults.{Fault}
 use Rattle.olk_spec.specs.Schemas.{is_object, is_truth}
 use Rattle.olk_spec.specs.Meanings.{matches}

@@ -1,7 +1,7 @@
 -- The nodes that a dependency asks of an object, over the members that a walk meets.
 use Rattle.std.proofs.Common.{◌≡◌, Bool, true, false, arith, length, String, Global, string_bytes, List, [], ◌∷◌, ◌++◌, map, Option, Some, None, is_some, option_to_list, append-nil, refl, sym, ap, ◌∙◌}
 use Rattle.std.specs.List.{flat_map}
-use Rattle.serde_json.specs.Data.{Data, Members, null, boolean, number, string, array, object}
+use Rattle.serde_json.specs.Data.{Data, Members, null, string, object}
 use Rattle.serde_json.specs.Find.{as_object, as_str}
 use Rattle.serde_json.specs.View.{view, members_view}
 use Rattle.serde_json.specs.declared.value.Value.{Value}

@@ -6,7 +6,7 @@ use Rattle.std.proofs.Common.{refl, ◌∙◌, ap, subst, arith}
 use Rattle.std.proofs.lemmas.Bool.Decides.{Decides-eqb}
 use Rattle.std.proofs.lemmas.Slice.Eq.{slice_eq-Decides, bytes_eq-Decides}
 use Rattle.olk_spec.specs.Names.{Name, is_empty}
-use Rattle.olk_spec.specs.World.{Says, matched, unmatched, unfinished}
+use Rattle.olk_spec.specs.World.{Says, matched}
 use Rattle.olk_spec.proofs.Truth.{and_from}
 use Rattle.olk_base.specs.Compiled.{pattern_answers}
 use Rattle.olk_base.specs.declared.pattern.CompiledPattern.{CompiledPattern}

@@ -1,5 +1,5 @@
 -- Names by their first bytes, read as a number.
-use Rattle.std.proofs.Common.{◌≡◌, ℕ, zero, suc, ◌+◌, ◌-◌, drop, length-drop, IsUtf8, ◌*◌, ◌/◌, ◌^◌, ◌<◌, ◌≤◌, Bool, true, false, cond, List, [], ◌∷◌, ◌++◌, length, map, get_or, Ordering, Less, Equal, Greater, String, Global, string_bytes, refl, sym, ap, subst, ◌∙◌, arith, mul-le-mul_right, subst₂, ◌≢◌, None, bytes_eq}
+use Rattle.std.proofs.Common.{◌≡◌, ℕ, zero, suc, ◌+◌, ◌-◌, IsUtf8, ◌*◌, ◌/◌, ◌^◌, ◌<◌, ◌≤◌, Bool, true, false, cond, List, [], ◌∷◌, ◌++◌, length, map, get_or, Ordering, Less, Equal, Greater, String, Global, string_bytes, refl, sym, ap, subst, ◌∙◌, arith, mul-le-mul_right, subst₂, ◌≢◌, None, bytes_eq}
 use Rattle.std.specs.List.{position}
 use Rattle.std.specs.List.Sorted.{IsPartitionPoint, IsPartitionedBy}
 use Rattle.std.proofs.lemmas.Slice.Eq.{bytes_eq-Decides}
@@ -7,7 +7,7 @@ use Rattle.std.specs.Bool.{nat_lt}
 use Rattle.std.specs.Ordering.{nat_cmp, ordering_then}
 use Rattle.std.specs.Cmp.Lexicographic.{slice_cmp}
 use Rattle.std.proofs.lemmas.Str.{IsUtf8-string_bytes}
-use Rattle.std.proofs.lemmas.List.{get_or-map, get_or-drop, length-map}
+use Rattle.std.proofs.lemmas.List.{get_or-map, length-map}
 use Rattle.std.proofs.lemmas.Bool.Decides.{nat_tests}
 use native.Mathlib.Nat.{pow-suc}
 use lib.Utf8.{scalar, scalars, next, encode, encodes}

@@ -6,7 +6,7 @@ use Rattle.std.proofs.lemmas.List.Sums.{sum_by-cons, sum_by-append}
 use Rattle.olk_meaning.proofs.Objects.{sum_by-map}
 use Rattle.serde_json.specs.Data.{Data}
 use Rattle.olk_spec.specs.Names.{Name, Text, Path, ◌//◌, put_if, is_empty}
-use Rattle.olk_spec.specs.World.{World, Says, matched, unmatched, unfinished, is_unfinished}
+use Rattle.olk_spec.specs.World.{World, Says, matched, unmatched, is_unfinished}
 use Rattle.olk_spec.specs.Faults.{Fault}
 use Rattle.olk_spec.specs.Schemas.{is_object, members}
 use Rattle.olk_spec.specs.Literals.{Literal, literal, passes}

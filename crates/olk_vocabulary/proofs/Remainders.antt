@@ -5,7 +5,7 @@ use Rattle.std.proofs.Math.Bool.{and-false, and-true}
 use Rattle.std.proofs.Math.Dec.{ltb→lt}
 use Rattle.std.proofs.lemmas.Bool.{ltb-true, ltb-false, lt-ltb, le-ltb, eq-eqb, eqb-true, eqb-false, ne_eqb}
 use Rattle.std.proofs.Math.Nat.{eq-or-lt_of_le, eq_of_mul-eq-mul_right, div-lt_iff_lt-mul, mul-div-mul_right, mul_right_comm, mul-mod_left, mul_assoc, zero-mul, mod-one, zero-mod, div-add-mod'}
-use Rattle.std.specs.Float.{Float, nan, inf, fin, binary64, two_to, float_with_sign, float_is_finite}
+use Rattle.std.specs.Float.{Float, fin, binary64, two_to, float_with_sign, float_is_finite}
 use Rattle.std.specs.Float.Ieee.{of_int, up, down, eq, lt, round, fits, to_unsigned}
 use Rattle.std.specs.Float.Ieee.Exact.{HasValue, round_exact}
 use Rattle.std.specs.Float.Ieee.Fits.{and_l, and_r, down_pos}
