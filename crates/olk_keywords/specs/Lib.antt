@@ -2,4 +2,3 @@ pub mod Parts
 pub mod Together
 pub mod Conditions
 pub mod AdditionalProperties
-pub mod Words

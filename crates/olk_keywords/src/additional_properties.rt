@@ -1,5 +1,16 @@
 //! `additionalProperties`, and what it takes over: what is compiled of them.
-ghost use Rattle.olk_keywords.specs.Words.{IfSome, IfNone, ◌≡◌, true, false, is_none, length, option_map, codes, IfOk, kit, IsAdditionalProperties, plan_of, one_below, lookup_name, listed, members, is_object, is_truth, members_view, view, BuildsDeclared, BuildsPatterns, Gives, restriction_members, BuildsTogether};
+ghost use Rattle.std.specs.Prelude.{◌≡◌, true, false, is_none, length, option_map, codes, IfOk};
+ghost use Rattle.std.specs.Option.{IfSome, IfNone};
+ghost use Rattle.serde_json.specs.View.{members_view, view};
+ghost use Rattle.olk_spec.specs.Names.{lookup_name};
+ghost use Rattle.olk_spec.specs.Schemas.{listed, members, is_object, is_truth};
+ghost use Rattle.olk_paths.specs.Paths.{one_below};
+ghost use Rattle.olk_base.specs.Kit.{kit};
+ghost use Rattle.olk_meaning.specs.Plans.{plan_of};
+ghost use Rattle.olk_make.specs.Forms.{IsAdditionalProperties};
+ghost use Rattle.olk_keywords.specs.Together.{restriction_members, BuildsTogether};
+ghost use Rattle.olk_keywords.specs.AdditionalProperties.{BuildsDeclared, BuildsPatterns};
+ghost use Rattle.olk_keywords.specs.Parts.{Gives};
 
 use olk_base::{MakeLeaf, MakeRegex};
 use olk_build::{Context, compile_member};

@@ -1,5 +1,10 @@
 //! `allOf`: what is compiled of its member of a schema object.
-ghost use Rattle.olk_keywords.specs.Words.{◌≡◌, codes, kit, IsAllOf, one_below, view, GivesMember, Gives};
+ghost use Rattle.std.specs.Prelude.{◌≡◌, codes};
+ghost use Rattle.serde_json.specs.View.{view};
+ghost use Rattle.olk_paths.specs.Paths.{one_below};
+ghost use Rattle.olk_base.specs.Kit.{kit};
+ghost use Rattle.olk_make.specs.Forms.{IsAllOf};
+ghost use Rattle.olk_keywords.specs.Parts.{GivesMember, Gives};
 
 use olk_base::{Leaf, MakeLeaf, MakeRegex, RegexEngine};
 use olk_build::{Context, compile_member};

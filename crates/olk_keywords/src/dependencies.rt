@@ -1,6 +1,12 @@
 //! `dependencies`, `dependentRequired` and `dependentSchemas`: what is compiled of their members of
 //! a schema object.
-ghost use Rattle.olk_keywords.specs.Words.{◌≡◌, map, codes, kit, IsDependencies, one_below, members, view, GivesMember, Gives};
+ghost use Rattle.std.specs.Prelude.{◌≡◌, map, codes};
+ghost use Rattle.serde_json.specs.View.{view};
+ghost use Rattle.olk_spec.specs.Schemas.{members};
+ghost use Rattle.olk_paths.specs.Paths.{one_below};
+ghost use Rattle.olk_base.specs.Kit.{kit};
+ghost use Rattle.olk_make.specs.Forms.{IsDependencies};
+ghost use Rattle.olk_keywords.specs.Parts.{GivesMember, Gives};
 
 use olk_base::{Leaf, MakeLeaf, MakeRegex, RegexEngine};
 use olk_build::{Context, compile_member};

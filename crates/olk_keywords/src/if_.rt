@@ -1,5 +1,17 @@
 //! `if`, `then` and `else`: what is compiled of their members of a schema object.
-ghost use Rattle.olk_keywords.specs.Words.{IfSome, IfNone, ◌≡◌, true, false, not, is_none, is_some, map, codes, IfOk, kit, IsIf, is_condition, one_below, has_repeat, lookup_name, listed, members_view, view, BuildsCase, Gives, condition_members, BuildsTogether};
+ghost use Rattle.std.specs.Prelude.{◌≡◌, true, false, not, is_none, is_some, map, codes, IfOk};
+ghost use Rattle.std.specs.Option.{IfSome, IfNone};
+ghost use Rattle.serde_json.specs.View.{members_view, view};
+ghost use Rattle.olk_spec.specs.Names.{lookup_name};
+ghost use Rattle.olk_spec.specs.Schemas.{listed};
+ghost use Rattle.olk_spec.specs.Malformed.{has_repeat};
+ghost use Rattle.olk_paths.specs.Paths.{one_below};
+ghost use Rattle.olk_base.specs.Kit.{kit};
+ghost use Rattle.olk_meaning.specs.Conditions.{is_condition};
+ghost use Rattle.olk_make.specs.Forms.{IsIf};
+ghost use Rattle.olk_keywords.specs.Together.{condition_members, BuildsTogether};
+ghost use Rattle.olk_keywords.specs.Conditions.{BuildsCase};
+ghost use Rattle.olk_keywords.specs.Parts.{Gives};
 
 use olk_base::{MakeLeaf, MakeRegex};
 use olk_build::{Context, compile_member};

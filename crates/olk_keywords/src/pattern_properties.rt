@@ -1,5 +1,14 @@
 //! `patternProperties`: what is compiled of its member of a schema object.
-ghost use Rattle.olk_keywords.specs.Words.{IfSome, IfNone, ◌≡◌, is_none, length, codes, IfOk, IfErr, kit, PatternsAreBuilt, RefusesPatternEntries, IsPatternProperties, is_restricted, one_below, listed, members, view, members_view, BuildsWhereFree, Gives};
+ghost use Rattle.std.specs.Prelude.{◌≡◌, is_none, length, codes, IfOk, IfErr};
+ghost use Rattle.std.specs.Option.{IfSome, IfNone};
+ghost use Rattle.serde_json.specs.View.{view, members_view};
+ghost use Rattle.olk_spec.specs.Schemas.{listed, members};
+ghost use Rattle.olk_paths.specs.Paths.{one_below};
+ghost use Rattle.olk_base.specs.Kit.{kit};
+ghost use Rattle.olk_meaning.specs.Conditions.{is_restricted};
+ghost use Rattle.olk_make.specs.Forms.{IsPatternProperties};
+ghost use Rattle.olk_build.specs.Building.{PatternsAreBuilt, RefusesPatternEntries};
+ghost use Rattle.olk_keywords.specs.Parts.{BuildsWhereFree, Gives};
 
 use olk_base::{CompiledPattern, Leaf, MakeLeaf, MakeRegex, RegexEngine};
 use olk_build::{Context, compile_declared, compile_member};

@@ -1,5 +1,16 @@
 //! `properties`: what is compiled of its member of a schema object.
-ghost use Rattle.olk_keywords.specs.Words.{IfSome, IfNone, ◌≡◌, codes, is_none, length, map, IfOk, IfErr, kit, AreBuilt, RefusesEach, IsProperties, is_restricted, plan_of, one_below, listed, members, keys_in, nodes_in, view, members_view, BuildsClaims, Gives};
+ghost use Rattle.std.specs.Prelude.{◌≡◌, codes, is_none, length, map, IfOk, IfErr};
+ghost use Rattle.std.specs.Option.{IfSome, IfNone};
+ghost use Rattle.serde_json.specs.View.{view, members_view};
+ghost use Rattle.olk_spec.specs.Schemas.{listed, members};
+ghost use Rattle.olk_paths.specs.Paths.{one_below};
+ghost use Rattle.olk_base.specs.Kit.{kit};
+ghost use Rattle.olk_tree.specs.Maps.{keys_in, nodes_in};
+ghost use Rattle.olk_make.specs.Forms.{IsProperties};
+ghost use Rattle.olk_meaning.specs.Conditions.{is_restricted};
+ghost use Rattle.olk_meaning.specs.Plans.{plan_of};
+ghost use Rattle.olk_build.specs.Building.{AreBuilt, RefusesEach};
+ghost use Rattle.olk_keywords.specs.Parts.{BuildsClaims, Gives};
 
 use olk_base::{Leaf, MakeLeaf, MakeRegex, RegexEngine};
 use olk_build::{Context, compile_declared, compile_member};

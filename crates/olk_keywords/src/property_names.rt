@@ -1,5 +1,12 @@
 //! `propertyNames`: what is compiled of its member of a schema object.
-ghost use Rattle.olk_keywords.specs.Words.{IfSome, IfNone, ◌≡◌, ◌||◌, true, false, not, is_none, codes, kit, IsPropertyNames, IsPropertyNamesFalse, one_below, is_object, is_truth, view, Builds, Gives};
+ghost use Rattle.std.specs.Prelude.{◌≡◌, ◌||◌, true, false, not, is_none, codes};
+ghost use Rattle.std.specs.Option.{IfSome, IfNone};
+ghost use Rattle.serde_json.specs.View.{view};
+ghost use Rattle.olk_spec.specs.Schemas.{is_object, is_truth};
+ghost use Rattle.olk_paths.specs.Paths.{one_below};
+ghost use Rattle.olk_base.specs.Kit.{kit};
+ghost use Rattle.olk_make.specs.Forms.{IsPropertyNames, IsPropertyNamesFalse};
+ghost use Rattle.olk_keywords.specs.Parts.{Builds, Gives};
 
 use olk_base::{Leaf, MakeLeaf, MakeRegex, RegexEngine};
 use olk_build::{Context, compile_member};

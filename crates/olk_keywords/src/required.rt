@@ -1,5 +1,12 @@
 //! `required`: what is compiled of its member of a schema object.
-ghost use Rattle.olk_keywords.specs.Words.{IfSome, IfNone, ◌≡◌, ◌||◌, codes, is_some, is_none, kit, IsRequired, plan_of, one_below, members_view, view, Builds, Gives};
+ghost use Rattle.std.specs.Prelude.{◌≡◌, ◌||◌, codes, is_some, is_none};
+ghost use Rattle.std.specs.Option.{IfSome, IfNone};
+ghost use Rattle.serde_json.specs.View.{members_view, view};
+ghost use Rattle.olk_paths.specs.Paths.{one_below};
+ghost use Rattle.olk_base.specs.Kit.{kit};
+ghost use Rattle.olk_make.specs.Forms.{IsRequired};
+ghost use Rattle.olk_meaning.specs.Plans.{plan_of};
+ghost use Rattle.olk_keywords.specs.Parts.{Builds, Gives};
 
 use olk_base::{Leaf, MakeLeaf, MakeRegex, RegexEngine};
 use olk_build::{Context, compile_member};
