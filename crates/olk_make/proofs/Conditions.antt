@@ -329,7 +329,7 @@ module _ {K R N : Type 0} (o : Kit K R) (answers : N → Answers) where
       (claims_itself ms distinct (head (plan_of ms)) m (heads_elsewhere (plan_of ms) m.0 (apart_from (codes "properties") refl refl refl)
       (apart_from (codes "required") refl refl refl) (λ e. absurd (true≢false (sym e ∙ fits)))
       (never_taken (plan_of ms) m.0 (apart_from (codes "additionalProperties") refl refl refl) (apart_from (codes "properties") refl refl refl) (apart_from
-          (codes "patternProperties") refl refl refl) (apart_from (codes "required") refl refl refl))) there)) (means_nothing o answers ms P m nothing))
+      (codes "patternProperties") refl refl refl) (apart_from (codes "required") refl refl refl))) there)) (means_nothing o answers ms P m nothing))
     where
       apart_from : (n : Name) → bytes_eq n (codes "if") ≡ false → bytes_eq n (codes "then") ≡ false → bytes_eq n (codes "else") ≡ false → bytes_eq n m.0 ≡ false
       apart_from n a b c = by (fact.conditional_named m.0 named)
