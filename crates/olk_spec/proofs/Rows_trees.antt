@@ -1,254 +1,70 @@
 use Rattle.std.proofs.Common.{refl}
 use Rattle.olk_spec.proofs.Computed.{computed}
-use Rattle.olk_spec.specs.Rows_trees as rows
+use Rattle.olk_spec.specs.Rows_trees.{Rows_trees}
 
-pub two_equal_required_names_are_not_fused : rows.Two_equal_required_names_are_not_fused
+pub rows_trees : Rows_trees
 unfolding computed
-two_equal_required_names_are_not_fused = λ u. refl
-
-pub beside_patterns_two_names_are_not_fused : rows.Beside_patterns_two_names_are_not_fused
-unfolding computed
-beside_patterns_two_names_are_not_fused = λ u. refl
-
-pub beside_an_additional_schema_one_name_is_not_fused : rows.Beside_an_additional_schema_one_name_is_not_fused
-unfolding computed
-beside_an_additional_schema_one_name_is_not_fused = λ u. refl
-
-pub in_a_closed_object_two_names_are_not_fused : rows.In_a_closed_object_two_names_are_not_fused
-unfolding computed
-in_a_closed_object_two_names_are_not_fused = λ u. refl
-
-pub two_fused_names_are_shown_inside : rows.Two_fused_names_are_shown_inside
-unfolding computed
-two_fused_names_are_shown_inside = λ u. refl
-
-pub one_fused_name_is_shown_inside : rows.One_fused_name_is_shown_inside
-unfolding computed
-one_fused_name_is_shown_inside = λ u. refl
-
-pub in_an_open_object_one_name_is_not_fused : rows.In_an_open_object_one_name_is_not_fused
-unfolding computed
-in_an_open_object_one_name_is_not_fused = λ u. refl
-
-pub three_names_are_not_fused : rows.Three_names_are_not_fused
-unfolding computed
-three_names_are_not_fused = λ u. refl
-
-pub beside_true_two_names_are_fused : rows.Beside_true_two_names_are_fused
-unfolding computed
-beside_true_two_names_are_fused = λ u. refl
-
-pub beside_15_declared_names_one_name_is_fused : rows.Beside_15_declared_names_one_name_is_fused
-unfolding computed
-beside_15_declared_names_one_name_is_fused = λ u. refl
-
-pub one_of_two_fused_names_is_the_last_child : rows.One_of_two_fused_names_is_the_last_child
-unfolding computed
-one_of_two_fused_names_is_the_last_child = λ u. refl
-
-pub one_fused_name_is_the_last_child : rows.One_fused_name_is_the_last_child
-unfolding computed
-one_fused_name_is_the_last_child = λ u. refl
-
-pub required_names_that_are_met_are_shown : rows.Required_names_that_are_met_are_shown
-unfolding computed
-required_names_that_are_met_are_shown = λ u. refl
-
-pub a_declared_name_shows_its_patterns_too : rows.A_declared_name_shows_its_patterns_too
-unfolding computed
-a_declared_name_shows_its_patterns_too = λ u. refl
-
-pub declared_and_additional_members_stand_in_their_order : rows.Declared_and_additional_members_stand_in_their_order
-unfolding computed
-declared_and_additional_members_stand_in_their_order = λ u. refl
-
-pub an_additional_member_stands_at_its_own_path : rows.An_additional_member_stands_at_its_own_path
-unfolding computed
-an_additional_member_stands_at_its_own_path = λ u. refl
-
-pub a_declared_name_is_escaped_in_both_paths : rows.A_declared_name_is_escaped_in_both_paths
-unfolding computed
-a_declared_name_is_escaped_in_both_paths = λ u. refl
-
-pub a_pattern_and_its_member_are_escaped : rows.A_pattern_and_its_member_are_escaped
-unfolding computed
-a_pattern_and_its_member_are_escaped = λ u. refl
-
-pub beside_declared_names_matches_have_no_child : rows.Beside_declared_names_matches_have_no_child
-unfolding computed
-beside_declared_names_matches_have_no_child = λ u. refl
-
-pub without_a_match_there_is_no_child_of_matches : rows.Without_a_match_there_is_no_child_of_matches
-unfolding computed
-without_a_match_there_is_no_child_of_matches = λ u. refl
-
-pub the_child_of_matches_is_valid_where_a_member_is_not : rows.The_child_of_matches_is_valid_where_a_member_is_not
-unfolding computed
-the_child_of_matches_is_valid_where_a_member_is_not = λ u. refl
-
-pub the_child_of_matches_goes_member_by_member : rows.The_child_of_matches_goes_member_by_member
-unfolding computed
-the_child_of_matches_goes_member_by_member = λ u. refl
-
-pub a_matching_name_is_not_additional : rows.A_matching_name_is_not_additional
-unfolding computed
-a_matching_name_is_not_additional = λ u. refl
-
-pub alone_an_additional_schema_shows_even_no_names : rows.Alone_an_additional_schema_shows_even_no_names
-unfolding computed
-alone_an_additional_schema_shows_even_no_names = λ u. refl
-
-pub beside_declared_names_no_additional_names_are_not_shown : rows.Beside_declared_names_no_additional_names_are_not_shown
-unfolding computed
-beside_declared_names_no_additional_names_are_not_shown = λ u. refl
-
-pub beside_declared_names_and_patterns_even_no_names_are_shown : rows.Beside_declared_names_and_patterns_even_no_names_are_shown
-unfolding computed
-beside_declared_names_and_patterns_even_no_names_are_shown = λ u. refl
-
-pub beside_true_declared_names_are_shown : rows.Beside_true_declared_names_are_shown
-unfolding computed
-beside_true_declared_names_are_shown = λ u. refl
-
-pub of_another_value_no_names_are_shown : rows.Of_another_value_no_names_are_shown
-unfolding computed
-of_another_value_no_names_are_shown = λ u. refl
-
-pub patterns_are_shown_of_another_value : rows.Patterns_are_shown_of_another_value
-unfolding computed
-patterns_are_shown_of_another_value = λ u. refl
-
-pub false_for_additional_members_is_shown_of_another_value : rows.False_for_additional_members_is_shown_of_another_value
-unfolding computed
-false_for_additional_members_is_shown_of_another_value = λ u. refl
-
-pub a_schema_of_names_is_shown_of_another_value : rows.A_schema_of_names_is_shown_of_another_value
-unfolding computed
-a_schema_of_names_is_shown_of_another_value = λ u. refl
-
-pub undeclared_names_are_not_shown : rows.Undeclared_names_are_not_shown
-unfolding computed
-undeclared_names_are_not_shown = λ u. refl
-
-pub names_are_shown_pattern_by_pattern : rows.Names_are_shown_pattern_by_pattern
-unfolding computed
-names_are_shown_pattern_by_pattern = λ u. refl
-
-pub branches_of_all_of_stand_at_their_keyword : rows.Branches_of_all_of_stand_at_their_keyword
-unfolding computed
-branches_of_all_of_stand_at_their_keyword = λ u. refl
-
-pub a_choice_shows_each_accepting_branch : rows.A_choice_shows_each_accepting_branch
-unfolding computed
-a_choice_shows_each_accepting_branch = λ u. refl
-
-pub the_one_accepting_branch_is_shown : rows.The_one_accepting_branch_is_shown
-unfolding computed
-the_one_accepting_branch_is_shown = λ u. refl
-
-pub a_choice_that_fails_shows_all_branches : rows.A_choice_that_fails_shows_all_branches
-unfolding computed
-a_choice_that_fails_shows_all_branches = λ u. refl
-
-pub of_no_accepting_branch_all_are_shown : rows.Of_no_accepting_branch_all_are_shown
-unfolding computed
-of_no_accepting_branch_all_are_shown = λ u. refl
-
-pub of_too_many_branches_the_accepting_are_shown : rows.Of_too_many_branches_the_accepting_are_shown
-unfolding computed
-of_too_many_branches_the_accepting_are_shown = λ u. refl
-
-pub a_negation_that_accepts_is_shown : rows.A_negation_that_accepts_is_shown
-unfolding computed
-a_negation_that_accepts_is_shown = λ u. refl
-
-pub dependent_names_are_shown_without_their_key : rows.Dependent_names_are_shown_without_their_key
-unfolding computed
-dependent_names_are_shown_without_their_key = λ u. refl
-
-pub dependent_schemas_are_shown_without_their_key : rows.Dependent_schemas_are_shown_without_their_key
-unfolding computed
-dependent_schemas_are_shown_without_their_key = λ u. refl
-
-pub property_dependencies_are_shown_without_their_key : rows.Property_dependencies_are_shown_without_their_key
-unfolding computed
-property_dependencies_are_shown_without_their_key = λ u. refl
-
-pub a_dependent_schema_stands_inside_its_keyword : rows.A_dependent_schema_stands_inside_its_keyword
-unfolding computed
-a_dependent_schema_stands_inside_its_keyword = λ u. refl
-
-pub a_schema_of_a_dependency_stands_inside_its_keyword : rows.A_schema_of_a_dependency_stands_inside_its_keyword
-unfolding computed
-a_schema_of_a_dependency_stands_inside_its_keyword = λ u. refl
-
-pub a_dependent_list_stands_at_its_keyword : rows.A_dependent_list_stands_at_its_keyword
-unfolding computed
-a_dependent_list_stands_at_its_keyword = λ u. refl
-
-pub a_missing_dependent_name_stands_at_its_keyword : rows.A_missing_dependent_name_stands_at_its_keyword
-unfolding computed
-a_missing_dependent_name_stands_at_its_keyword = λ u. refl
-
-pub a_list_of_a_dependency_stands_at_its_keyword : rows.A_list_of_a_dependency_stands_at_its_keyword
-unfolding computed
-a_list_of_a_dependency_stands_at_its_keyword = λ u. refl
-
-pub the_tree_of_a_name_stands_at_the_object : rows.The_tree_of_a_name_stands_at_the_object
-unfolding computed
-the_tree_of_a_name_stands_at_the_object = λ u. refl
-
-pub the_error_of_a_name_stands_at_the_object : rows.The_error_of_a_name_stands_at_the_object
-unfolding computed
-the_error_of_a_name_stands_at_the_object = λ u. refl
-
-pub true_for_names_is_not_shown : rows.True_for_names_is_not_shown
-unfolding computed
-true_for_names_is_not_shown = λ u. refl
-
-pub false_for_names_is_shown_where_it_accepts : rows.False_for_names_is_shown_where_it_accepts
-unfolding computed
-false_for_names_is_shown_where_it_accepts = λ u. refl
-
-pub a_condition_that_refuses_is_not_shown : rows.A_condition_that_refuses_is_not_shown
-unfolding computed
-a_condition_that_refuses_is_not_shown = λ u. refl
-
-pub a_condition_without_then_is_shown : rows.A_condition_without_then_is_shown
-unfolding computed
-a_condition_without_then_is_shown = λ u. refl
-
-pub a_condition_that_refuses_without_else_is_shown_empty : rows.A_condition_that_refuses_without_else_is_shown_empty
-unfolding computed
-a_condition_that_refuses_without_else_is_shown_empty = λ u. refl
-
-pub else_alone_is_not_shown : rows.Else_alone_is_not_shown
-unfolding computed
-else_alone_is_not_shown = λ u. refl
-
-pub an_invalid_node_shows_no_names : rows.An_invalid_node_shows_no_names
-unfolding computed
-an_invalid_node_shows_no_names = λ u. refl
-
-pub the_error_of_a_leaf_has_its_keyword : rows.The_error_of_a_leaf_has_its_keyword
-unfolding computed
-the_error_of_a_leaf_has_its_keyword = λ u. refl
-
-pub the_error_of_a_negation_has_its_keyword : rows.The_error_of_a_negation_has_its_keyword
-unfolding computed
-the_error_of_a_negation_has_its_keyword = λ u. refl
-
-pub the_error_of_unexpected_names_has_their_keyword : rows.The_error_of_unexpected_names_has_their_keyword
-unfolding computed
-the_error_of_unexpected_names_has_their_keyword = λ u. refl
-
-pub a_negation_of_a_fraction_promises_no_text : rows.A_negation_of_a_fraction_promises_no_text
-unfolding computed
-a_negation_of_a_fraction_promises_no_text = λ u. refl
-
-pub a_false_schema_over_a_fraction_promises_no_text : rows.A_false_schema_over_a_fraction_promises_no_text
-unfolding computed
-a_false_schema_over_a_fraction_promises_no_text = λ u. refl
-
-pub rows_trees : rows.Rows_trees
-rows_trees = (two_equal_required_names_are_not_fused, beside_patterns_two_names_are_not_fused, beside_an_additional_schema_one_name_is_not_fused, in_a_closed_object_two_names_are_not_fused, two_fused_names_are_shown_inside, one_fused_name_is_shown_inside, in_an_open_object_one_name_is_not_fused, three_names_are_not_fused, beside_true_two_names_are_fused, beside_15_declared_names_one_name_is_fused, one_of_two_fused_names_is_the_last_child, one_fused_name_is_the_last_child, required_names_that_are_met_are_shown, a_declared_name_shows_its_patterns_too, declared_and_additional_members_stand_in_their_order, an_additional_member_stands_at_its_own_path, a_declared_name_is_escaped_in_both_paths, a_pattern_and_its_member_are_escaped, beside_declared_names_matches_have_no_child, without_a_match_there_is_no_child_of_matches, the_child_of_matches_is_valid_where_a_member_is_not, the_child_of_matches_goes_member_by_member, a_matching_name_is_not_additional, alone_an_additional_schema_shows_even_no_names, beside_declared_names_no_additional_names_are_not_shown, beside_declared_names_and_patterns_even_no_names_are_shown, beside_true_declared_names_are_shown, of_another_value_no_names_are_shown, patterns_are_shown_of_another_value, false_for_additional_members_is_shown_of_another_value, a_schema_of_names_is_shown_of_another_value, undeclared_names_are_not_shown, names_are_shown_pattern_by_pattern, branches_of_all_of_stand_at_their_keyword, a_choice_shows_each_accepting_branch, the_one_accepting_branch_is_shown, a_choice_that_fails_shows_all_branches, of_no_accepting_branch_all_are_shown, of_too_many_branches_the_accepting_are_shown, a_negation_that_accepts_is_shown, dependent_names_are_shown_without_their_key, dependent_schemas_are_shown_without_their_key, property_dependencies_are_shown_without_their_key, a_dependent_schema_stands_inside_its_keyword, a_schema_of_a_dependency_stands_inside_its_keyword, a_dependent_list_stands_at_its_keyword, a_missing_dependent_name_stands_at_its_keyword, a_list_of_a_dependency_stands_at_its_keyword, the_tree_of_a_name_stands_at_the_object, the_error_of_a_name_stands_at_the_object, true_for_names_is_not_shown, false_for_names_is_shown_where_it_accepts, a_condition_that_refuses_is_not_shown, a_condition_without_then_is_shown, a_condition_that_refuses_without_else_is_shown_empty, else_alone_is_not_shown, an_invalid_node_shows_no_names, the_error_of_a_leaf_has_its_keyword, the_error_of_a_negation_has_its_keyword, the_error_of_unexpected_names_has_their_keyword, a_negation_of_a_fraction_promises_no_text, a_false_schema_over_a_fraction_promises_no_text)
+rows_trees = record {
+  two_equal_required_names_are_not_fused = λ u. refl;
+  beside_patterns_two_names_are_not_fused = λ u. refl;
+  beside_an_additional_schema_one_name_is_not_fused = λ u. refl;
+  in_a_closed_object_two_names_are_not_fused = λ u. refl;
+  two_fused_names_are_shown_inside = λ u. refl;
+  one_fused_name_is_shown_inside = λ u. refl;
+  in_an_open_object_one_name_is_not_fused = λ u. refl;
+  three_names_are_not_fused = λ u. refl;
+  beside_true_two_names_are_fused = λ u. refl;
+  beside_15_declared_names_one_name_is_fused = λ u. refl;
+  one_of_two_fused_names_is_the_last_child = λ u. refl;
+  one_fused_name_is_the_last_child = λ u. refl;
+  required_names_that_are_met_are_shown = λ u. refl;
+  a_declared_name_shows_its_patterns_too = λ u. refl;
+  declared_and_additional_members_stand_in_their_order = λ u. refl;
+  an_additional_member_stands_at_its_own_path = λ u. refl;
+  a_declared_name_is_escaped_in_both_paths = λ u. refl;
+  a_pattern_and_its_member_are_escaped = λ u. refl;
+  beside_declared_names_matches_have_no_child = λ u. refl;
+  without_a_match_there_is_no_child_of_matches = λ u. refl;
+  the_child_of_matches_is_valid_where_a_member_is_not = λ u. refl;
+  the_child_of_matches_goes_member_by_member = λ u. refl;
+  a_matching_name_is_not_additional = λ u. refl;
+  alone_an_additional_schema_shows_even_no_names = λ u. refl;
+  beside_declared_names_no_additional_names_are_not_shown = λ u. refl;
+  beside_declared_names_and_patterns_even_no_names_are_shown = λ u. refl;
+  beside_true_declared_names_are_shown = λ u. refl;
+  of_another_value_no_names_are_shown = λ u. refl;
+  patterns_are_shown_of_another_value = λ u. refl;
+  false_for_additional_members_is_shown_of_another_value = λ u. refl;
+  a_schema_of_names_is_shown_of_another_value = λ u. refl;
+  undeclared_names_are_not_shown = λ u. refl;
+  names_are_shown_pattern_by_pattern = λ u. refl;
+  branches_of_all_of_stand_at_their_keyword = λ u. refl;
+  a_choice_shows_each_accepting_branch = λ u. refl;
+  the_one_accepting_branch_is_shown = λ u. refl;
+  a_choice_that_fails_shows_all_branches = λ u. refl;
+  of_no_accepting_branch_all_are_shown = λ u. refl;
+  of_too_many_branches_the_accepting_are_shown = λ u. refl;
+  a_negation_that_accepts_is_shown = λ u. refl;
+  dependent_names_are_shown_without_their_key = λ u. refl;
+  dependent_schemas_are_shown_without_their_key = λ u. refl;
+  property_dependencies_are_shown_without_their_key = λ u. refl;
+  a_dependent_schema_stands_inside_its_keyword = λ u. refl;
+  a_schema_of_a_dependency_stands_inside_its_keyword = λ u. refl;
+  a_dependent_list_stands_at_its_keyword = λ u. refl;
+  a_missing_dependent_name_stands_at_its_keyword = λ u. refl;
+  a_list_of_a_dependency_stands_at_its_keyword = λ u. refl;
+  the_tree_of_a_name_stands_at_the_object = λ u. refl;
+  the_error_of_a_name_stands_at_the_object = λ u. refl;
+  true_for_names_is_not_shown = λ u. refl;
+  false_for_names_is_shown_where_it_accepts = λ u. refl;
+  a_condition_that_refuses_is_not_shown = λ u. refl;
+  a_condition_without_then_is_shown = λ u. refl;
+  a_condition_that_refuses_without_else_is_shown_empty = λ u. refl;
+  else_alone_is_not_shown = λ u. refl;
+  an_invalid_node_shows_no_names = λ u. refl;
+  the_error_of_a_leaf_has_its_keyword = λ u. refl;
+  the_error_of_a_negation_has_its_keyword = λ u. refl;
+  the_error_of_unexpected_names_has_their_keyword = λ u. refl;
+  a_negation_of_a_fraction_promises_no_text = λ u. refl;
+  a_false_schema_over_a_fraction_promises_no_text = λ u. refl;
+}

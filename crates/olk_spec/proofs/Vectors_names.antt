@@ -1,198 +1,56 @@
 use Rattle.std.proofs.Common.{refl}
 use Rattle.olk_spec.proofs.Computed.{computed}
-use Rattle.olk_spec.specs.Vectors_names as rows
+use Rattle.olk_spec.specs.Vectors_names.{Vectors_names}
 
-pub in_equal_names_of_13_bytes_a_false_schema : rows.In_equal_names_of_13_bytes_a_false_schema
+pub vectors_names : Vectors_names
 unfolding computed
-in_equal_names_of_13_bytes_a_false_schema = λ u. (refl, refl, refl)
-
-pub in_equal_names_of_13_bytes_a_required_false_schema : rows.In_equal_names_of_13_bytes_a_required_false_schema
-unfolding computed
-in_equal_names_of_13_bytes_a_required_false_schema = λ u. (refl, refl, refl)
-
-pub in_equal_names_of_13_bytes_a_required_true_schema : rows.In_equal_names_of_13_bytes_a_required_true_schema
-unfolding computed
-in_equal_names_of_13_bytes_a_required_true_schema = λ u. (refl, refl, refl)
-
-pub in_equal_names_of_13_bytes_a_declared_or_an_additional_schema : rows.In_equal_names_of_13_bytes_a_declared_or_an_additional_schema
-unfolding computed
-in_equal_names_of_13_bytes_a_declared_or_an_additional_schema = λ u. (refl, refl, refl)
-
-pub in_equal_names_of_12_bytes_a_false_schema : rows.In_equal_names_of_12_bytes_a_false_schema
-unfolding computed
-in_equal_names_of_12_bytes_a_false_schema = λ u. (refl, refl, refl)
-
-pub in_equal_names_of_12_bytes_a_required_false_schema : rows.In_equal_names_of_12_bytes_a_required_false_schema
-unfolding computed
-in_equal_names_of_12_bytes_a_required_false_schema = λ u. (refl, refl, refl)
-
-pub in_equal_names_of_12_bytes_a_required_true_schema : rows.In_equal_names_of_12_bytes_a_required_true_schema
-unfolding computed
-in_equal_names_of_12_bytes_a_required_true_schema = λ u. (refl, refl, refl)
-
-pub in_equal_names_of_12_bytes_a_declared_or_an_additional_schema : rows.In_equal_names_of_12_bytes_a_declared_or_an_additional_schema
-unfolding computed
-in_equal_names_of_12_bytes_a_declared_or_an_additional_schema = λ u. (refl, refl, refl)
-
-pub in_equal_names_of_4_bytes_a_false_schema : rows.In_equal_names_of_4_bytes_a_false_schema
-unfolding computed
-in_equal_names_of_4_bytes_a_false_schema = λ u. (refl, refl, refl)
-
-pub in_equal_names_of_4_bytes_a_required_false_schema : rows.In_equal_names_of_4_bytes_a_required_false_schema
-unfolding computed
-in_equal_names_of_4_bytes_a_required_false_schema = λ u. (refl, refl, refl)
-
-pub in_equal_names_of_4_bytes_a_required_true_schema : rows.In_equal_names_of_4_bytes_a_required_true_schema
-unfolding computed
-in_equal_names_of_4_bytes_a_required_true_schema = λ u. (refl, refl, refl)
-
-pub in_equal_names_of_4_bytes_a_declared_or_an_additional_schema : rows.In_equal_names_of_4_bytes_a_declared_or_an_additional_schema
-unfolding computed
-in_equal_names_of_4_bytes_a_declared_or_an_additional_schema = λ u. (refl, refl, refl)
-
-pub in_equal_empty_names_a_false_schema : rows.In_equal_empty_names_a_false_schema
-unfolding computed
-in_equal_empty_names_a_false_schema = λ u. (refl, refl, refl)
-
-pub in_equal_empty_names_a_required_false_schema : rows.In_equal_empty_names_a_required_false_schema
-unfolding computed
-in_equal_empty_names_a_required_false_schema = λ u. (refl, refl, refl)
-
-pub in_equal_empty_names_a_required_true_schema : rows.In_equal_empty_names_a_required_true_schema
-unfolding computed
-in_equal_empty_names_a_required_true_schema = λ u. (refl, refl, refl)
-
-pub in_equal_empty_names_a_declared_or_an_additional_schema : rows.In_equal_empty_names_a_declared_or_an_additional_schema
-unfolding computed
-in_equal_empty_names_a_declared_or_an_additional_schema = λ u. (refl, refl, refl)
-
-pub in_equal_names_beyond_ascii_a_false_schema : rows.In_equal_names_beyond_ascii_a_false_schema
-unfolding computed
-in_equal_names_beyond_ascii_a_false_schema = λ u. (refl, refl, refl)
-
-pub in_equal_names_beyond_ascii_a_required_false_schema : rows.In_equal_names_beyond_ascii_a_required_false_schema
-unfolding computed
-in_equal_names_beyond_ascii_a_required_false_schema = λ u. (refl, refl, refl)
-
-pub in_equal_names_beyond_ascii_a_required_true_schema : rows.In_equal_names_beyond_ascii_a_required_true_schema
-unfolding computed
-in_equal_names_beyond_ascii_a_required_true_schema = λ u. (refl, refl, refl)
-
-pub in_equal_names_beyond_ascii_a_declared_or_an_additional_schema : rows.In_equal_names_beyond_ascii_a_declared_or_an_additional_schema
-unfolding computed
-in_equal_names_beyond_ascii_a_declared_or_an_additional_schema = λ u. (refl, refl, refl)
-
-pub at_the_last_byte_of_13_a_false_schema : rows.At_the_last_byte_of_13_a_false_schema
-unfolding computed
-at_the_last_byte_of_13_a_false_schema = λ u. (refl, refl, refl)
-
-pub at_the_last_byte_of_13_a_required_false_schema : rows.At_the_last_byte_of_13_a_required_false_schema
-unfolding computed
-at_the_last_byte_of_13_a_required_false_schema = λ u. (refl, refl, refl)
-
-pub at_the_last_byte_of_13_a_required_true_schema : rows.At_the_last_byte_of_13_a_required_true_schema
-unfolding computed
-at_the_last_byte_of_13_a_required_true_schema = λ u. (refl, refl, refl)
-
-pub at_the_last_byte_of_13_a_declared_or_an_additional_schema : rows.At_the_last_byte_of_13_a_declared_or_an_additional_schema
-unfolding computed
-at_the_last_byte_of_13_a_declared_or_an_additional_schema = λ u. (refl, refl, refl)
-
-pub at_the_last_byte_of_12_a_false_schema : rows.At_the_last_byte_of_12_a_false_schema
-unfolding computed
-at_the_last_byte_of_12_a_false_schema = λ u. (refl, refl, refl)
-
-pub at_the_last_byte_of_12_a_required_false_schema : rows.At_the_last_byte_of_12_a_required_false_schema
-unfolding computed
-at_the_last_byte_of_12_a_required_false_schema = λ u. (refl, refl, refl)
-
-pub at_the_last_byte_of_12_a_required_true_schema : rows.At_the_last_byte_of_12_a_required_true_schema
-unfolding computed
-at_the_last_byte_of_12_a_required_true_schema = λ u. (refl, refl, refl)
-
-pub at_the_last_byte_of_12_a_declared_or_an_additional_schema : rows.At_the_last_byte_of_12_a_declared_or_an_additional_schema
-unfolding computed
-at_the_last_byte_of_12_a_declared_or_an_additional_schema = λ u. (refl, refl, refl)
-
-pub at_bytes_5_to_8_a_false_schema : rows.At_bytes_5_to_8_a_false_schema
-unfolding computed
-at_bytes_5_to_8_a_false_schema = λ u. (refl, refl, refl)
-
-pub at_bytes_5_to_8_a_required_false_schema : rows.At_bytes_5_to_8_a_required_false_schema
-unfolding computed
-at_bytes_5_to_8_a_required_false_schema = λ u. (refl, refl, refl)
-
-pub at_bytes_5_to_8_a_required_true_schema : rows.At_bytes_5_to_8_a_required_true_schema
-unfolding computed
-at_bytes_5_to_8_a_required_true_schema = λ u. (refl, refl, refl)
-
-pub at_bytes_5_to_8_a_declared_or_an_additional_schema : rows.At_bytes_5_to_8_a_declared_or_an_additional_schema
-unfolding computed
-at_bytes_5_to_8_a_declared_or_an_additional_schema = λ u. (refl, refl, refl)
-
-pub at_the_last_byte_of_4_a_false_schema : rows.At_the_last_byte_of_4_a_false_schema
-unfolding computed
-at_the_last_byte_of_4_a_false_schema = λ u. (refl, refl, refl)
-
-pub at_the_last_byte_of_4_a_required_false_schema : rows.At_the_last_byte_of_4_a_required_false_schema
-unfolding computed
-at_the_last_byte_of_4_a_required_false_schema = λ u. (refl, refl, refl)
-
-pub at_the_last_byte_of_4_a_required_true_schema : rows.At_the_last_byte_of_4_a_required_true_schema
-unfolding computed
-at_the_last_byte_of_4_a_required_true_schema = λ u. (refl, refl, refl)
-
-pub at_the_last_byte_of_4_a_declared_or_an_additional_schema : rows.At_the_last_byte_of_4_a_declared_or_an_additional_schema
-unfolding computed
-at_the_last_byte_of_4_a_declared_or_an_additional_schema = λ u. (refl, refl, refl)
-
-pub at_one_byte_more_a_false_schema : rows.At_one_byte_more_a_false_schema
-unfolding computed
-at_one_byte_more_a_false_schema = λ u. (refl, refl, refl)
-
-pub at_one_byte_more_a_required_false_schema : rows.At_one_byte_more_a_required_false_schema
-unfolding computed
-at_one_byte_more_a_required_false_schema = λ u. (refl, refl, refl)
-
-pub at_one_byte_more_a_required_true_schema : rows.At_one_byte_more_a_required_true_schema
-unfolding computed
-at_one_byte_more_a_required_true_schema = λ u. (refl, refl, refl)
-
-pub at_one_byte_more_a_declared_or_an_additional_schema : rows.At_one_byte_more_a_declared_or_an_additional_schema
-unfolding computed
-at_one_byte_more_a_declared_or_an_additional_schema = λ u. (refl, refl, refl)
-
-pub at_the_empty_name_a_false_schema : rows.At_the_empty_name_a_false_schema
-unfolding computed
-at_the_empty_name_a_false_schema = λ u. (refl, refl, refl)
-
-pub at_the_empty_name_a_required_false_schema : rows.At_the_empty_name_a_required_false_schema
-unfolding computed
-at_the_empty_name_a_required_false_schema = λ u. (refl, refl, refl)
-
-pub at_the_empty_name_a_required_true_schema : rows.At_the_empty_name_a_required_true_schema
-unfolding computed
-at_the_empty_name_a_required_true_schema = λ u. (refl, refl, refl)
-
-pub at_the_empty_name_a_declared_or_an_additional_schema : rows.At_the_empty_name_a_declared_or_an_additional_schema
-unfolding computed
-at_the_empty_name_a_declared_or_an_additional_schema = λ u. (refl, refl, refl)
-
-pub at_a_letter_beyond_ascii_a_false_schema : rows.At_a_letter_beyond_ascii_a_false_schema
-unfolding computed
-at_a_letter_beyond_ascii_a_false_schema = λ u. (refl, refl, refl)
-
-pub at_a_letter_beyond_ascii_a_required_false_schema : rows.At_a_letter_beyond_ascii_a_required_false_schema
-unfolding computed
-at_a_letter_beyond_ascii_a_required_false_schema = λ u. (refl, refl, refl)
-
-pub at_a_letter_beyond_ascii_a_required_true_schema : rows.At_a_letter_beyond_ascii_a_required_true_schema
-unfolding computed
-at_a_letter_beyond_ascii_a_required_true_schema = λ u. (refl, refl, refl)
-
-pub at_a_letter_beyond_ascii_a_declared_or_an_additional_schema : rows.At_a_letter_beyond_ascii_a_declared_or_an_additional_schema
-unfolding computed
-at_a_letter_beyond_ascii_a_declared_or_an_additional_schema = λ u. (refl, refl, refl)
-
-pub vectors_names : rows.Vectors_names
-vectors_names = (in_equal_names_of_13_bytes_a_false_schema, in_equal_names_of_13_bytes_a_required_false_schema, in_equal_names_of_13_bytes_a_required_true_schema, in_equal_names_of_13_bytes_a_declared_or_an_additional_schema, in_equal_names_of_12_bytes_a_false_schema, in_equal_names_of_12_bytes_a_required_false_schema, in_equal_names_of_12_bytes_a_required_true_schema, in_equal_names_of_12_bytes_a_declared_or_an_additional_schema, in_equal_names_of_4_bytes_a_false_schema, in_equal_names_of_4_bytes_a_required_false_schema, in_equal_names_of_4_bytes_a_required_true_schema, in_equal_names_of_4_bytes_a_declared_or_an_additional_schema, in_equal_empty_names_a_false_schema, in_equal_empty_names_a_required_false_schema, in_equal_empty_names_a_required_true_schema, in_equal_empty_names_a_declared_or_an_additional_schema, in_equal_names_beyond_ascii_a_false_schema, in_equal_names_beyond_ascii_a_required_false_schema, in_equal_names_beyond_ascii_a_required_true_schema, in_equal_names_beyond_ascii_a_declared_or_an_additional_schema, at_the_last_byte_of_13_a_false_schema, at_the_last_byte_of_13_a_required_false_schema, at_the_last_byte_of_13_a_required_true_schema, at_the_last_byte_of_13_a_declared_or_an_additional_schema, at_the_last_byte_of_12_a_false_schema, at_the_last_byte_of_12_a_required_false_schema, at_the_last_byte_of_12_a_required_true_schema, at_the_last_byte_of_12_a_declared_or_an_additional_schema, at_bytes_5_to_8_a_false_schema, at_bytes_5_to_8_a_required_false_schema, at_bytes_5_to_8_a_required_true_schema, at_bytes_5_to_8_a_declared_or_an_additional_schema, at_the_last_byte_of_4_a_false_schema, at_the_last_byte_of_4_a_required_false_schema, at_the_last_byte_of_4_a_required_true_schema, at_the_last_byte_of_4_a_declared_or_an_additional_schema, at_one_byte_more_a_false_schema, at_one_byte_more_a_required_false_schema, at_one_byte_more_a_required_true_schema, at_one_byte_more_a_declared_or_an_additional_schema, at_the_empty_name_a_false_schema, at_the_empty_name_a_required_false_schema, at_the_empty_name_a_required_true_schema, at_the_empty_name_a_declared_or_an_additional_schema, at_a_letter_beyond_ascii_a_false_schema, at_a_letter_beyond_ascii_a_required_false_schema, at_a_letter_beyond_ascii_a_required_true_schema, at_a_letter_beyond_ascii_a_declared_or_an_additional_schema)
+vectors_names = record {
+  in_equal_names_of_13_bytes_a_false_schema = λ u. (refl, refl, refl);
+  in_equal_names_of_13_bytes_a_required_false_schema = λ u. (refl, refl, refl);
+  in_equal_names_of_13_bytes_a_required_true_schema = λ u. (refl, refl, refl);
+  in_equal_names_of_13_bytes_a_declared_or_an_additional_schema = λ u. (refl, refl, refl);
+  in_equal_names_of_12_bytes_a_false_schema = λ u. (refl, refl, refl);
+  in_equal_names_of_12_bytes_a_required_false_schema = λ u. (refl, refl, refl);
+  in_equal_names_of_12_bytes_a_required_true_schema = λ u. (refl, refl, refl);
+  in_equal_names_of_12_bytes_a_declared_or_an_additional_schema = λ u. (refl, refl, refl);
+  in_equal_names_of_4_bytes_a_false_schema = λ u. (refl, refl, refl);
+  in_equal_names_of_4_bytes_a_required_false_schema = λ u. (refl, refl, refl);
+  in_equal_names_of_4_bytes_a_required_true_schema = λ u. (refl, refl, refl);
+  in_equal_names_of_4_bytes_a_declared_or_an_additional_schema = λ u. (refl, refl, refl);
+  in_equal_empty_names_a_false_schema = λ u. (refl, refl, refl);
+  in_equal_empty_names_a_required_false_schema = λ u. (refl, refl, refl);
+  in_equal_empty_names_a_required_true_schema = λ u. (refl, refl, refl);
+  in_equal_empty_names_a_declared_or_an_additional_schema = λ u. (refl, refl, refl);
+  in_equal_names_beyond_ascii_a_false_schema = λ u. (refl, refl, refl);
+  in_equal_names_beyond_ascii_a_required_false_schema = λ u. (refl, refl, refl);
+  in_equal_names_beyond_ascii_a_required_true_schema = λ u. (refl, refl, refl);
+  in_equal_names_beyond_ascii_a_declared_or_an_additional_schema = λ u. (refl, refl, refl);
+  at_the_last_byte_of_13_a_false_schema = λ u. (refl, refl, refl);
+  at_the_last_byte_of_13_a_required_false_schema = λ u. (refl, refl, refl);
+  at_the_last_byte_of_13_a_required_true_schema = λ u. (refl, refl, refl);
+  at_the_last_byte_of_13_a_declared_or_an_additional_schema = λ u. (refl, refl, refl);
+  at_the_last_byte_of_12_a_false_schema = λ u. (refl, refl, refl);
+  at_the_last_byte_of_12_a_required_false_schema = λ u. (refl, refl, refl);
+  at_the_last_byte_of_12_a_required_true_schema = λ u. (refl, refl, refl);
+  at_the_last_byte_of_12_a_declared_or_an_additional_schema = λ u. (refl, refl, refl);
+  at_bytes_5_to_8_a_false_schema = λ u. (refl, refl, refl);
+  at_bytes_5_to_8_a_required_false_schema = λ u. (refl, refl, refl);
+  at_bytes_5_to_8_a_required_true_schema = λ u. (refl, refl, refl);
+  at_bytes_5_to_8_a_declared_or_an_additional_schema = λ u. (refl, refl, refl);
+  at_the_last_byte_of_4_a_false_schema = λ u. (refl, refl, refl);
+  at_the_last_byte_of_4_a_required_false_schema = λ u. (refl, refl, refl);
+  at_the_last_byte_of_4_a_required_true_schema = λ u. (refl, refl, refl);
+  at_the_last_byte_of_4_a_declared_or_an_additional_schema = λ u. (refl, refl, refl);
+  at_one_byte_more_a_false_schema = λ u. (refl, refl, refl);
+  at_one_byte_more_a_required_false_schema = λ u. (refl, refl, refl);
+  at_one_byte_more_a_required_true_schema = λ u. (refl, refl, refl);
+  at_one_byte_more_a_declared_or_an_additional_schema = λ u. (refl, refl, refl);
+  at_the_empty_name_a_false_schema = λ u. (refl, refl, refl);
+  at_the_empty_name_a_required_false_schema = λ u. (refl, refl, refl);
+  at_the_empty_name_a_required_true_schema = λ u. (refl, refl, refl);
+  at_the_empty_name_a_declared_or_an_additional_schema = λ u. (refl, refl, refl);
+  at_a_letter_beyond_ascii_a_false_schema = λ u. (refl, refl, refl);
+  at_a_letter_beyond_ascii_a_required_false_schema = λ u. (refl, refl, refl);
+  at_a_letter_beyond_ascii_a_required_true_schema = λ u. (refl, refl, refl);
+  at_a_letter_beyond_ascii_a_declared_or_an_additional_schema = λ u. (refl, refl, refl);
+}

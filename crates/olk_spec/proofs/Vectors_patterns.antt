@@ -1,78 +1,26 @@
 use Rattle.std.proofs.Common.{refl}
 use Rattle.olk_spec.proofs.Computed.{computed}
-use Rattle.olk_spec.specs.Vectors_patterns as rows
+use Rattle.olk_spec.specs.Vectors_patterns.{Vectors_patterns}
 
-pub an_open_group_alone : rows.An_open_group_alone
+pub vectors_patterns : Vectors_patterns
 unfolding computed
-an_open_group_alone = refl
-
-pub an_open_group_beside_a_prefix : rows.An_open_group_beside_a_prefix
-unfolding computed
-an_open_group_beside_a_prefix = refl
-
-pub an_open_group_beside_true : rows.An_open_group_beside_true
-unfolding computed
-an_open_group_beside_true = refl
-
-pub an_open_group_beside_false : rows.An_open_group_beside_false
-unfolding computed
-an_open_group_beside_false = refl
-
-pub an_open_group_beside_a_schema : rows.An_open_group_beside_a_schema
-unfolding computed
-an_open_group_beside_a_schema = refl
-
-pub an_open_group_beside_false_and_a_name : rows.An_open_group_beside_false_and_a_name
-unfolding computed
-an_open_group_beside_false_and_a_name = refl
-
-pub an_open_group_beside_a_schema_and_a_name : rows.An_open_group_beside_a_schema_and_a_name
-unfolding computed
-an_open_group_beside_a_schema_and_a_name = refl
-
-pub an_open_group_beside_false_and_15_names : rows.An_open_group_beside_false_and_15_names
-unfolding computed
-an_open_group_beside_false_and_15_names = refl
-
-pub an_open_group_beside_a_schema_and_15_names : rows.An_open_group_beside_a_schema_and_15_names
-unfolding computed
-an_open_group_beside_a_schema_and_15_names = refl
-
-pub a_look_behind_alone : rows.A_look_behind_alone
-unfolding computed
-a_look_behind_alone = refl
-
-pub a_look_behind_beside_a_prefix : rows.A_look_behind_beside_a_prefix
-unfolding computed
-a_look_behind_beside_a_prefix = refl
-
-pub a_look_behind_beside_true : rows.A_look_behind_beside_true
-unfolding computed
-a_look_behind_beside_true = refl
-
-pub a_look_behind_beside_false : rows.A_look_behind_beside_false
-unfolding computed
-a_look_behind_beside_false = refl
-
-pub a_look_behind_beside_a_schema : rows.A_look_behind_beside_a_schema
-unfolding computed
-a_look_behind_beside_a_schema = refl
-
-pub a_look_behind_beside_false_and_a_name : rows.A_look_behind_beside_false_and_a_name
-unfolding computed
-a_look_behind_beside_false_and_a_name = refl
-
-pub a_look_behind_beside_a_schema_and_a_name : rows.A_look_behind_beside_a_schema_and_a_name
-unfolding computed
-a_look_behind_beside_a_schema_and_a_name = refl
-
-pub a_look_behind_beside_false_and_15_names : rows.A_look_behind_beside_false_and_15_names
-unfolding computed
-a_look_behind_beside_false_and_15_names = refl
-
-pub a_look_behind_beside_a_schema_and_15_names : rows.A_look_behind_beside_a_schema_and_15_names
-unfolding computed
-a_look_behind_beside_a_schema_and_15_names = refl
-
-pub vectors_patterns : rows.Vectors_patterns
-vectors_patterns = (an_open_group_alone, an_open_group_beside_a_prefix, an_open_group_beside_true, an_open_group_beside_false, an_open_group_beside_a_schema, an_open_group_beside_false_and_a_name, an_open_group_beside_a_schema_and_a_name, an_open_group_beside_false_and_15_names, an_open_group_beside_a_schema_and_15_names, a_look_behind_alone, a_look_behind_beside_a_prefix, a_look_behind_beside_true, a_look_behind_beside_false, a_look_behind_beside_a_schema, a_look_behind_beside_false_and_a_name, a_look_behind_beside_a_schema_and_a_name, a_look_behind_beside_false_and_15_names, a_look_behind_beside_a_schema_and_15_names)
+vectors_patterns = record {
+  an_open_group_alone = refl;
+  an_open_group_beside_a_prefix = refl;
+  an_open_group_beside_true = refl;
+  an_open_group_beside_false = refl;
+  an_open_group_beside_a_schema = refl;
+  an_open_group_beside_false_and_a_name = refl;
+  an_open_group_beside_a_schema_and_a_name = refl;
+  an_open_group_beside_false_and_15_names = refl;
+  an_open_group_beside_a_schema_and_15_names = refl;
+  a_look_behind_alone = refl;
+  a_look_behind_beside_a_prefix = refl;
+  a_look_behind_beside_true = refl;
+  a_look_behind_beside_false = refl;
+  a_look_behind_beside_a_schema = refl;
+  a_look_behind_beside_false_and_a_name = refl;
+  a_look_behind_beside_a_schema_and_a_name = refl;
+  a_look_behind_beside_false_and_15_names = refl;
+  a_look_behind_beside_a_schema_and_15_names = refl;
+}

@@ -27,95 +27,34 @@ names_15 = "{\"properties\":{\"p00\":{\"type\":\"integer\"},\"p01\":{\"type\":\"
 abbrev pub names_16 : Quoted
 names_16 = "{\"properties\":{\"p00\":{\"type\":\"integer\"},\"p01\":{\"type\":\"integer\"},\"p02\":{\"type\":\"integer\"},\"p03\":{\"type\":\"integer\"},\"p04\":{\"type\":\"integer\"},\"p05\":{\"type\":\"integer\"},\"p06\":{\"type\":\"integer\"},\"p07\":{\"type\":\"integer\"},\"p08\":{\"type\":\"integer\"},\"p09\":{\"type\":\"integer\"},\"p10\":{\"type\":\"integer\"},\"p11\":{\"type\":\"integer\"},\"p12\":{\"type\":\"integer\"},\"p13\":{\"type\":\"integer\"},\"p14\":{\"type\":\"integer\"},\"p15\":{\"type\":\"integer\"}}}"
 
-abbrev pub Extra_members_are_accepted : Type 0
-Extra_members_are_accepted = Holds two_required "{\"a\":1,\"b\":\"x\",\"c\":3}"
-
-abbrev pub Missing_and_wrong_are_both_told : Type 0
-Missing_and_wrong_are_both_told = Fails two_required "{\"a\":\"x\"}" ("\"b\" is a required property @ \"\", /required" ∷ "\"x\" is not of type \"integer\" @ /a, /properties/a/type" ∷ [])
-
-abbrev pub A_wrong_member_alone_is_told : Type 0
-A_wrong_member_alone_is_told = Fails two_required "{\"a\":\"x\",\"b\":\"y\"}" ("\"x\" is not of type \"integer\" @ /a, /properties/a/type" ∷ [])
-
-abbrev pub Names_that_differ_early_are_told_apart : Type 0
-Names_that_differ_early_are_told_apart = Holds "{\"properties\":{\"abcdEFGHijkl\":false,\"p\":true}}" "{\"abcdefghijkl\":1,\"p\":1}"
-
-abbrev pub Names_that_differ_in_the_middle_are_told_apart : Type 0
-Names_that_differ_in_the_middle_are_told_apart = Fails "{\"properties\":{\"prefix0000suffix00\":{\"const\":0},\"prefix0001suffix00\":{\"const\":1},\"prefix0002suffix00\":{\"const\":2},\"prefix0003suffix00\":{\"const\":3},\"prefix0004suffix00\":{\"const\":4},\"prefix0005suffix00\":{\"const\":5},\"prefix0006suffix00\":{\"const\":6},\"prefix0007suffix00\":{\"const\":7},\"prefix0008suffix00\":{\"const\":8},\"prefix0009suffix00\":{\"const\":9},\"prefix0010suffix00\":{\"const\":10},\"prefix0011suffix00\":{\"const\":11},\"prefix0012suffix00\":{\"const\":12},\"prefix0013suffix00\":{\"const\":13}},\"additionalProperties\":false}" "{\"prefix0099suffix00\":0}" ("Additional properties are not allowed ('prefix0099suffix00' was unexpected) @ \"\", /additionalProperties" ∷ [])
-
-abbrev pub A_near_name_is_not_refused : Type 0
-A_near_name_is_not_refused = Holds near_names "{\"prefix0004suffix00\":0}"
-
-abbrev pub A_false_schema_refuses_its_name : Type 0
-A_false_schema_refuses_its_name = Fails near_names "{\"prefix0003suffix00\":0}" ("False schema does not allow 0 @ /prefix0003suffix00, /properties/prefix0003suffix00" ∷ [])
-
-abbrev pub A_name_required_twice_is_met_once : Type 0
-A_name_required_twice_is_met_once = Holds required_twice "{\"a\":1}"
-
-abbrev pub A_name_required_twice_is_missing_twice : Type 0
-A_name_required_twice_is_missing_twice = Fails required_twice "{}" ("\"a\" is a required property @ \"\", /required" ∷ "\"a\" is a required property @ \"\", /required" ∷ [])
-
-abbrev pub A_required_name_may_be_unexpected : Type 0
-A_required_name_may_be_unexpected = Fails undeclared_required "{\"z\":1}" ("Additional properties are not allowed ('z' was unexpected) @ \"\", /additionalProperties" ∷ [])
-
-abbrev pub A_required_undeclared_name_is_missing : Type 0
-A_required_undeclared_name_is_missing = Fails undeclared_required "{}" ("\"z\" is a required property @ \"\", /required" ∷ [])
-
-abbrev pub Unexpected_and_missing_are_both_told : Type 0
-Unexpected_and_missing_are_both_told = Fails "{\"properties\":{\"a\":{}},\"additionalProperties\":false,\"required\":[\"a\"]}" "{\"b\":1}" ("\"a\" is a required property @ \"\", /required" ∷ "Additional properties are not allowed ('b' was unexpected) @ \"\", /additionalProperties" ∷ [])
-
-abbrev pub A_required_undeclared_name_may_be_present : Type 0
-A_required_undeclared_name_may_be_present = Fails "{\"properties\":{\"a\":{\"type\":\"integer\"},\"b\":{}},\"required\":[\"a\",\"z\"]}" "{\"z\":2,\"y\":3}" ("\"a\" is a required property @ \"\", /required" ∷ [])
-
-abbrev pub No_declared_names_are_still_declared : Type 0
-No_declared_names_are_still_declared = Fails "{\"properties\":{},\"additionalProperties\":false}" "{\"x\":1}" ("Additional properties are not allowed ('x' was unexpected) @ \"\", /additionalProperties" ∷ [])
-
-abbrev pub Alone_it_is_a_false_schema_over_the_first_member : Type 0
-Alone_it_is_a_false_schema_over_the_first_member = Fails "{\"additionalProperties\":false}" "{\"x\":1}" ("False schema does not allow 1 @ \"\", /additionalProperties" ∷ [])
-
-abbrev pub Alone_its_instance_is_the_first_value : Type 0
-Alone_its_instance_is_the_first_value = Is_about "{\"additionalProperties\":false}" "{\"y\":2,\"x\":1}" ("1" ∷ [])
-
-abbrev pub Additional_members_meet_their_schema : Type 0
-Additional_members_meet_their_schema = Fails "{\"additionalProperties\":{\"type\":\"integer\"},\"properties\":{\"foo\":{}}}" "{\"foo\":\"x\",\"bar\":\"a\"}" ("\"a\" is not of type \"integer\" @ /bar, /additionalProperties/type" ∷ [])
-
-abbrev pub An_unexpected_member_is_told_at_its_object : Type 0
-An_unexpected_member_is_told_at_its_object = Fails "{\"properties\":{\"a\":{\"properties\":{},\"additionalProperties\":false}}}" "{\"a\":{\"b\":1}}" ("Additional properties are not allowed ('b' was unexpected) @ /a, /properties/a/additionalProperties" ∷ [])
-
-abbrev pub A_missing_member_is_told_at_its_object : Type 0
-A_missing_member_is_told_at_its_object = Fails "{\"properties\":{\"a\":{\"required\":[\"b\"]}}}" "{\"a\":{}}" ("\"b\" is a required property @ /a, /properties/a/required" ∷ [])
-
-abbrev pub In_a_branch_an_unexpected_member_is_told_of_the_branch : Type 0
-In_a_branch_an_unexpected_member_is_told_of_the_branch = Fails "{\"allOf\":[{\"properties\":{},\"additionalProperties\":false}]}" "{\"b\":1}" ("Additional properties are not allowed ('b' was unexpected) @ \"\", /allOf/0/additionalProperties" ∷ [])
-
-abbrev pub A_fifth_container_is_asked : Type 0
-A_fifth_container_is_asked = Fails five_arrays "{\"a\":[],\"b\":[],\"c\":[],\"d\":[],\"e\":{},\"id\":1}" ("{} is not of type \"array\" @ /e, /properties/e/type" ∷ [])
-
-abbrev pub Five_containers_are_accepted : Type 0
-Five_containers_are_accepted = Holds five_arrays "{\"a\":[],\"b\":[],\"c\":[],\"d\":[],\"e\":[],\"id\":1}"
-
-abbrev pub The_last_of_14_names_is_asked : Type 0
-The_last_of_14_names_is_asked = Fails names_14 "{\"p00\":1,\"p01\":1,\"p02\":1,\"p03\":1,\"p04\":1,\"p05\":1,\"p06\":1,\"p07\":1,\"p08\":1,\"p09\":1,\"p10\":1,\"p11\":1,\"p12\":1,\"p13\":\"x\",\"p14\":1,\"p15\":1,\"p16\":1,\"p17\":1,\"p18\":1,\"p19\":1}" ("\"x\" is not of type \"integer\" @ /p13, /properties/p13/type" ∷ [])
-
-abbrev pub The_last_of_14_names_is_asked_alone : Type 0
-The_last_of_14_names_is_asked_alone = Fails names_14 "{\"p13\":\"x\"}" ("\"x\" is not of type \"integer\" @ /p13, /properties/p13/type" ∷ [])
-
-abbrev pub The_last_of_15_names_is_asked : Type 0
-The_last_of_15_names_is_asked = Fails names_15 "{\"p00\":1,\"p01\":1,\"p02\":1,\"p03\":1,\"p04\":1,\"p05\":1,\"p06\":1,\"p07\":1,\"p08\":1,\"p09\":1,\"p10\":1,\"p11\":1,\"p12\":1,\"p13\":1,\"p14\":\"x\",\"p15\":1,\"p16\":1,\"p17\":1,\"p18\":1,\"p19\":1}" ("\"x\" is not of type \"integer\" @ /p14, /properties/p14/type" ∷ [])
-
-abbrev pub The_last_of_15_names_is_asked_alone : Type 0
-The_last_of_15_names_is_asked_alone = Fails names_15 "{\"p14\":\"x\"}" ("\"x\" is not of type \"integer\" @ /p14, /properties/p14/type" ∷ [])
-
-abbrev pub The_last_of_16_names_is_asked : Type 0
-The_last_of_16_names_is_asked = Fails names_16 "{\"p00\":1,\"p01\":1,\"p02\":1,\"p03\":1,\"p04\":1,\"p05\":1,\"p06\":1,\"p07\":1,\"p08\":1,\"p09\":1,\"p10\":1,\"p11\":1,\"p12\":1,\"p13\":1,\"p14\":1,\"p15\":\"x\",\"p16\":1,\"p17\":1,\"p18\":1,\"p19\":1}" ("\"x\" is not of type \"integer\" @ /p15, /properties/p15/type" ∷ [])
-
-abbrev pub The_last_of_16_names_is_asked_alone : Type 0
-The_last_of_16_names_is_asked_alone = Fails names_16 "{\"p15\":\"x\"}" ("\"x\" is not of type \"integer\" @ /p15, /properties/p15/type" ∷ [])
-
-abbrev pub Paths_are_escaped : Type 0
-Paths_are_escaped = Fails "{\"properties\":{\"a/b\":false}}" "{\"a/b\":1}" ("False schema does not allow 1 @ /a~1b, /properties/a~1b" ∷ [])
-
-abbrev pub Other_values_pass : Type 0
-Other_values_pass = Holds "{\"properties\":{\"a\":false},\"required\":[\"a\"],\"additionalProperties\":false,\"patternProperties\":{\"\":false},\"propertyNames\":false,\"dependentRequired\":{\"a\":[\"b\"]},\"dependentSchemas\":{\"a\":false},\"dependencies\":{\"a\":false},\"propertyDependencies\":{\"a\":{\"b\":false}}}" "[1]"
-
-abbrev pub Rows_properties : Type 0
-Rows_properties = Extra_members_are_accepted × Missing_and_wrong_are_both_told × A_wrong_member_alone_is_told × Names_that_differ_early_are_told_apart × Names_that_differ_in_the_middle_are_told_apart × A_near_name_is_not_refused × A_false_schema_refuses_its_name × A_name_required_twice_is_met_once × A_name_required_twice_is_missing_twice × A_required_name_may_be_unexpected × A_required_undeclared_name_is_missing × Unexpected_and_missing_are_both_told × A_required_undeclared_name_may_be_present × No_declared_names_are_still_declared × Alone_it_is_a_false_schema_over_the_first_member × Alone_its_instance_is_the_first_value × Additional_members_meet_their_schema × An_unexpected_member_is_told_at_its_object × A_missing_member_is_told_at_its_object × In_a_branch_an_unexpected_member_is_told_of_the_branch × A_fifth_container_is_asked × Five_containers_are_accepted × The_last_of_14_names_is_asked × The_last_of_14_names_is_asked_alone × The_last_of_15_names_is_asked × The_last_of_15_names_is_asked_alone × The_last_of_16_names_is_asked × The_last_of_16_names_is_asked_alone × Paths_are_escaped × Other_values_pass
+pub record Rows_properties : Type 0 where
+  pub extra_members_are_accepted : Holds two_required "{\"a\":1,\"b\":\"x\",\"c\":3}"
+  pub missing_and_wrong_are_both_told : Fails two_required "{\"a\":\"x\"}" ("\"b\" is a required property @ \"\", /required" ∷ "\"x\" is not of type \"integer\" @ /a, /properties/a/type" ∷ [])
+  pub a_wrong_member_alone_is_told : Fails two_required "{\"a\":\"x\",\"b\":\"y\"}" ("\"x\" is not of type \"integer\" @ /a, /properties/a/type" ∷ [])
+  pub names_that_differ_early_are_told_apart : Holds "{\"properties\":{\"abcdEFGHijkl\":false,\"p\":true}}" "{\"abcdefghijkl\":1,\"p\":1}"
+  pub names_that_differ_in_the_middle_are_told_apart : Fails "{\"properties\":{\"prefix0000suffix00\":{\"const\":0},\"prefix0001suffix00\":{\"const\":1},\"prefix0002suffix00\":{\"const\":2},\"prefix0003suffix00\":{\"const\":3},\"prefix0004suffix00\":{\"const\":4},\"prefix0005suffix00\":{\"const\":5},\"prefix0006suffix00\":{\"const\":6},\"prefix0007suffix00\":{\"const\":7},\"prefix0008suffix00\":{\"const\":8},\"prefix0009suffix00\":{\"const\":9},\"prefix0010suffix00\":{\"const\":10},\"prefix0011suffix00\":{\"const\":11},\"prefix0012suffix00\":{\"const\":12},\"prefix0013suffix00\":{\"const\":13}},\"additionalProperties\":false}" "{\"prefix0099suffix00\":0}" ("Additional properties are not allowed ('prefix0099suffix00' was unexpected) @ \"\", /additionalProperties" ∷ [])
+  pub a_near_name_is_not_refused : Holds near_names "{\"prefix0004suffix00\":0}"
+  pub a_false_schema_refuses_its_name : Fails near_names "{\"prefix0003suffix00\":0}" ("False schema does not allow 0 @ /prefix0003suffix00, /properties/prefix0003suffix00" ∷ [])
+  pub a_name_required_twice_is_met_once : Holds required_twice "{\"a\":1}"
+  pub a_name_required_twice_is_missing_twice : Fails required_twice "{}" ("\"a\" is a required property @ \"\", /required" ∷ "\"a\" is a required property @ \"\", /required" ∷ [])
+  pub a_required_name_may_be_unexpected : Fails undeclared_required "{\"z\":1}" ("Additional properties are not allowed ('z' was unexpected) @ \"\", /additionalProperties" ∷ [])
+  pub a_required_undeclared_name_is_missing : Fails undeclared_required "{}" ("\"z\" is a required property @ \"\", /required" ∷ [])
+  pub unexpected_and_missing_are_both_told : Fails "{\"properties\":{\"a\":{}},\"additionalProperties\":false,\"required\":[\"a\"]}" "{\"b\":1}" ("\"a\" is a required property @ \"\", /required" ∷ "Additional properties are not allowed ('b' was unexpected) @ \"\", /additionalProperties" ∷ [])
+  pub a_required_undeclared_name_may_be_present : Fails "{\"properties\":{\"a\":{\"type\":\"integer\"},\"b\":{}},\"required\":[\"a\",\"z\"]}" "{\"z\":2,\"y\":3}" ("\"a\" is a required property @ \"\", /required" ∷ [])
+  pub no_declared_names_are_still_declared : Fails "{\"properties\":{},\"additionalProperties\":false}" "{\"x\":1}" ("Additional properties are not allowed ('x' was unexpected) @ \"\", /additionalProperties" ∷ [])
+  pub alone_it_is_a_false_schema_over_the_first_member : Fails "{\"additionalProperties\":false}" "{\"x\":1}" ("False schema does not allow 1 @ \"\", /additionalProperties" ∷ [])
+  pub alone_its_instance_is_the_first_value : Is_about "{\"additionalProperties\":false}" "{\"y\":2,\"x\":1}" ("1" ∷ [])
+  pub additional_members_meet_their_schema : Fails "{\"additionalProperties\":{\"type\":\"integer\"},\"properties\":{\"foo\":{}}}" "{\"foo\":\"x\",\"bar\":\"a\"}" ("\"a\" is not of type \"integer\" @ /bar, /additionalProperties/type" ∷ [])
+  pub an_unexpected_member_is_told_at_its_object : Fails "{\"properties\":{\"a\":{\"properties\":{},\"additionalProperties\":false}}}" "{\"a\":{\"b\":1}}" ("Additional properties are not allowed ('b' was unexpected) @ /a, /properties/a/additionalProperties" ∷ [])
+  pub a_missing_member_is_told_at_its_object : Fails "{\"properties\":{\"a\":{\"required\":[\"b\"]}}}" "{\"a\":{}}" ("\"b\" is a required property @ /a, /properties/a/required" ∷ [])
+  pub in_a_branch_an_unexpected_member_is_told_of_the_branch : Fails "{\"allOf\":[{\"properties\":{},\"additionalProperties\":false}]}" "{\"b\":1}" ("Additional properties are not allowed ('b' was unexpected) @ \"\", /allOf/0/additionalProperties" ∷ [])
+  pub a_fifth_container_is_asked : Fails five_arrays "{\"a\":[],\"b\":[],\"c\":[],\"d\":[],\"e\":{},\"id\":1}" ("{} is not of type \"array\" @ /e, /properties/e/type" ∷ [])
+  pub five_containers_are_accepted : Holds five_arrays "{\"a\":[],\"b\":[],\"c\":[],\"d\":[],\"e\":[],\"id\":1}"
+  pub the_last_of_14_names_is_asked : Fails names_14 "{\"p00\":1,\"p01\":1,\"p02\":1,\"p03\":1,\"p04\":1,\"p05\":1,\"p06\":1,\"p07\":1,\"p08\":1,\"p09\":1,\"p10\":1,\"p11\":1,\"p12\":1,\"p13\":\"x\",\"p14\":1,\"p15\":1,\"p16\":1,\"p17\":1,\"p18\":1,\"p19\":1}" ("\"x\" is not of type \"integer\" @ /p13, /properties/p13/type" ∷ [])
+  pub the_last_of_14_names_is_asked_alone : Fails names_14 "{\"p13\":\"x\"}" ("\"x\" is not of type \"integer\" @ /p13, /properties/p13/type" ∷ [])
+  pub the_last_of_15_names_is_asked : Fails names_15 "{\"p00\":1,\"p01\":1,\"p02\":1,\"p03\":1,\"p04\":1,\"p05\":1,\"p06\":1,\"p07\":1,\"p08\":1,\"p09\":1,\"p10\":1,\"p11\":1,\"p12\":1,\"p13\":1,\"p14\":\"x\",\"p15\":1,\"p16\":1,\"p17\":1,\"p18\":1,\"p19\":1}" ("\"x\" is not of type \"integer\" @ /p14, /properties/p14/type" ∷ [])
+  pub the_last_of_15_names_is_asked_alone : Fails names_15 "{\"p14\":\"x\"}" ("\"x\" is not of type \"integer\" @ /p14, /properties/p14/type" ∷ [])
+  pub the_last_of_16_names_is_asked : Fails names_16 "{\"p00\":1,\"p01\":1,\"p02\":1,\"p03\":1,\"p04\":1,\"p05\":1,\"p06\":1,\"p07\":1,\"p08\":1,\"p09\":1,\"p10\":1,\"p11\":1,\"p12\":1,\"p13\":1,\"p14\":1,\"p15\":\"x\",\"p16\":1,\"p17\":1,\"p18\":1,\"p19\":1}" ("\"x\" is not of type \"integer\" @ /p15, /properties/p15/type" ∷ [])
+  pub the_last_of_16_names_is_asked_alone : Fails names_16 "{\"p15\":\"x\"}" ("\"x\" is not of type \"integer\" @ /p15, /properties/p15/type" ∷ [])
+  pub paths_are_escaped : Fails "{\"properties\":{\"a/b\":false}}" "{\"a/b\":1}" ("False schema does not allow 1 @ /a~1b, /properties/a~1b" ∷ [])
+  pub other_values_pass : Holds "{\"properties\":{\"a\":false},\"required\":[\"a\"],\"additionalProperties\":false,\"patternProperties\":{\"\":false},\"propertyNames\":false,\"dependentRequired\":{\"a\":[\"b\"]},\"dependentSchemas\":{\"a\":false},\"dependencies\":{\"a\":false},\"propertyDependencies\":{\"a\":{\"b\":false}}}" "[1]"

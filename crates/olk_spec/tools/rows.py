@@ -78,7 +78,7 @@ class Group:
 
     def add(self, name, form, *words):
         assert form in PROOFS
-        assert name[0].isupper() and all(name != r[0] for r in self.rows), name
+        assert name[0].islower() and all(name != row[0] for row in self.rows), name
         self.rows.append((name, form, " ".join(words)))
 
     def text_of(self, schema):
@@ -162,13 +162,12 @@ class Group:
     # ---- what is written
 
     def write(self):
-        product = self.module  # the module and the fact that joins its rows have one name
+        record = self.module  # the module and the record of its rows have one name
         body = "".join(f"\nabbrev pub {n} : Quoted\n{n} = {quote(t)}\n" for n, t in self.schemas.items())
         for name, rows in self.tables.items():
             lines = "".join(f"    ({', '.join(map(quote, row))}) ∷\n" for row in rows)
             body += f"\n-- schemas, what each is refused for, and at which path below its own\nabbrev pub {name} : List (Quoted × Quoted × Quoted)\n{name} =\n{lines}    []\n"
-        body += "".join(f"\nabbrev pub {n} : Type 0\n{n} = {f} {w}\n" for n, f, w in self.rows)
-        body += f"\nabbrev pub {product} : Type 0\n{product} = " + " × ".join(n for n, _, _ in self.rows) + "\n"
+        body += f"\npub record {record} : Type 0 where\n" + "".join(f"  pub {n} : {f} {w}\n" for n, f, w in self.rows)
         code = re.sub(r'"(\\.|[^"\\])*"', '""', body)
         words = set(re.findall(r"[\w◌∷]+", code)) | set(re.findall(r"\[\]|∷|×", code))
         prelude = [w for w in ("List", "[]", "true", "false", "codes") if w in words]
@@ -191,17 +190,14 @@ class Group:
         with open(f"specs/{self.module}.antt", "w") as out:
             out.write(head + body)
 
+        fact = record.lower()
         proof = (
             "use Rattle.std.proofs.Common.{refl}\n"
             "use Rattle.olk_spec.proofs.Computed.{computed}\n"
-            f"use Rattle.olk_spec.specs.{self.module} as rows\n"
+            f"use Rattle.olk_spec.specs.{record}.{{{record}}}\n"
         )
-        for name, form, _ in self.rows:
-            fact = name[0].lower() + name[1:]
-            proof += f"\npub {fact} : rows.{name}\nunfolding computed\n{fact} = {PROOFS[form]}\n"
-        joined = product[0].lower() + product[1:]
-        facts = ", ".join(n[0].lower() + n[1:] for n, _, _ in self.rows)
-        proof += f"\npub {joined} : rows.{product}\n{joined} = ({facts})\n"
+        facts = "".join(f"  {name} = {PROOFS[form]};\n" for name, form, _ in self.rows)
+        proof += f"\npub {fact} : {record}\nunfolding computed\n{fact} = record {{\n{facts}}}\n"
         with open(f"proofs/{self.module}.antt", "w") as out:
             out.write(proof)
         print(self.module, len(self.rows))
@@ -224,57 +220,57 @@ def quoted_json(value):
 def properties():
     g = Group("Rows_properties", "Declared, required and additional members.")
     two = g.schema("two_required", '{"properties":{"a":{"type":"integer"},"b":{"type":"string"}},"required":["a","b"]}')
-    g.holds("Extra_members_are_accepted", two, '{"a":1,"b":"x","c":3}')
-    g.fails("Missing_and_wrong_are_both_told", two, '{"a":"x"}',
+    g.holds("extra_members_are_accepted", two, '{"a":1,"b":"x","c":3}')
+    g.fails("missing_and_wrong_are_both_told", two, '{"a":"x"}',
             ['"b" is a required property @ "", /required', '"x" is not of type "integer" @ /a, /properties/a/type'])
-    g.fails("A_wrong_member_alone_is_told", two, '{"a":"x","b":"y"}', ['"x" is not of type "integer" @ /a, /properties/a/type'])
-    g.holds("Names_that_differ_early_are_told_apart", '{"properties":{"abcdEFGHijkl":false,"p":true}}', '{"abcdefghijkl":1,"p":1}')
-    g.fails("Names_that_differ_in_the_middle_are_told_apart",
+    g.fails("a_wrong_member_alone_is_told", two, '{"a":"x","b":"y"}', ['"x" is not of type "integer" @ /a, /properties/a/type'])
+    g.holds("names_that_differ_early_are_told_apart", '{"properties":{"abcdEFGHijkl":false,"p":true}}', '{"abcdefghijkl":1,"p":1}')
+    g.fails("names_that_differ_in_the_middle_are_told_apart",
             {"properties": {"prefix%04dsuffix00" % n: {"const": n} for n in range(14)}, "additionalProperties": False},
             '{"prefix0099suffix00":0}',
             ["Additional properties are not allowed ('prefix0099suffix00' was unexpected) @ \"\", /additionalProperties"])
     near = g.schema("near_names", '{"properties":{"prefix0003suffix00":false,"prefix0004suffix00":true}}')
-    g.holds("A_near_name_is_not_refused", near, '{"prefix0004suffix00":0}')
-    g.fails("A_false_schema_refuses_its_name", near, '{"prefix0003suffix00":0}',
+    g.holds("a_near_name_is_not_refused", near, '{"prefix0004suffix00":0}')
+    g.fails("a_false_schema_refuses_its_name", near, '{"prefix0003suffix00":0}',
             ["False schema does not allow 0 @ /prefix0003suffix00, /properties/prefix0003suffix00"])
     twice = g.schema("required_twice", '{"properties":{"a":{}},"required":["a","a"]}')
-    g.holds("A_name_required_twice_is_met_once", twice, '{"a":1}')
-    g.fails("A_name_required_twice_is_missing_twice", twice, "{}", ['"a" is a required property @ "", /required'] * 2)
+    g.holds("a_name_required_twice_is_met_once", twice, '{"a":1}')
+    g.fails("a_name_required_twice_is_missing_twice", twice, "{}", ['"a" is a required property @ "", /required'] * 2)
     other = g.schema("undeclared_required", '{"properties":{"a":{}},"additionalProperties":false,"required":["z"]}')
-    g.fails("A_required_name_may_be_unexpected", other, '{"z":1}',
+    g.fails("a_required_name_may_be_unexpected", other, '{"z":1}',
             ["Additional properties are not allowed ('z' was unexpected) @ \"\", /additionalProperties"])
-    g.fails("A_required_undeclared_name_is_missing", other, "{}", ['"z" is a required property @ "", /required'])
-    g.fails("Unexpected_and_missing_are_both_told", '{"properties":{"a":{}},"additionalProperties":false,"required":["a"]}', '{"b":1}',
+    g.fails("a_required_undeclared_name_is_missing", other, "{}", ['"z" is a required property @ "", /required'])
+    g.fails("unexpected_and_missing_are_both_told", '{"properties":{"a":{}},"additionalProperties":false,"required":["a"]}', '{"b":1}',
             ["Additional properties are not allowed ('b' was unexpected) @ \"\", /additionalProperties", '"a" is a required property @ "", /required'])
-    g.fails("A_required_undeclared_name_may_be_present", '{"properties":{"a":{"type":"integer"},"b":{}},"required":["a","z"]}', '{"z":2,"y":3}',
+    g.fails("a_required_undeclared_name_may_be_present", '{"properties":{"a":{"type":"integer"},"b":{}},"required":["a","z"]}', '{"z":2,"y":3}',
             ['"a" is a required property @ "", /required'])
-    g.fails("No_declared_names_are_still_declared", '{"properties":{},"additionalProperties":false}', '{"x":1}',
+    g.fails("no_declared_names_are_still_declared", '{"properties":{},"additionalProperties":false}', '{"x":1}',
             ["Additional properties are not allowed ('x' was unexpected) @ \"\", /additionalProperties"])
-    g.fails("Alone_it_is_a_false_schema_over_the_first_member", '{"additionalProperties":false}', '{"x":1}',
+    g.fails("alone_it_is_a_false_schema_over_the_first_member", '{"additionalProperties":false}', '{"x":1}',
             ['False schema does not allow 1 @ "", /additionalProperties'])
-    g.is_about("Alone_its_instance_is_the_first_value", '{"additionalProperties":false}', '{"y":2,"x":1}', ["1"])
-    g.fails("Additional_members_meet_their_schema", '{"additionalProperties":{"type":"integer"},"properties":{"foo":{}}}', '{"foo":"x","bar":"a"}',
+    g.is_about("alone_its_instance_is_the_first_value", '{"additionalProperties":false}', '{"y":2,"x":1}', ["1"])
+    g.fails("additional_members_meet_their_schema", '{"additionalProperties":{"type":"integer"},"properties":{"foo":{}}}', '{"foo":"x","bar":"a"}',
             ['"a" is not of type "integer" @ /bar, /additionalProperties/type'])
     for name, inner, value, line in (
-        ("An_unexpected_member_is_told_at_its_object", '{"properties":{},"additionalProperties":false}', '{"b":1}',
+        ("an_unexpected_member_is_told_at_its_object", '{"properties":{},"additionalProperties":false}', '{"b":1}',
          "Additional properties are not allowed ('b' was unexpected) @ /a, /properties/a/additionalProperties"),
-        ("A_missing_member_is_told_at_its_object", '{"required":["b"]}', "{}", '"b" is a required property @ /a, /properties/a/required'),
+        ("a_missing_member_is_told_at_its_object", '{"required":["b"]}', "{}", '"b" is a required property @ /a, /properties/a/required'),
     ):
         g.fails(name, '{"properties":{"a":%s}}' % inner, '{"a":%s}' % value, [line])
-    g.fails("In_a_branch_an_unexpected_member_is_told_of_the_branch", '{"allOf":[{"properties":{},"additionalProperties":false}]}', '{"b":1}',
+    g.fails("in_a_branch_an_unexpected_member_is_told_of_the_branch", '{"allOf":[{"properties":{},"additionalProperties":false}]}', '{"b":1}',
             ["Additional properties are not allowed ('b' was unexpected) @ \"\", /allOf/0/additionalProperties"])
     five = g.schema("five_arrays", {"additionalProperties": False, "required": ["id"],
                                     "properties": {"id": {"type": "integer"}, **{k: {"type": "array"} for k in "abcde"}}})
-    g.fails("A_fifth_container_is_asked", five, '{"a":[],"b":[],"c":[],"d":[],"e":{},"id":1}', ['{} is not of type "array" @ /e, /properties/e/type'])
-    g.holds("Five_containers_are_accepted", five, '{"a":[],"b":[],"c":[],"d":[],"e":[],"id":1}')
+    g.fails("a_fifth_container_is_asked", five, '{"a":[],"b":[],"c":[],"d":[],"e":{},"id":1}', ['{} is not of type "array" @ /e, /properties/e/type'])
+    g.holds("five_containers_are_accepted", five, '{"a":[],"b":[],"c":[],"d":[],"e":[],"id":1}')
     for n in (14, 15, 16):
         last = "p%02d" % (n - 1)
         many = g.schema("names_%d" % n, {"properties": {"p%02d" % i: {"type": "integer"} for i in range(n)}})
         error = ['"x" is not of type "integer" @ /%s, /properties/%s/type' % (last, last)]
-        g.fails("The_last_of_%d_names_is_asked" % n, many, {"p%02d" % i: ("x" if i == n - 1 else 1) for i in range(20)}, error)
-        g.fails("The_last_of_%d_names_is_asked_alone" % n, many, {last: "x"}, error)
-    g.fails("Paths_are_escaped", '{"properties":{"a/b":false}}', '{"a/b":1}', ["False schema does not allow 1 @ /a~1b, /properties/a~1b"])
-    g.holds("Other_values_pass", '{"properties":{"a":false},"required":["a"],"additionalProperties":false,"patternProperties":{"":false},"propertyNames":false,"dependentRequired":{"a":["b"]},"dependentSchemas":{"a":false},"dependencies":{"a":false},"propertyDependencies":{"a":{"b":false}}}', "[1]")
+        g.fails("the_last_of_%d_names_is_asked" % n, many, {"p%02d" % i: ("x" if i == n - 1 else 1) for i in range(20)}, error)
+        g.fails("the_last_of_%d_names_is_asked_alone" % n, many, {last: "x"}, error)
+    g.fails("paths_are_escaped", '{"properties":{"a/b":false}}', '{"a/b":1}', ["False schema does not allow 1 @ /a~1b, /properties/a~1b"])
+    g.holds("other_values_pass", '{"properties":{"a":false},"required":["a"],"additionalProperties":false,"patternProperties":{"":false},"propertyNames":false,"dependentRequired":{"a":["b"]},"dependentSchemas":{"a":false},"dependencies":{"a":false},"propertyDependencies":{"a":{"b":false}}}', "[1]")
     return g
 
 
@@ -284,82 +280,82 @@ def properties():
 def patterns():
     g = Group("Rows_patterns", "Patterns: those with a test of their own, those that the matcher answers, and those that it leaves unfinished.")
     both = g.schema("closed", CLOSED)
-    g.fails("All_four_faults_are_told", both, '{"bar":4,"spam":11,"foo":3,"faz":1}',
+    g.fails("all_four_faults_are_told", both, '{"bar":4,"spam":11,"foo":3,"faz":1}',
             ["Additional properties are not allowed ('faz' was unexpected) @ \"\", /additionalProperties",
              "4 is less than the minimum of 5 @ /bar, /patternProperties/^bar/minimum",
              '3 is not of type "string" @ /foo, /properties/foo/type',
              "11 is greater than the maximum of 10 @ /spam, /patternProperties/spam$/maximum"])
-    g.fails("A_declared_name_meets_its_patterns_too", both, '{"barbaz":3}', ["3 is less than the minimum of 5 @ /barbaz, /patternProperties/^bar/minimum"])
-    g.fails("All_unexpected_names_are_told", both, '{"faz":1,"haz":1}',
+    g.fails("a_declared_name_meets_its_patterns_too", both, '{"barbaz":3}', ["3 is less than the minimum of 5 @ /barbaz, /patternProperties/^bar/minimum"])
+    g.fails("all_unexpected_names_are_told", both, '{"faz":1,"haz":1}',
             ["Additional properties are not allowed ('faz', 'haz' were unexpected) @ \"\", /additionalProperties"])
-    g.cuts_to("The_first_unexpected_name_is_kept", both, '{"faz":1,"haz":1}',
+    g.cuts_to("the_first_unexpected_name_is_kept", both, '{"faz":1,"haz":1}',
               ["Additional properties are not allowed ('faz' was unexpected) @ \"\", /additionalProperties"])
     slow = g.schema("slow_declared", '{"properties":{"ax":{}},"patternProperties":{"(slow)x":{"type":"integer"}},"additionalProperties":false}')
-    g.fails_under("An_unfinished_match_that_counts", "true", slow, '{"ax":"t"}', ['"t" is not of type "integer" @ /ax, /patternProperties/(slow)x/type'])
-    g.holds_under("An_unfinished_match_that_does_not_count", "false", slow, '{"ax":"t"}')
+    g.fails_under("an_unfinished_match_that_counts", "true", slow, '{"ax":"t"}', ['"t" is not of type "integer" @ /ax, /patternProperties/(slow)x/type'])
+    g.holds_under("an_unfinished_match_that_does_not_count", "false", slow, '{"ax":"t"}')
     wild = g.schema("slow_alone", '{"patternProperties":{"(slow)x":{"type":"integer"}}}')
-    g.fails_under("Alone_an_unfinished_match_counts", "true", wild, '{"ax":"t","b":"t"}', ['"t" is not of type "integer" @ /ax, /patternProperties/(slow)x/type'])
-    g.holds_under("Alone_an_unfinished_match_does_not_count", "false", wild, '{"ax":"t","b":"t"}')
-    g.fails("A_finished_match_counts_under_both", '{"patternProperties":{"x":{"type":"integer"}}}', '{"ax":"t","b":"t"}',
+    g.fails_under("alone_an_unfinished_match_counts", "true", wild, '{"ax":"t","b":"t"}', ['"t" is not of type "integer" @ /ax, /patternProperties/(slow)x/type'])
+    g.holds_under("alone_an_unfinished_match_does_not_count", "false", wild, '{"ax":"t","b":"t"}')
+    g.fails("a_finished_match_counts_under_both", '{"patternProperties":{"x":{"type":"integer"}}}', '{"ax":"t","b":"t"}',
             ['"t" is not of type "integer" @ /ax, /patternProperties/x/type'])
     blank = g.schema("no_whitespace", '{"patternProperties":{"^\\\\S*$":false}}')
-    g.holds("A_space_is_white_space", blank, '{"a b":1}')
-    g.holds("A_byte_order_mark_is_white_space", blank, '{"a\\ufeffb":1}')
-    g.fails("A_name_without_white_space_matches", blank, '{"ab":1}', ["False schema does not allow 1 @ /ab, /patternProperties/^\\S*$"])
-    g.fails("A_name_is_additional_if_nothing_holds_or_matches_it", '{"properties":{"foo":{}},"patternProperties":{"^bar":{}},"additionalProperties":false}', '{"foo":1,"barn":2,"faz":3}',
+    g.holds("a_space_is_white_space", blank, '{"a b":1}')
+    g.holds("a_byte_order_mark_is_white_space", blank, '{"a\\ufeffb":1}')
+    g.fails("a_name_without_white_space_matches", blank, '{"ab":1}', ["False schema does not allow 1 @ /ab, /patternProperties/^\\S*$"])
+    g.fails("a_name_is_additional_if_nothing_holds_or_matches_it", '{"properties":{"foo":{}},"patternProperties":{"^bar":{}},"additionalProperties":false}', '{"foo":1,"barn":2,"faz":3}',
             ["Additional properties are not allowed ('faz' was unexpected) @ \"\", /additionalProperties"])
-    g.fails("A_suffix_stands_at_the_end", '{"patternProperties":{"spam$":false}}', '{"xspam":1,"spamx":2}', ["False schema does not allow 1 @ /xspam, /patternProperties/spam$"])
-    g.refuses("Next_line_is_no_white_space", blank, '{"\\u0085":1}')
-    g.holds("A_line_separator_is_white_space", blank, '{"\\u2028":1}')
-    g.are_white_space("The_first_and_last_of_each_run_are_white_space", True, (0x9, 0xD, 0x20, 0xA0, 0x1680, 0x2000, 0x200A, 0x2028, 0x2029, 0x202F, 0x205F, 0x3000, 0xFEFF))
-    g.are_white_space("All_25_characters_are_white_space", True, (*range(0x9, 0xE), 0x20, 0xA0, 0x1680, *range(0x2000, 0x200B), 0x2028, 0x2029, 0x202F, 0x205F, 0x3000, 0xFEFF))
-    g.are_white_space("Their_neighbours_are_no_white_space", False,
+    g.fails("a_suffix_stands_at_the_end", '{"patternProperties":{"spam$":false}}', '{"xspam":1,"spamx":2}', ["False schema does not allow 1 @ /xspam, /patternProperties/spam$"])
+    g.refuses("next_line_is_no_white_space", blank, '{"\\u0085":1}')
+    g.holds("a_line_separator_is_white_space", blank, '{"\\u2028":1}')
+    g.are_white_space("the_first_and_last_of_each_run_are_white_space", True, (0x9, 0xD, 0x20, 0xA0, 0x1680, 0x2000, 0x200A, 0x2028, 0x2029, 0x202F, 0x205F, 0x3000, 0xFEFF))
+    g.are_white_space("all_25_characters_are_white_space", True, (*range(0x9, 0xE), 0x20, 0xA0, 0x1680, *range(0x2000, 0x200B), 0x2028, 0x2029, 0x202F, 0x205F, 0x3000, 0xFEFF))
+    g.are_white_space("their_neighbours_are_no_white_space", False,
                       (0x8, 0xE, 0x1F, 0x21, 0x85, 0x9F, 0xA1, 0x167F, 0x1681, 0x180E, 0x1FFF, 0x200B, 0x2027, 0x202A, 0x202E, 0x2030, 0x205E, 0x2060, 0x2FFF, 0x3001, 0xFEFE, 0xFF00))
-    g.holds("An_exact_name_is_no_prefix", '{"patternProperties":{"^a$":false}}', '{"ab":1}')
-    g.holds("Alternatives_are_no_prefixes", '{"patternProperties":{"^(a|b)$":false}}', '{"ab":1}')
-    g.fails("The_third_alternative_matches", '{"patternProperties":{"^(a|b|c)$":false}}', '{"c":1}', ["False schema does not allow 1 @ /c, /patternProperties/^(a|b|c)$"])
+    g.holds("an_exact_name_is_no_prefix", '{"patternProperties":{"^a$":false}}', '{"ab":1}')
+    g.holds("alternatives_are_no_prefixes", '{"patternProperties":{"^(a|b)$":false}}', '{"ab":1}')
+    g.fails("the_third_alternative_matches", '{"patternProperties":{"^(a|b|c)$":false}}', '{"c":1}', ["False schema does not allow 1 @ /c, /patternProperties/^(a|b|c)$"])
     once = g.schema("slow_false", '{"patternProperties":{"(slow)a":false}}')
-    for name, member in (("An_unfinished_match_of_the_text_itself_counts", "a"), ("An_unfinished_match_inside_a_name_counts", "ba")):
+    for name, member in (("an_unfinished_match_of_the_text_itself_counts", "a"), ("an_unfinished_match_inside_a_name_counts", "ba")):
         g.fails_under(name, "true", once, {member: 1}, ["False schema does not allow 1 @ /%s, /patternProperties/(slow)a" % member])
     slow_shut = g.schema("slow_closed", '{"patternProperties":{"(slow)x":{}},"additionalProperties":false}')
-    g.holds_under("A_name_is_not_additional_if_an_unfinished_match_counts", "true", slow_shut, '{"x":1}')
-    g.fails_under("A_name_is_additional_if_an_unfinished_match_does_not_count", "false", slow_shut, '{"x":1}',
+    g.holds_under("a_name_is_not_additional_if_an_unfinished_match_counts", "true", slow_shut, '{"x":1}')
+    g.fails_under("a_name_is_additional_if_an_unfinished_match_does_not_count", "false", slow_shut, '{"x":1}',
                   ["Additional properties are not allowed ('x' was unexpected) @ \"\", /additionalProperties"])
-    g.holds("Two_patterns_are_both_asked", '{"patternProperties":{"^x":{},"spam$":{"type":"integer"}}}', '{"x1":"t"}')
+    g.holds("two_patterns_are_both_asked", '{"patternProperties":{"^x":{},"spam$":{"type":"integer"}}}', '{"x1":"t"}')
     shut = g.schema("closed_suffix", '{"properties":{"a":{},"bspam":{}},"patternProperties":{"spam$":{}},"additionalProperties":false}')
-    g.holds("Declared_and_matching_names_are_expected", shut, '{"a":1,"bspam":2}')
-    g.holds("A_matching_name_is_expected", shut, '{"a":1,"xspam":1}')
+    g.holds("declared_and_matching_names_are_expected", shut, '{"a":1,"bspam":2}')
+    g.holds("a_matching_name_is_expected", shut, '{"a":1,"xspam":1}')
     names = {"m%02d" % i: {} for i in range(65)}
     wide = g.schema("patterns_65", {"additionalProperties": False, "properties": {"m64": {}}, "patternProperties": names})
     wider = g.schema("patterns_66", {"additionalProperties": False, "properties": {"m64": {}}, "patternProperties": {"(slow)m64": False, **names}})
-    g.holds("The_last_of_65_patterns_matches", wide, '{"m64":1}')
-    g.holds_under("The_first_of_66_patterns_does_not_count", "false", wider, '{"m64":1}')
-    g.fails_under("The_first_of_66_patterns_counts", "true", wider, '{"m64":1}', ["False schema does not allow 1 @ /m64, /patternProperties/(slow)m64"])
+    g.holds("the_last_of_65_patterns_matches", wide, '{"m64":1}')
+    g.holds_under("the_first_of_66_patterns_does_not_count", "false", wider, '{"m64":1}')
+    g.fails_under("the_first_of_66_patterns_counts", "true", wider, '{"m64":1}', ["False schema does not allow 1 @ /m64, /patternProperties/(slow)m64"])
 
     def prefix(t):
         return f"starts_with_text (codes {quote(t)})"
 
     for n, p, l in (
-        ("Prefix_of_letters", "^foo", prefix("foo")),
-        ("Prefix_with_a_hyphen", "^x-", prefix("x-")),
-        ("Prefix_with_a_slash", "^path/to", prefix("path/to")),
-        ("Prefix_with_an_escaped_slash", "^\\/", prefix("/")),
-        ("Exact_letters", "^foo$", f"equals_text (codes {quote('foo')})"),
-        ("Exact_with_an_escaped_dollar", "^\\$ref$", f"equals_text (codes {quote('$ref')})"),
-        ("Prefix_that_ends_in_a_dollar", "^foo\\$", prefix("foo$")),
-        ("Alternatives", "^(a|b)$", f"is_one_of (codes {quote('a')} ∷ codes {quote('b')} ∷ [])"),
-        ("No_white_space", "^\\S*$", "has_no_whitespace"),
-        ("Suffix_of_letters", "spam$", f"ends_with_text (codes {quote('spam')})"),
-        ("Suffix_that_is_a_dollar", "\\$$", f"ends_with_text (codes {quote('$')})"),
+        ("prefix_of_letters", "^foo", prefix("foo")),
+        ("prefix_with_a_hyphen", "^x-", prefix("x-")),
+        ("prefix_with_a_slash", "^path/to", prefix("path/to")),
+        ("prefix_with_an_escaped_slash", "^\\/", prefix("/")),
+        ("exact_letters", "^foo$", f"equals_text (codes {quote('foo')})"),
+        ("exact_with_an_escaped_dollar", "^\\$ref$", f"equals_text (codes {quote('$ref')})"),
+        ("prefix_that_ends_in_a_dollar", "^foo\\$", prefix("foo$")),
+        ("alternatives", "^(a|b)$", f"is_one_of (codes {quote('a')} ∷ codes {quote('b')} ∷ [])"),
+        ("no_white_space", "^\\S*$", "has_no_whitespace"),
+        ("suffix_of_letters", "spam$", f"ends_with_text (codes {quote('spam')})"),
+        ("suffix_that_is_a_dollar", "\\$$", f"ends_with_text (codes {quote('$')})"),
     ):
         g.is_pattern(n, p, l)
     for n, p in (
-        ("Letters_alone_are_no_test", "foo"), ("An_anchor_alone_is_no_test", "^"), ("Two_anchors_are_no_test", "^$"),
-        ("One_alternative_is_no_test", "^(a)$"), ("A_star_is_no_test", "^foo.*"), ("A_plus_is_no_test", "^foo+"),
-        ("A_question_mark_is_no_test", "^foo?"), ("A_class_is_no_test", "^[a-z]"), ("Open_alternatives_are_no_test", "^foo|bar"),
-        ("A_group_is_no_test", "^foo(bar)"), ("A_number_in_braces_is_no_test", "^a{2}"), ("A_digit_is_no_test", "^foo\\d"),
-        ("A_word_character_is_no_test", "^a\\w"), ("An_escaped_hyphen_is_no_test", "^a\\-"), ("An_escaped_dollar_is_no_suffix", "foo\\$"),
-        ("A_dollar_alone_is_no_suffix", "$"), ("A_group_is_no_suffix", "(a)$"), ("A_dot_is_no_suffix", "fo.o$"),
+        ("letters_alone_are_no_test", "foo"), ("an_anchor_alone_is_no_test", "^"), ("two_anchors_are_no_test", "^$"),
+        ("one_alternative_is_no_test", "^(a)$"), ("a_star_is_no_test", "^foo.*"), ("a_plus_is_no_test", "^foo+"),
+        ("a_question_mark_is_no_test", "^foo?"), ("a_class_is_no_test", "^[a-z]"), ("open_alternatives_are_no_test", "^foo|bar"),
+        ("a_group_is_no_test", "^foo(bar)"), ("a_number_in_braces_is_no_test", "^a{2}"), ("a_digit_is_no_test", "^foo\\d"),
+        ("a_word_character_is_no_test", "^a\\w"), ("an_escaped_hyphen_is_no_test", "^a\\-"), ("an_escaped_dollar_is_no_suffix", "foo\\$"),
+        ("a_dollar_alone_is_no_suffix", "$"), ("a_group_is_no_suffix", "(a)$"), ("a_dot_is_no_suffix", "fo.o$"),
     ):
         g.is_no_pattern(n, p)
     return g
@@ -375,39 +371,39 @@ CLOSED = {"additionalProperties": False,
 
 def branches():
     g = Group("Rows_branches", "Branches, negation and conditions.")
-    g.fails("Any_of_none_refuses", '{"anyOf":[]}', "1", ["1 is not valid under any of the schemas listed in the 'anyOf' keyword @ \"\", /anyOf []"])
-    g.fails("One_of_none_refuses", '{"oneOf":[]}', "1", ["1 is not valid under any of the schemas listed in the 'oneOf' keyword @ \"\", /oneOf []"])
-    g.holds("All_of_none_accepts", '{"allOf":[]}', "1")
-    g.holds("One_accepting_branch_of_any_of_is_enough", '{"anyOf":[false,true]}', "1")
-    g.fails("Two_accepting_branches_are_too_many", '{"oneOf":[{"type":"string"},{"maxLength":3}]}', '""',
+    g.fails("any_of_none_refuses", '{"anyOf":[]}', "1", ["1 is not valid under any of the schemas listed in the 'anyOf' keyword @ \"\", /anyOf []"])
+    g.fails("one_of_none_refuses", '{"oneOf":[]}', "1", ["1 is not valid under any of the schemas listed in the 'oneOf' keyword @ \"\", /oneOf []"])
+    g.holds("all_of_none_accepts", '{"allOf":[]}', "1")
+    g.holds("one_accepting_branch_of_any_of_is_enough", '{"anyOf":[false,true]}', "1")
+    g.fails("two_accepting_branches_are_too_many", '{"oneOf":[{"type":"string"},{"maxLength":3}]}', '""',
             ["\"\" is valid under more than one of the schemas listed in the 'oneOf' keyword @ \"\", /oneOf [{}{}]"])
-    g.fails("Three_accepting_branches_are_too_many", '{"oneOf":[true,true,true]}', "1",
+    g.fails("three_accepting_branches_are_too_many", '{"oneOf":[true,true,true]}', "1",
             ["1 is valid under more than one of the schemas listed in the 'oneOf' keyword @ \"\", /oneOf [{}{}{}]"])
-    g.holds("One_accepting_branch_is_enough", '{"oneOf":[{"type":"string"},{"maxLength":3}]}', '"long"')
-    g.holds("The_other_branch_is_enough", '{"oneOf":[{"type":"string"},{"maxLength":3}]}', "5")
-    g.fails("Each_branch_tells_all_that_it_finds", '{"anyOf":[{"type":"integer"},{"required":["a","b"]}]}', "{}",
+    g.holds("one_accepting_branch_is_enough", '{"oneOf":[{"type":"string"},{"maxLength":3}]}', '"long"')
+    g.holds("the_other_branch_is_enough", '{"oneOf":[{"type":"string"},{"maxLength":3}]}', "5")
+    g.fails("each_branch_tells_all_that_it_finds", '{"anyOf":[{"type":"integer"},{"required":["a","b"]}]}', "{}",
             ["{} is not valid under any of the schemas listed in the 'anyOf' keyword @ \"\", /anyOf "
              '[{{} is not of type "integer" @ "", /anyOf/0/type;}{"a" is a required property @ "", /anyOf/1/required;"b" is a required property @ "", /anyOf/1/required;}]'])
     inner = '"x" is not valid under any of the schemas listed in the \'anyOf\' keyword @ "", /anyOf/0/anyOf [{"x" is not of type "integer" @ "", /anyOf/0/anyOf/0/type;}{"x" is not of type "array" @ "", /anyOf/0/anyOf/1/type;}]'
-    g.fails("Branches_inside_a_branch_tell_theirs", '{"anyOf":[{"anyOf":[{"type":"integer"},{"type":"array"}]}]}', '"x"',
+    g.fails("branches_inside_a_branch_tell_theirs", '{"anyOf":[{"anyOf":[{"type":"integer"},{"type":"array"}]}]}', '"x"',
             ['"x" is not valid under any of the schemas listed in the \'anyOf\' keyword @ "", /anyOf [{' + inner + ";}]"])
-    g.fails("Inside_a_member_a_choice_and_its_branches_are_told_there", '{"properties":{"a":{"anyOf":[false]}}}', '{"a":1}',
+    g.fails("inside_a_member_a_choice_and_its_branches_are_told_there", '{"properties":{"a":{"anyOf":[false]}}}', '{"a":1}',
             ["1 is not valid under any of the schemas listed in the 'anyOf' keyword @ /a, /properties/a/anyOf [{False schema does not allow 1 @ /a, /properties/a/anyOf/0;}]"])
-    g.fails("One_of_in_a_branch_is_told_of_the_branch", '{"not":{"not":{"oneOf":[]}},"allOf":[{"oneOf":[]}]}', "1",
+    g.fails("one_of_in_a_branch_is_told_of_the_branch", '{"not":{"not":{"oneOf":[]}},"allOf":[{"oneOf":[]}]}', "1",
             ["1 is not valid under any of the schemas listed in the 'oneOf' keyword @ \"\", /allOf/0/oneOf []", '{"not":{"oneOf":[]}} is not allowed for 1 @ "", /not'])
-    g.fails("A_negation_shows_its_schema", '{"not":{"type":"string"}}', '"foo"', ['{"type":"string"} is not allowed for "foo" @ "", /not'])
-    g.fails("A_double_negation_shows_the_inner_one", '{"not":{"not":{"type":"string"}}}', "1", ['{"not":{"type":"string"}} is not allowed for 1 @ "", /not'])
-    g.fails("Inside_a_member_a_negation_is_told_there", '{"properties":{"a":{"not":true}}}', '{"a":1}', ["true is not allowed for 1 @ /a, /properties/a/not"])
-    g.fails("Where_the_condition_fails_else_applies", '{"if":{"minimum":0},"then":{"multipleOf":2},"else":{"multipleOf":2}}', "-1",
+    g.fails("a_negation_shows_its_schema", '{"not":{"type":"string"}}', '"foo"', ['{"type":"string"} is not allowed for "foo" @ "", /not'])
+    g.fails("a_double_negation_shows_the_inner_one", '{"not":{"not":{"type":"string"}}}', "1", ['{"not":{"type":"string"}} is not allowed for 1 @ "", /not'])
+    g.fails("inside_a_member_a_negation_is_told_there", '{"properties":{"a":{"not":true}}}', '{"a":1}', ["true is not allowed for 1 @ /a, /properties/a/not"])
+    g.fails("where_the_condition_fails_else_applies", '{"if":{"minimum":0},"then":{"multipleOf":2},"else":{"multipleOf":2}}', "-1",
             ['-1 is not a multiple of 2 @ "", /else/multipleOf'])
-    g.fails("Where_the_condition_holds_then_applies", '{"if":{"minimum":0},"then":{"multipleOf":2},"else":{"multipleOf":3}}', "3",
+    g.fails("where_the_condition_holds_then_applies", '{"if":{"minimum":0},"then":{"multipleOf":2},"else":{"multipleOf":3}}', "3",
             ['3 is not a multiple of 2 @ "", /then/multipleOf'])
-    g.holds("Then_alone_is_unread", '{"then":5}', "1")
-    g.builds("Then_alone_builds", '{"then":5}')
-    g.holds("Else_alone_is_unread", '{"else":false}', "1")
-    g.fails("Each_branch_of_all_of_is_asked", '{"allOf":[{"type":"string"},true,false]}', "1",
+    g.holds("then_alone_is_unread", '{"then":5}', "1")
+    g.builds("then_alone_builds", '{"then":5}')
+    g.holds("else_alone_is_unread", '{"else":false}', "1")
+    g.fails("each_branch_of_all_of_is_asked", '{"allOf":[{"type":"string"},true,false]}', "1",
             ['1 is not of type "string" @ "", /allOf/0/type', 'False schema does not allow 1 @ "", /allOf/2'])
-    g.fails("The_eleventh_branch_has_position_10", {"allOf": [True] * 10 + [False]}, "1", ['False schema does not allow 1 @ "", /allOf/10'])
+    g.fails("the_eleventh_branch_has_position_10", {"allOf": [True] * 10 + [False]}, "1", ['False schema does not allow 1 @ "", /allOf/10'])
     return g
 
 
@@ -416,37 +412,37 @@ def branches():
 
 def dependencies():
     g = Group("Rows_dependencies", "Dependencies between members, and schemas of member names.")
-    g.fails("A_name_listed_twice_is_told_twice", '{"dependencies":{"a":["b","b"]}}', '{"a":1}', ['"b" is a required property @ "", /dependencies'] * 2)
-    g.fails("A_dependent_schema_is_asked_of_the_object", '{"dependentSchemas":{"a":{"required":["b"]}}}', '{"a":1}',
+    g.fails("a_name_listed_twice_is_told_twice", '{"dependencies":{"a":["b","b"]}}', '{"a":1}', ['"b" is a required property @ "", /dependencies'] * 2)
+    g.fails("a_dependent_schema_is_asked_of_the_object", '{"dependentSchemas":{"a":{"required":["b"]}}}', '{"a":1}',
             ['"b" is a required property @ "", /dependentSchemas/a/required'])
-    g.fails("A_short_name_is_told_of_the_object", '{"propertyNames":{"minLength":2}}', '{"f":1}', ['"f" is shorter than 2 characters @ "", /propertyNames/minLength'])
-    g.is_about("Its_instance_is_the_object", '{"propertyNames":{"minLength":2}}', '{"f":1}', ['{"f":1}'])
-    g.fails("Each_short_name_is_told", '{"propertyNames":{"minLength":2}}', '{"a":1,"b":2}', ['"%s" is shorter than 2 characters @ "", /propertyNames/minLength' % n for n in "ab"])
-    g.fails("All_faults_of_a_name_are_told", '{"propertyNames":{"minLength":2,"const":"b"}}', '{"a":1}',
+    g.fails("a_short_name_is_told_of_the_object", '{"propertyNames":{"minLength":2}}', '{"f":1}', ['"f" is shorter than 2 characters @ "", /propertyNames/minLength'])
+    g.is_about("its_instance_is_the_object", '{"propertyNames":{"minLength":2}}', '{"f":1}', ['{"f":1}'])
+    g.fails("each_short_name_is_told", '{"propertyNames":{"minLength":2}}', '{"a":1,"b":2}', ['"%s" is shorter than 2 characters @ "", /propertyNames/minLength' % n for n in "ab"])
+    g.fails("all_faults_of_a_name_are_told", '{"propertyNames":{"minLength":2,"const":"b"}}', '{"a":1}',
             ['"a" is shorter than 2 characters @ "", /propertyNames/minLength', '"b" was expected @ "", /propertyNames/const'])
     for name, inner, line in (
-        ("Inside_a_member_a_long_name_is_told_there", '{"propertyNames":{"maxLength":0}}', '"b" is longer than 0 characters @ /a, /properties/a/propertyNames/maxLength'),
-        ("Inside_a_member_a_dependent_name_is_told_there", '{"dependentRequired":{"b":["c"]}}', '"c" is a required property @ /a, /properties/a/dependentRequired'),
+        ("inside_a_member_a_long_name_is_told_there", '{"propertyNames":{"maxLength":0}}', '"b" is longer than 0 characters @ /a, /properties/a/propertyNames/maxLength'),
+        ("inside_a_member_a_dependent_name_is_told_there", '{"dependentRequired":{"b":["c"]}}', '"c" is a required property @ /a, /properties/a/dependentRequired'),
     ):
         g.fails(name, '{"properties":{"a":%s}}' % inner, '{"a":{"b":1}}', [line])
-    g.fails("No_name_is_allowed", '{"propertyNames":false}', '{"foo":1}', ['False schema does not allow {"foo":1} @ "", /propertyNames'])
-    g.fails("Two_names_that_are_not_allowed_are_one_fault", '{"propertyNames":false}', '{"a":1,"b":2}', ['False schema does not allow {"a":1,"b":2} @ "", /propertyNames'])
-    g.holds("True_allows_each_name", '{"propertyNames":true}', '{"a":1}')
-    g.holds("A_list_is_of_its_key_alone", '{"dependentRequired":{"a":["b"]}}', '{"c":1}')
-    g.holds("A_list_of_a_dependency_is_of_its_key_alone", '{"dependencies":{"a":["b"]}}', "{}")
-    g.holds("A_dependent_schema_is_of_its_key_alone", '{"dependentSchemas":{"a":false}}', "{}")
-    g.holds("A_schema_is_of_its_key_alone", '{"dependencies":{"a":false}}', "{}")
-    g.holds("No_names_are_none_refused", '{"propertyNames":false}', "{}")
-    g.holds("A_name_is_no_object", '{"propertyNames":{"properties":{"a":false}}}', '{"a":1}')
+    g.fails("no_name_is_allowed", '{"propertyNames":false}', '{"foo":1}', ['False schema does not allow {"foo":1} @ "", /propertyNames'])
+    g.fails("two_names_that_are_not_allowed_are_one_fault", '{"propertyNames":false}', '{"a":1,"b":2}', ['False schema does not allow {"a":1,"b":2} @ "", /propertyNames'])
+    g.holds("true_allows_each_name", '{"propertyNames":true}', '{"a":1}')
+    g.holds("a_list_is_of_its_key_alone", '{"dependentRequired":{"a":["b"]}}', '{"c":1}')
+    g.holds("a_list_of_a_dependency_is_of_its_key_alone", '{"dependencies":{"a":["b"]}}', "{}")
+    g.holds("a_dependent_schema_is_of_its_key_alone", '{"dependentSchemas":{"a":false}}', "{}")
+    g.holds("a_schema_is_of_its_key_alone", '{"dependencies":{"a":false}}', "{}")
+    g.holds("no_names_are_none_refused", '{"propertyNames":false}', "{}")
+    g.holds("a_name_is_no_object", '{"propertyNames":{"properties":{"a":false}}}', '{"a":1}')
     kind = g.schema("by_kind", '{"propertyDependencies":{"kind":{"a":{"required":["x"]},"b":false}}}')
-    g.fails("A_text_chooses_its_schema", kind, '{"kind":"a"}', ['"x" is a required property @ "", /propertyDependencies/kind/a/required'])
-    g.fails("A_text_chooses_a_false_schema", kind, '{"kind":"b"}', ['False schema does not allow {"kind":"b"} @ "", /propertyDependencies/kind/b'])
-    for n, v in (("Another_text_chooses_none", '{"kind":"c"}'), ("A_number_chooses_none", '{"kind":1}'), ("An_absent_member_chooses_none", "{}"), ("Another_value_chooses_none", '"a"')):
+    g.fails("a_text_chooses_its_schema", kind, '{"kind":"a"}', ['"x" is a required property @ "", /propertyDependencies/kind/a/required'])
+    g.fails("a_text_chooses_a_false_schema", kind, '{"kind":"b"}', ['False schema does not allow {"kind":"b"} @ "", /propertyDependencies/kind/b'])
+    for n, v in (("another_text_chooses_none", '{"kind":"c"}'), ("a_number_chooses_none", '{"kind":1}'), ("an_absent_member_chooses_none", "{}"), ("another_value_chooses_none", '"a"')):
         g.holds(n, kind, v)
-    g.holds("Null_is_not_the_text_null", '{"propertyDependencies":{"k":{"null":false}}}', '{"k":null}')
-    g.holds("A_number_is_not_the_text_of_its_digits", '{"propertyDependencies":{"k":{"1":false}}}', '{"k":1}')
-    g.fails("The_second_key_chooses_too", '{"propertyDependencies":{"a":{},"b":{"x":false}}}', '{"b":"x"}', ['False schema does not allow {"b":"x"} @ "", /propertyDependencies/b/x'])
-    g.fails("The_empty_text_chooses_too", '{"propertyDependencies":{"k":{"":false}}}', '{"k":""}',
+    g.holds("null_is_not_the_text_null", '{"propertyDependencies":{"k":{"null":false}}}', '{"k":null}')
+    g.holds("a_number_is_not_the_text_of_its_digits", '{"propertyDependencies":{"k":{"1":false}}}', '{"k":1}')
+    g.fails("the_second_key_chooses_too", '{"propertyDependencies":{"a":{},"b":{"x":false}}}', '{"b":"x"}', ['False schema does not allow {"b":"x"} @ "", /propertyDependencies/b/x'])
+    g.fails("the_empty_text_chooses_too", '{"propertyDependencies":{"k":{"":false}}}', '{"k":""}',
             ['False schema does not allow {"k":""} @ "", /propertyDependencies/k/'])
     return g
 
@@ -457,39 +453,39 @@ def dependencies():
 def refusals():
     g = Group("Rows_refusals", "Malformed schemas, each with all that is wrong with it.")
     for n, s, l in (
-        ("A_refused_pattern", '{"patternProperties":{"a/b~(":{}}}', '"a/b~(" is not a "regex" @ "", /patternProperties/a~1b~0('),
-        ("Declared_names_that_are_no_object", '{"properties":5,"additionalProperties":false}', '5 is not of type "object" @ "", /properties'),
-        ("A_reference_inside", '{"properties":{"a":{"$ref":"#"}}}', '"$ref" is not supported here @ "", /properties/a/$ref'),
-        ("A_list_with_a_repeated_name", '{"dependentRequired":{"a":["b","b"]}}', '["b","b"] has non-unique elements @ "", /dependentRequired/a'),
-        ("A_read_condition_that_is_no_schema", '{"if":5,"then":{}}', '5 is not of types "boolean", "object" @ "", /if'),
-        ("A_branch_that_is_no_schema", '{"allOf":[5]}', '5 is not of types "boolean", "object" @ "", /allOf/0'),
-        ("A_leaf_value_that_does_not_fit", '{"type":"text"}', '"text" is not a value for "type" @ "", /type'),
-        ("A_listed_name_that_is_no_text", '{"dependencies":{"a":[1]}}', '1 is not of type "string" @ "", /dependencies'),
-        ("Equal_items_that_are_no_texts", '{"dependentRequired":{"a":[1,1]}}', '1 is not of type "string" @ "", /dependentRequired'),
-        ("A_repeated_name_before_another_item", '{"dependentRequired":{"a":["b","b",1]}}', '["b","b",1] has non-unique elements @ "", /dependentRequired/a'),
-        ("Additional_properties_that_are_no_schema", '{"additionalProperties":5,"properties":{"a":{}}}', '5 is not of types "boolean", "object" @ "", /additionalProperties'),
-        ("A_required_item_that_is_no_text", '{"properties":{"a":{}},"additionalProperties":false,"required":[5]}', '5 is not of type "string" @ "", /required'),
-        ("A_reference_in_a_branch", '{"allOf":[{"$ref":"#"},{"type":"integer"}]}', '"$ref" is not supported here @ "", /allOf/0/$ref'),
-        ("Property_dependencies_that_are_no_object", '{"propertyDependencies":5}', '5 is not of type "object" @ "", /propertyDependencies'),
-        ("An_entry_of_property_dependencies_that_is_no_object", '{"propertyDependencies":{"k":5}}', '5 is not of type "object" @ "", /propertyDependencies/k'),
-        ("A_schema_of_property_dependencies_that_is_none", '{"propertyDependencies":{"k":{"t/u":5}}}', '5 is not of types "boolean", "object" @ "", /propertyDependencies/k/t~1u'),
-        ("A_root_that_is_no_schema", "5", '5 is not of types "boolean", "object" @ "", ""'),
-        ("The_first_of_two_items_that_are_no_texts", '{"required":[1,2]}', '1 is not of type "string" @ "", /required'),
-        ("A_name_repeated_behind_another", '{"dependentRequired":{"a":["b","c","b"]}}', '["b","c","b"] has non-unique elements @ "", /dependentRequired/a'),
-        ("A_name_repeated_after_another", '{"dependentRequired":{"a":["c","b","b"]}}', '["c","b","b"] has non-unique elements @ "", /dependentRequired/a'),
-        ("Beside_else_a_condition_is_read", '{"if":5,"else":{}}', '5 is not of types "boolean", "object" @ "", /if'),
-        ("Beside_patterns_an_additional_schema_is_read", '{"patternProperties":{},"additionalProperties":{"not":5}}', '5 is not of types "boolean", "object" @ "", /additionalProperties/not'),
-        ("The_second_branch_of_one_of_is_read", '{"oneOf":[{},5]}', '5 is not of types "boolean", "object" @ "", /oneOf/1'),
-        ("The_second_dependent_schema_is_read", '{"dependentSchemas":{"a":{},"b":5}}', '5 is not of types "boolean", "object" @ "", /dependentSchemas/b'),
-        ("The_second_schema_of_dependencies_is_read", '{"dependencies":{"a":{},"b":5}}', '5 is not of types "boolean", "object" @ "", /dependencies/b'),
-        ("The_second_list_of_dependencies_is_checked", '{"dependencies":{"a":[],"b":[5]}}', '5 is not of type "string" @ "", /dependencies'),
-        ("The_second_entry_of_property_dependencies_is_checked", '{"propertyDependencies":{"a":{},"b":5}}', '5 is not of type "object" @ "", /propertyDependencies/b'),
-        ("The_second_entry_of_property_dependencies_is_read", '{"propertyDependencies":{"a":{},"b":{"x":5}}}', '5 is not of types "boolean", "object" @ "", /propertyDependencies/b/x'),
+        ("a_refused_pattern", '{"patternProperties":{"a/b~(":{}}}', '"a/b~(" is not a "regex" @ "", /patternProperties/a~1b~0('),
+        ("declared_names_that_are_no_object", '{"properties":5,"additionalProperties":false}', '5 is not of type "object" @ "", /properties'),
+        ("a_reference_inside", '{"properties":{"a":{"$ref":"#"}}}', '"$ref" is not supported here @ "", /properties/a/$ref'),
+        ("a_list_with_a_repeated_name", '{"dependentRequired":{"a":["b","b"]}}', '["b","b"] has non-unique elements @ "", /dependentRequired/a'),
+        ("a_read_condition_that_is_no_schema", '{"if":5,"then":{}}', '5 is not of types "boolean", "object" @ "", /if'),
+        ("a_branch_that_is_no_schema", '{"allOf":[5]}', '5 is not of types "boolean", "object" @ "", /allOf/0'),
+        ("a_leaf_value_that_does_not_fit", '{"type":"text"}', '"text" is not a value for "type" @ "", /type'),
+        ("a_listed_name_that_is_no_text", '{"dependencies":{"a":[1]}}', '1 is not of type "string" @ "", /dependencies'),
+        ("equal_items_that_are_no_texts", '{"dependentRequired":{"a":[1,1]}}', '1 is not of type "string" @ "", /dependentRequired'),
+        ("a_repeated_name_before_another_item", '{"dependentRequired":{"a":["b","b",1]}}', '["b","b",1] has non-unique elements @ "", /dependentRequired/a'),
+        ("additional_properties_that_are_no_schema", '{"additionalProperties":5,"properties":{"a":{}}}', '5 is not of types "boolean", "object" @ "", /additionalProperties'),
+        ("a_required_item_that_is_no_text", '{"properties":{"a":{}},"additionalProperties":false,"required":[5]}', '5 is not of type "string" @ "", /required'),
+        ("a_reference_in_a_branch", '{"allOf":[{"$ref":"#"},{"type":"integer"}]}', '"$ref" is not supported here @ "", /allOf/0/$ref'),
+        ("property_dependencies_that_are_no_object", '{"propertyDependencies":5}', '5 is not of type "object" @ "", /propertyDependencies'),
+        ("an_entry_of_property_dependencies_that_is_no_object", '{"propertyDependencies":{"k":5}}', '5 is not of type "object" @ "", /propertyDependencies/k'),
+        ("a_schema_of_property_dependencies_that_is_none", '{"propertyDependencies":{"k":{"t/u":5}}}', '5 is not of types "boolean", "object" @ "", /propertyDependencies/k/t~1u'),
+        ("a_root_that_is_no_schema", "5", '5 is not of types "boolean", "object" @ "", ""'),
+        ("the_first_of_two_items_that_are_no_texts", '{"required":[1,2]}', '1 is not of type "string" @ "", /required'),
+        ("a_name_repeated_behind_another", '{"dependentRequired":{"a":["b","c","b"]}}', '["b","c","b"] has non-unique elements @ "", /dependentRequired/a'),
+        ("a_name_repeated_after_another", '{"dependentRequired":{"a":["c","b","b"]}}', '["c","b","b"] has non-unique elements @ "", /dependentRequired/a'),
+        ("beside_else_a_condition_is_read", '{"if":5,"else":{}}', '5 is not of types "boolean", "object" @ "", /if'),
+        ("beside_patterns_an_additional_schema_is_read", '{"patternProperties":{},"additionalProperties":{"not":5}}', '5 is not of types "boolean", "object" @ "", /additionalProperties/not'),
+        ("the_second_branch_of_one_of_is_read", '{"oneOf":[{},5]}', '5 is not of types "boolean", "object" @ "", /oneOf/1'),
+        ("the_second_dependent_schema_is_read", '{"dependentSchemas":{"a":{},"b":5}}', '5 is not of types "boolean", "object" @ "", /dependentSchemas/b'),
+        ("the_second_schema_of_dependencies_is_read", '{"dependencies":{"a":{},"b":5}}', '5 is not of types "boolean", "object" @ "", /dependencies/b'),
+        ("the_second_list_of_dependencies_is_checked", '{"dependencies":{"a":[],"b":[5]}}', '5 is not of type "string" @ "", /dependencies'),
+        ("the_second_entry_of_property_dependencies_is_checked", '{"propertyDependencies":{"a":{},"b":5}}', '5 is not of type "object" @ "", /propertyDependencies/b'),
+        ("the_second_entry_of_property_dependencies_is_read", '{"propertyDependencies":{"a":{},"b":{"x":5}}}', '5 is not of types "boolean", "object" @ "", /propertyDependencies/b/x'),
     ):
         g.is_refused(n, s, [l])
-    g.is_refused("Each_refused_pattern_is_told", '{"patternProperties":{"a(":{},"b(":{}}}', ['"%s(" is not a "regex" @ "", /patternProperties/%s(' % (n, n) for n in "ab"])
-    g.is_refused("Each_entry_that_is_no_list_is_told", '{"dependentRequired":{"a":5,"b":5}}', ['5 is not of type "array" @ "", /dependentRequired/%s' % n for n in "ab"])
-    g.is_always_refused("A_reference_is_refused_whatever_the_leaves_read", '{"$ref":"#"}', ['"$ref" is not supported here @ "", /$ref'])
+    g.is_refused("each_refused_pattern_is_told", '{"patternProperties":{"a(":{},"b(":{}}}', ['"%s(" is not a "regex" @ "", /patternProperties/%s(' % (n, n) for n in "ab"])
+    g.is_refused("each_entry_that_is_no_list_is_told", '{"dependentRequired":{"a":5,"b":5}}', ['5 is not of type "array" @ "", /dependentRequired/%s' % n for n in "ab"])
+    g.is_always_refused("a_reference_is_refused_whatever_the_leaves_read", '{"$ref":"#"}', ['"$ref" is not supported here @ "", /$ref'])
     bad = [('{"%s":5}' % k, '5 is not of type "%s"' % t, "/" + k)
             for t, ks in (("object", ("properties", "patternProperties", "dependentRequired", "dependentSchemas", "dependencies", "propertyDependencies")),
                           ("array", ("required", "allOf", "anyOf", "oneOf"))) for k in ks]
@@ -502,23 +498,23 @@ def refusals():
     inside = g.table("wrong_inside", bad)
     alone = g.table("no_schema", [("5", '5 is not of types "boolean", "object"', "")])
     for label, place, path in (
-        ("At_the_root", "%s", ""), ("In_properties", '{"properties":{"n":%s}}', "/properties/n"), ("In_pattern_properties", '{"patternProperties":{"n":%s}}', "/patternProperties/n"),
-        ("In_additional_properties", '{"additionalProperties":%s}', "/additionalProperties"), ("In_property_names", '{"propertyNames":%s}', "/propertyNames"),
-        ("In_dependent_schemas", '{"dependentSchemas":{"n":%s}}', "/dependentSchemas/n"), ("In_dependencies", '{"dependencies":{"n":%s}}', "/dependencies/n"),
-        ("In_property_dependencies", '{"propertyDependencies":{"n":{"t":%s}}}', "/propertyDependencies/n/t"),
-        ("In_all_of", '{"allOf":[%s]}', "/allOf/0"), ("In_any_of", '{"anyOf":[true,%s]}', "/anyOf/1"), ("In_one_of", '{"oneOf":[%s]}', "/oneOf/0"), ("In_not", '{"not":%s}', "/not"),
-        ("In_if", '{"if":%s,"then":{}}', "/if"), ("In_then", '{"if":{},"then":%s}', "/then"), ("In_else", '{"if":{},"else":%s}', "/else"),
+        ("at_the_root", "%s", ""), ("in_properties", '{"properties":{"n":%s}}', "/properties/n"), ("in_pattern_properties", '{"patternProperties":{"n":%s}}', "/patternProperties/n"),
+        ("in_additional_properties", '{"additionalProperties":%s}', "/additionalProperties"), ("in_property_names", '{"propertyNames":%s}', "/propertyNames"),
+        ("in_dependent_schemas", '{"dependentSchemas":{"n":%s}}', "/dependentSchemas/n"), ("in_dependencies", '{"dependencies":{"n":%s}}', "/dependencies/n"),
+        ("in_property_dependencies", '{"propertyDependencies":{"n":{"t":%s}}}', "/propertyDependencies/n/t"),
+        ("in_all_of", '{"allOf":[%s]}', "/allOf/0"), ("in_any_of", '{"anyOf":[true,%s]}', "/anyOf/1"), ("in_one_of", '{"oneOf":[%s]}', "/oneOf/0"), ("in_not", '{"not":%s}', "/not"),
+        ("in_if", '{"if":%s,"then":{}}', "/if"), ("in_then", '{"if":{},"then":%s}', "/then"), ("in_else", '{"if":{},"else":%s}', "/else"),
     ):
         g.are_refused_at(label, path, place, inside)
-        if label not in ("At_the_root", "In_property_names"):
-            g.are_refused_at(label.replace("In_", "No_schema_in_"), path, place, alone)
-    g.builds("A_condition_alone_builds", '{"if":5}')
-    g.builds("An_ignored_keyword_holds_no_schema", '{"x":{"$ref":1}}')
-    g.builds("Names_that_are_neither_false_nor_an_object_build", '{"propertyNames":5}')
-    g.builds("Null_for_names_builds", '{"propertyNames":null}')
-    g.builds("A_test_that_the_matcher_refuses_builds", '{"patternProperties":{"^(a|b)$":{}}}')
-    g.builds("Else_alone_builds", '{"else":5}')
-    g.builds("A_dependency_may_list_a_name_twice", '{"dependencies":{"a":["b","b"]}}')
+        if label not in ("at_the_root", "in_property_names"):
+            g.are_refused_at(label.replace("in_", "no_schema_in_", 1), path, place, alone)
+    g.builds("a_condition_alone_builds", '{"if":5}')
+    g.builds("an_ignored_keyword_holds_no_schema", '{"x":{"$ref":1}}')
+    g.builds("names_that_are_neither_false_nor_an_object_build", '{"propertyNames":5}')
+    g.builds("null_for_names_builds", '{"propertyNames":null}')
+    g.builds("a_test_that_the_matcher_refuses_builds", '{"patternProperties":{"^(a|b)$":{}}}')
+    g.builds("else_alone_builds", '{"else":5}')
+    g.builds("a_dependency_may_list_a_name_twice", '{"dependencies":{"a":["b","b"]}}')
     return g
 
 
@@ -528,61 +524,61 @@ def refusals():
 def costs():
     g = Group("Rows_costs", "What a build counts, and how many matchers a verdict may ask.")
     slow = g.schema("slow_declared", '{"properties":{"ax":{}},"patternProperties":{"(slow)x":{"type":"integer"}},"additionalProperties":false}')
-    g.costs("A_matcher_is_asked_for_a_declared_name", slow, 3, 1, 1, 1)
-    g.asks("An_unfinished_entry_is_asked_again", slow, '{"ax":"t"}', 1)
+    g.costs("a_matcher_is_asked_for_a_declared_name", slow, 3, 1, 1, 1)
+    g.asks("an_unfinished_entry_is_asked_again", slow, '{"ax":"t"}', 1)
     two = g.schema("prefix_and_suffix", '{"patternProperties":{"^x":{},"spam$":{"type":"integer"}}}')
-    g.costs("Tests_make_no_matcher", two, 3, 1, 0, 0)
-    g.asks("Tests_ask_no_matcher", two, '{"x1":"t"}', 0)
-    g.costs("Patterns_beside_true_are_compiled_once", '{"additionalProperties":true,"patternProperties":{"^x":{"type":"integer"}}}', 2, 1, 0, 0)
+    g.costs("tests_make_no_matcher", two, 3, 1, 0, 0)
+    g.asks("tests_ask_no_matcher", two, '{"x1":"t"}', 0)
+    g.costs("patterns_beside_true_are_compiled_once", '{"additionalProperties":true,"patternProperties":{"^x":{"type":"integer"}}}', 2, 1, 0, 0)
     shut = g.schema("closed_suffix", '{"properties":{"a":{},"bspam":{}},"patternProperties":{"spam$":{}},"additionalProperties":false}')
-    g.costs("A_table_of_tests_asks_no_matcher", shut, 4, 0, 0, 0)
-    g.asks("Declared_names_ask_no_matcher", shut, '{"a":1,"bspam":2}', 0)
-    g.asks("Other_names_ask_no_matcher", shut, '{"a":1,"xspam":1}', 0)
-    g.costs("A_condition_that_is_read_is_compiled", '{"allOf":[{"if":{"type":"integer"},"then":{"minimum":1}},true]}', 5, 2, 0, 0)
-    g.costs("A_condition_alone_is_not_compiled", '{"if":{"type":"integer"}}', 1, 0, 0, 0)
-    g.costs("True_for_names_is_not_compiled", '{"propertyNames":true}', 1, 0, 0, 0)
-    g.costs("False_for_names_is_not_compiled", '{"propertyNames":false}', 1, 0, 0, 0)
-    g.costs("A_name_list_is_not_compiled", '{"dependencies":{"a":["b"],"c":{}}}', 2, 0, 0, 0)
+    g.costs("a_table_of_tests_asks_no_matcher", shut, 4, 0, 0, 0)
+    g.asks("declared_names_ask_no_matcher", shut, '{"a":1,"bspam":2}', 0)
+    g.asks("other_names_ask_no_matcher", shut, '{"a":1,"xspam":1}', 0)
+    g.costs("a_condition_that_is_read_is_compiled", '{"allOf":[{"if":{"type":"integer"},"then":{"minimum":1}},true]}', 5, 2, 0, 0)
+    g.costs("a_condition_alone_is_not_compiled", '{"if":{"type":"integer"}}', 1, 0, 0, 0)
+    g.costs("true_for_names_is_not_compiled", '{"propertyNames":true}', 1, 0, 0, 0)
+    g.costs("false_for_names_is_not_compiled", '{"propertyNames":false}', 1, 0, 0, 0)
+    g.costs("a_name_list_is_not_compiled", '{"dependencies":{"a":["b"],"c":{}}}', 2, 0, 0, 0)
     three = g.schema("three_patterns", '{"additionalProperties":false,"properties":{"a":{},"b":{}},"patternProperties":{"x":{},"y$":{},"^z":{}}}')
-    g.costs("One_of_three_patterns_makes_a_matcher", three, 6, 0, 1, 2)
-    g.asks("One_of_three_patterns_asks_a_matcher", three, '{"c":1}', 1)
-    g.costs("Schemas_chosen_by_a_text_are_compiled", '{"propertyDependencies":{"k":{"a":{"type":"string"},"b":{}}}}', 3, 1, 0, 0)
-    g.asks("Patterns_inside_patterns_are_asked", '{"patternProperties":{"a":{"patternProperties":{"b":{}}}}}', '{"a":{"b":1},"c":2}', 3)
-    g.asks("Each_branch_may_be_asked", '{"anyOf":[true,{"patternProperties":{"x":{}}}]}', '{"x":1}', 1)
-    g.asks("Each_member_asks_the_matcher", '{"patternProperties":{"(slow)x":{"type":"integer"}}}', '{"ax":"t","b":"t"}', 2)
+    g.costs("one_of_three_patterns_makes_a_matcher", three, 6, 0, 1, 2)
+    g.asks("one_of_three_patterns_asks_a_matcher", three, '{"c":1}', 1)
+    g.costs("schemas_chosen_by_a_text_are_compiled", '{"propertyDependencies":{"k":{"a":{"type":"string"},"b":{}}}}', 3, 1, 0, 0)
+    g.asks("patterns_inside_patterns_are_asked", '{"patternProperties":{"a":{"patternProperties":{"b":{}}}}}', '{"a":{"b":1},"c":2}', 3)
+    g.asks("each_branch_may_be_asked", '{"anyOf":[true,{"patternProperties":{"x":{}}}]}', '{"x":1}', 1)
+    g.asks("each_member_asks_the_matcher", '{"patternProperties":{"(slow)x":{"type":"integer"}}}', '{"ax":"t","b":"t"}', 2)
     open_object = g.schema("one_name_and_one_pattern", '{"properties":{"b":{}},"patternProperties":{"a":{}}}')
-    g.costs("Without_additional_properties_there_is_no_table", open_object, 3, 0, 1, 0)
-    g.asks("Without_a_table_a_declared_name_asks", open_object, '{"b":1}', 1)
+    g.costs("without_additional_properties_there_is_no_table", open_object, 3, 0, 1, 0)
+    g.asks("without_a_table_a_declared_name_asks", open_object, '{"b":1}', 1)
     table = g.schema("beside_an_additional_schema", '{"properties":{"a":{}},"patternProperties":{"x":{}},"additionalProperties":{}}')
-    g.costs("Beside_an_additional_schema_there_is_a_table", table, 4, 0, 1, 1)
-    g.asks("Beside_an_additional_schema_a_declared_name_asks_nothing", table, '{"a":1}', 0)
+    g.costs("beside_an_additional_schema_there_is_a_table", table, 4, 0, 1, 1)
+    g.asks("beside_an_additional_schema_a_declared_name_asks_nothing", table, '{"a":1}', 0)
     for name, schema in (
-        ("A_negation_asks", '{"not":{"patternProperties":{"a":false}}}'),
-        ("A_branch_of_one_of_asks", '{"oneOf":[{"patternProperties":{"a":false}}]}'),
-        ("The_second_branch_of_one_of_asks", '{"oneOf":[{},{"patternProperties":{"a":false}}]}'),
-        ("The_third_branch_of_any_of_asks", '{"anyOf":[{},{},{"patternProperties":{"a":false}}]}'),
-        ("A_condition_asks", '{"if":{"patternProperties":{"a":false}},"then":true}'),
-        ("Beside_else_a_condition_asks", '{"if":{"patternProperties":{"a":false}},"else":true}'),
-        ("What_applies_where_the_condition_holds_asks", '{"if":true,"then":{"patternProperties":{"a":{}}}}'),
-        ("A_dependent_schema_asks", '{"dependentSchemas":{"b":{"patternProperties":{"a":{}}}}}'),
+        ("a_negation_asks", '{"not":{"patternProperties":{"a":false}}}'),
+        ("a_branch_of_one_of_asks", '{"oneOf":[{"patternProperties":{"a":false}}]}'),
+        ("the_second_branch_of_one_of_asks", '{"oneOf":[{},{"patternProperties":{"a":false}}]}'),
+        ("the_third_branch_of_any_of_asks", '{"anyOf":[{},{},{"patternProperties":{"a":false}}]}'),
+        ("a_condition_asks", '{"if":{"patternProperties":{"a":false}},"then":true}'),
+        ("beside_else_a_condition_asks", '{"if":{"patternProperties":{"a":false}},"else":true}'),
+        ("what_applies_where_the_condition_holds_asks", '{"if":true,"then":{"patternProperties":{"a":{}}}}'),
+        ("a_dependent_schema_asks", '{"dependentSchemas":{"b":{"patternProperties":{"a":{}}}}}'),
     ):
         g.asks(name, schema, '{"b":1}', 1)
-    g.asks("A_schema_chosen_by_a_text_asks", '{"propertyDependencies":{"k":{"t":{"patternProperties":{"a":{}}}}}}', '{"k":"t"}', 1)
-    g.asks("An_additional_schema_asks", '{"additionalProperties":{"patternProperties":{"a":{}}}}', '{"b":{"c":1}}', 1)
-    g.costs("A_member_and_its_leaf_are_counted", '{"properties":{"a":{"type":"integer"}}}', 2, 1, 0, 0)
-    g.costs("Else_alone_is_not_compiled", '{"else":false}', 1, 0, 0, 0)
-    g.costs("A_schema_of_a_dependency_is_compiled", '{"dependencies":{"a":false}}', 2, 0, 0, 0)
-    g.costs("A_dependent_schema_is_compiled", '{"dependentSchemas":{"a":{}}}', 2, 0, 0, 0)
-    g.costs("An_additional_schema_is_compiled", '{"additionalProperties":{}}', 2, 0, 0, 0)
-    g.costs("Each_branch_of_one_of_is_compiled", '{"oneOf":[{},{}]}', 3, 0, 0, 0)
-    g.costs("Patterns_in_a_branch_make_matchers", '{"allOf":[{"patternProperties":{"a":{}}}]}', 3, 0, 1, 0)
+    g.asks("a_schema_chosen_by_a_text_asks", '{"propertyDependencies":{"k":{"t":{"patternProperties":{"a":{}}}}}}', '{"k":"t"}', 1)
+    g.asks("an_additional_schema_asks", '{"additionalProperties":{"patternProperties":{"a":{}}}}', '{"b":{"c":1}}', 1)
+    g.costs("a_member_and_its_leaf_are_counted", '{"properties":{"a":{"type":"integer"}}}', 2, 1, 0, 0)
+    g.costs("else_alone_is_not_compiled", '{"else":false}', 1, 0, 0, 0)
+    g.costs("a_schema_of_a_dependency_is_compiled", '{"dependencies":{"a":false}}', 2, 0, 0, 0)
+    g.costs("a_dependent_schema_is_compiled", '{"dependentSchemas":{"a":{}}}', 2, 0, 0, 0)
+    g.costs("an_additional_schema_is_compiled", '{"additionalProperties":{}}', 2, 0, 0, 0)
+    g.costs("each_branch_of_one_of_is_compiled", '{"oneOf":[{},{}]}', 3, 0, 0, 0)
+    g.costs("patterns_in_a_branch_make_matchers", '{"allOf":[{"patternProperties":{"a":{}}}]}', 3, 0, 1, 0)
     names = {"m%02d" % i: {} for i in range(65)}
     wide = g.schema("patterns_65", {"additionalProperties": False, "properties": {"m64": {}}, "patternProperties": names})
     wider = g.schema("patterns_66", {"additionalProperties": False, "properties": {"m64": {}}, "patternProperties": {"(slow)m64": False, **names}})
-    g.costs("A_table_of_65_patterns", wide, 67, 0, 65, 65)
-    g.costs("A_table_of_66_patterns", wider, 68, 0, 66, 66)
-    g.asks("No_entry_of_65_is_asked_again", wide, '{"m64":1}', 0)
-    g.asks("One_entry_of_66_is_asked_again", wider, '{"m64":1}', 1)
+    g.costs("a_table_of_65_patterns", wide, 67, 0, 65, 65)
+    g.costs("a_table_of_66_patterns", wider, 68, 0, 66, 66)
+    g.asks("no_entry_of_65_is_asked_again", wide, '{"m64":1}', 0)
+    g.asks("one_entry_of_66_is_asked_again", wider, '{"m64":1}', 1)
     return g
 
 
@@ -592,37 +588,37 @@ def costs():
 def evaluation():
     g = Group("Rows_evaluation", "Evaluation trees.")
     two = g.schema("two_required", '{"properties":{"a":{"type":"integer"},"b":{"type":"string"}},"required":["a","b"]}')
-    g.evaluates("The_names_met_are_shown", two, '{"a":1,"b":"x"}',
+    g.evaluates("the_names_met_are_shown", two, '{"a":1,"b":"x"}',
                 '{"annotations":[{"instancePath":"","names":["a","b"],"schemaPath":"/properties"}],"errors":[],"valid":true}')
-    g.has_nodes("A_fused_validator_stands_at_its_keyword", two, '{"a":1,"b":"x"}',
+    g.has_nodes("a_fused_validator_stands_at_its_keyword", two, '{"a":1,"b":"x"}',
                 '""(/properties(/properties/a(/properties/a/type))(/properties/b(/properties/b/type)))')
 
     def missing(n):
         return '{"instancePath":"","keyword":"required","message":"\\"%s\\" is a required property","schemaPath":"/required"}' % n
 
-    g.evaluates("Two_missing_names_are_two_errors", two, "{}", '{"annotations":[],"errors":[%s,%s],"valid":false}' % (missing("a"), missing("b")))
-    g.evaluates("A_missing_name_is_a_child_at_required", '{"properties":{"a":{}},"additionalProperties":false,"required":["z"]}', "{}",
+    g.evaluates("two_missing_names_are_two_errors", two, "{}", '{"annotations":[],"errors":[%s,%s],"valid":false}' % (missing("a"), missing("b")))
+    g.evaluates("a_missing_name_is_a_child_at_required", '{"properties":{"a":{}},"additionalProperties":false,"required":["z"]}', "{}",
                 '{"annotations":[],"errors":[%s],"valid":false}' % missing("z"))
-    g.evaluates("A_name_for_each_match", '{"patternProperties":{"^a":{},"^ab":{}}}', '{"abc":1}',
+    g.evaluates("a_name_for_each_match", '{"patternProperties":{"^a":{},"^ab":{}}}', '{"abc":1}',
                 '{"annotations":[{"instancePath":"","names":["abc","abc"],"schemaPath":"/patternProperties"}],"errors":[],"valid":true}')
-    g.evaluates("More_than_one_branch_is_an_own_error", '{"oneOf":[{"type":"string"},{"maxLength":3}]}', '""',
+    g.evaluates("more_than_one_branch_is_an_own_error", '{"oneOf":[{"type":"string"},{"maxLength":3}]}', '""',
                 '{"annotations":[],"errors":[{"instancePath":"","keyword":"oneOf","message":"more than one subschema succeeded","schemaPath":"/oneOf"}],"valid":false}')
-    g.evaluates("Matches_stand_in_a_child_of_their_own", '{"additionalProperties":{"type":"integer"},"patternProperties":{"^x":{}}}', '{"x1":"t","y":2}',
+    g.evaluates("matches_stand_in_a_child_of_their_own", '{"additionalProperties":{"type":"integer"},"patternProperties":{"^x":{}}}', '{"x1":"t","y":2}',
                 '{"annotations":[{"instancePath":"","names":["y"],"schemaPath":"/additionalProperties"},{"instancePath":"","names":["x1"],"schemaPath":"/patternProperties"}],"errors":[],"valid":true}')
     for n, nodes in ((14, '""(/properties(/required))'), (15, '""(/properties)(/required)')):
-        g.has_nodes("Of_%d_names_two_are_missing" % n, {"properties": {"p%02d" % i: {} for i in range(n)}, "required": ["p00", "p01"]}, "{}", nodes)
-    g.has_nodes("One_missing_name_stands_in_the_closed_object", '{"properties":{"a":{}},"additionalProperties":false,"required":["z"]}', "{}", '""(/additionalProperties(/required))')
-    g.has_nodes("Beside_patterns_it_stands_alone", '{"properties":{"a":{}},"patternProperties":{"^b":{}},"additionalProperties":false,"required":["z"]}', "{}", '""(/additionalProperties)(/required)')
-    g.has_nodes("A_condition_that_holds_is_shown", '{"if":true,"then":true,"else":false}', "1", '""(/if(/if)(/then))')
-    g.has_nodes("A_condition_that_fails_is_not_shown", '{"if":false,"then":false,"else":true}', "1", '""(/if(/else))')
-    g.has_nodes("A_schema_chosen_by_a_text_is_shown", '{"propertyDependencies":{"k":{"a":true,"b":false}}}', '{"k":"a"}', '""(/propertyDependencies(/propertyDependencies/k/a))')
-    g.evaluates("Errors_of_the_parent_come_first", '{"properties":{"a":false},"additionalProperties":false}', '{"a":1,"b":2}',
+        g.has_nodes("of_%d_names_two_are_missing" % n, {"properties": {"p%02d" % i: {} for i in range(n)}, "required": ["p00", "p01"]}, "{}", nodes)
+    g.has_nodes("one_missing_name_stands_in_the_closed_object", '{"properties":{"a":{}},"additionalProperties":false,"required":["z"]}', "{}", '""(/additionalProperties(/required))')
+    g.has_nodes("beside_patterns_it_stands_alone", '{"properties":{"a":{}},"patternProperties":{"^b":{}},"additionalProperties":false,"required":["z"]}', "{}", '""(/additionalProperties)(/required)')
+    g.has_nodes("a_condition_that_holds_is_shown", '{"if":true,"then":true,"else":false}', "1", '""(/if(/if)(/then))')
+    g.has_nodes("a_condition_that_fails_is_not_shown", '{"if":false,"then":false,"else":true}', "1", '""(/if(/else))')
+    g.has_nodes("a_schema_chosen_by_a_text_is_shown", '{"propertyDependencies":{"k":{"a":true,"b":false}}}', '{"k":"a"}', '""(/propertyDependencies(/propertyDependencies/k/a))')
+    g.evaluates("errors_of_the_parent_come_first", '{"properties":{"a":false},"additionalProperties":false}', '{"a":1,"b":2}',
                 '{"annotations":[],"errors":[{"instancePath":"","keyword":"additionalProperties","message":"Additional properties are not allowed (\'b\' was unexpected)","schemaPath":"/additionalProperties"},'
                 '{"instancePath":"/a","keyword":"falseSchema","message":"False schema does not allow 1","schemaPath":"/properties/a"}],"valid":false}')
     nothing = '{"annotations":[],"errors":[],"valid":false}'
-    g.evaluates("Any_of_none_is_invalid_without_errors", '{"anyOf":[]}', "1", nothing)
-    g.evaluates("One_of_none_is_invalid_without_errors", '{"oneOf":[]}', "1", nothing)
-    g.evaluates("A_false_schema_is_an_error_of_its_place", '{"properties":{"a":false}}', '{"a":1}',
+    g.evaluates("any_of_none_is_invalid_without_errors", '{"anyOf":[]}', "1", nothing)
+    g.evaluates("one_of_none_is_invalid_without_errors", '{"oneOf":[]}', "1", nothing)
+    g.evaluates("a_false_schema_is_an_error_of_its_place", '{"properties":{"a":false}}', '{"a":1}',
                 '{"annotations":[],"errors":[{"instancePath":"/a","keyword":"falseSchema","message":"False schema does not allow 1","schemaPath":"/properties/a"}],"valid":false}')
     return g
 
@@ -638,90 +634,90 @@ def trees():
 
     false = " error falseSchema: False schema does not allow 1"
     for name, schema, value, tree in (
-        ("Two_equal_required_names_are_not_fused", '{"properties":{},"required":["a","a"]}', "{}",
+        ("two_equal_required_names_are_not_fused", '{"properties":{},"required":["a","a"]}', "{}",
          '"" @ "" invalid(/properties @ "" names [])(/required @ "" invalid' + required("a", "a") + ")"),
-        ("Beside_patterns_two_names_are_not_fused", '{"properties":{},"patternProperties":{},"required":["a","b"]}', "{}",
+        ("beside_patterns_two_names_are_not_fused", '{"properties":{},"patternProperties":{},"required":["a","b"]}', "{}",
          '"" @ "" invalid(/patternProperties @ "" names [])(/properties @ "" names [])(/required @ "" invalid' + required("a", "b") + ")"),
-        ("Beside_an_additional_schema_one_name_is_not_fused", '{"properties":{},"additionalProperties":{},"required":["a"]}', "{}",
+        ("beside_an_additional_schema_one_name_is_not_fused", '{"properties":{},"additionalProperties":{},"required":["a"]}', "{}",
          '"" @ "" invalid(/additionalProperties @ "")(/required @ "" invalid' + required("a") + ")"),
-        ("In_a_closed_object_two_names_are_not_fused", '{"properties":{},"additionalProperties":false,"required":["a","b"]}', "{}",
+        ("in_a_closed_object_two_names_are_not_fused", '{"properties":{},"additionalProperties":false,"required":["a","b"]}', "{}",
          '"" @ "" invalid(/additionalProperties @ "")(/required @ "" invalid' + required("a", "b") + ")"),
-        ("Two_fused_names_are_shown_inside", '{"properties":{},"required":["a","b"]}', "{}",
+        ("two_fused_names_are_shown_inside", '{"properties":{},"required":["a","b"]}', "{}",
          '"" @ "" invalid(/properties @ "" invalid(/required @ "" invalid' + required("a", "b") + "))"),
-        ("One_fused_name_is_shown_inside", '{"properties":{},"additionalProperties":false,"required":["a"]}', "{}",
+        ("one_fused_name_is_shown_inside", '{"properties":{},"additionalProperties":false,"required":["a"]}', "{}",
          '"" @ "" invalid(/additionalProperties @ "" invalid(/required @ "" invalid' + required("a") + "))"),
-        ("In_an_open_object_one_name_is_not_fused", '{"properties":{},"required":["a"]}', "{}", '"" @ "" invalid(/properties @ "" names [])(/required @ "" invalid' + required("a") + ")"),
-        ("Three_names_are_not_fused", '{"properties":{},"required":["a","b","c"]}', "{}", '"" @ "" invalid(/properties @ "" names [])(/required @ "" invalid' + required("a", "b", "c") + ")"),
-        ("Beside_true_two_names_are_fused", '{"properties":{},"additionalProperties":true,"required":["a","b"]}', "{}",
+        ("in_an_open_object_one_name_is_not_fused", '{"properties":{},"required":["a"]}', "{}", '"" @ "" invalid(/properties @ "" names [])(/required @ "" invalid' + required("a") + ")"),
+        ("three_names_are_not_fused", '{"properties":{},"required":["a","b","c"]}', "{}", '"" @ "" invalid(/properties @ "" names [])(/required @ "" invalid' + required("a", "b", "c") + ")"),
+        ("beside_true_two_names_are_fused", '{"properties":{},"additionalProperties":true,"required":["a","b"]}', "{}",
          '"" @ "" invalid(/properties @ "" invalid(/required @ "" invalid' + required("a", "b") + "))"),
-        ("Beside_15_declared_names_one_name_is_fused", {"properties": {"p%02d" % i: {} for i in range(15)}, "additionalProperties": False, "required": ["p00"]}, "{}",
+        ("beside_15_declared_names_one_name_is_fused", {"properties": {"p%02d" % i: {} for i in range(15)}, "additionalProperties": False, "required": ["p00"]}, "{}",
          '"" @ "" invalid(/additionalProperties @ "" invalid(/required @ "" invalid' + required("p00") + "))"),
-        ("One_of_two_fused_names_is_the_last_child", '{"properties":{"a":{}},"required":["a","b"]}', '{"a":1}',
+        ("one_of_two_fused_names_is_the_last_child", '{"properties":{"a":{}},"required":["a","b"]}', '{"a":1}',
          '"" @ "" invalid(/properties @ "" invalid(/properties/a @ /a)(/required @ "" invalid' + required("b") + "))"),
-        ("One_fused_name_is_the_last_child", '{"properties":{"a":{}},"additionalProperties":false,"required":["b"]}', '{"a":1}',
+        ("one_fused_name_is_the_last_child", '{"properties":{"a":{}},"additionalProperties":false,"required":["b"]}', '{"a":1}',
          '"" @ "" invalid(/additionalProperties @ "" invalid(/properties/a @ /a)(/required @ "" invalid' + required("b") + "))"),
-        ("Required_names_that_are_met_are_shown", '{"required":["a"]}', '{"a":1}', '"" @ ""(/required @ "")'),
-        ("A_declared_name_shows_its_patterns_too", '{"properties":{"a":{}},"patternProperties":{"^a":{}},"additionalProperties":false}', '{"a":1}',
+        ("required_names_that_are_met_are_shown", '{"required":["a"]}', '{"a":1}', '"" @ ""(/required @ "")'),
+        ("a_declared_name_shows_its_patterns_too", '{"properties":{"a":{}},"patternProperties":{"^a":{}},"additionalProperties":false}', '{"a":1}',
          '"" @ ""(/additionalProperties @ ""(/properties/a @ /a)(/patternProperties/^a @ /a))'),
-        ("Declared_and_additional_members_stand_in_their_order", '{"properties":{"b":{}},"additionalProperties":{}}', '{"a":1,"b":2}',
+        ("declared_and_additional_members_stand_in_their_order", '{"properties":{"b":{}},"additionalProperties":{}}', '{"a":1,"b":2}',
          '"" @ ""(/additionalProperties @ "" names ["a"](/additionalProperties @ /a)(/properties/b @ /b))'),
-        ("An_additional_member_stands_at_its_own_path", '{"additionalProperties":{}}', '{"a":1}', '"" @ ""(/additionalProperties @ "" names ["a"](/additionalProperties @ /a))'),
-        ("A_declared_name_is_escaped_in_both_paths", '{"properties":{"a/b":{}}}', '{"a/b":1}', '"" @ ""(/properties @ "" names ["a/b"](/properties/a~1b @ /a~1b))'),
-        ("A_pattern_and_its_member_are_escaped", '{"patternProperties":{"a/":{}},"additionalProperties":false}', '{"a/":1}',
+        ("an_additional_member_stands_at_its_own_path", '{"additionalProperties":{}}', '{"a":1}', '"" @ ""(/additionalProperties @ "" names ["a"](/additionalProperties @ /a))'),
+        ("a_declared_name_is_escaped_in_both_paths", '{"properties":{"a/b":{}}}', '{"a/b":1}', '"" @ ""(/properties @ "" names ["a/b"](/properties/a~1b @ /a~1b))'),
+        ("a_pattern_and_its_member_are_escaped", '{"patternProperties":{"a/":{}},"additionalProperties":false}', '{"a/":1}',
          '"" @ ""(/additionalProperties @ ""(/patternProperties/a~1 @ /a~1)(/patternProperties @ "" names ["a/"]))'),
-        ("Beside_declared_names_matches_have_no_child", '{"properties":{},"patternProperties":{"^a":{}},"additionalProperties":false}', '{"a":1}',
+        ("beside_declared_names_matches_have_no_child", '{"properties":{},"patternProperties":{"^a":{}},"additionalProperties":false}', '{"a":1}',
          '"" @ ""(/additionalProperties @ ""(/patternProperties/^a @ /a))'),
-        ("Without_a_match_there_is_no_child_of_matches", '{"patternProperties":{},"additionalProperties":{}}', "{}", '"" @ ""(/additionalProperties @ "")'),
-        ("The_child_of_matches_is_valid_where_a_member_is_not", '{"patternProperties":{"^a":false},"additionalProperties":false}', '{"a":1}',
+        ("without_a_match_there_is_no_child_of_matches", '{"patternProperties":{},"additionalProperties":{}}', "{}", '"" @ ""(/additionalProperties @ "")'),
+        ("the_child_of_matches_is_valid_where_a_member_is_not", '{"patternProperties":{"^a":false},"additionalProperties":false}', '{"a":1}',
          '"" @ "" invalid(/additionalProperties @ "" invalid(/patternProperties/^a @ /a invalid' + false + ')(/patternProperties @ "" names ["a"]))'),
-        ("The_child_of_matches_goes_member_by_member", '{"patternProperties":{"^a":{},"^ab":{}},"additionalProperties":{}}', '{"ab":1,"ac":2}',
+        ("the_child_of_matches_goes_member_by_member", '{"patternProperties":{"^a":{},"^ab":{}},"additionalProperties":{}}', '{"ab":1,"ac":2}',
          '"" @ ""(/additionalProperties @ ""(/patternProperties/^a @ /ab)(/patternProperties/^ab @ /ab)(/patternProperties/^a @ /ac)(/patternProperties @ "" names ["ab","ab","ac"]))'),
-        ("A_matching_name_is_not_additional", '{"patternProperties":{"^a":{}},"additionalProperties":false}', '{"a":1}',
+        ("a_matching_name_is_not_additional", '{"patternProperties":{"^a":{}},"additionalProperties":false}', '{"a":1}',
          '"" @ ""(/additionalProperties @ ""(/patternProperties/^a @ /a)(/patternProperties @ "" names ["a"]))'),
-        ("Alone_an_additional_schema_shows_even_no_names", '{"additionalProperties":{}}', "{}", '"" @ ""(/additionalProperties @ "" names [])'),
-        ("Beside_declared_names_no_additional_names_are_not_shown", '{"properties":{},"additionalProperties":{}}', "{}", '"" @ ""(/additionalProperties @ "")'),
-        ("Beside_declared_names_and_patterns_even_no_names_are_shown", '{"properties":{},"patternProperties":{},"additionalProperties":{}}', "{}", '"" @ ""(/additionalProperties @ "" names [])'),
-        ("Beside_true_declared_names_are_shown", '{"properties":{},"additionalProperties":true}', "{}", '"" @ ""(/properties @ "" names [])'),
-        ("Of_another_value_no_names_are_shown", '{"properties":{}}', "1", '"" @ ""(/properties @ "")'),
-        ("Patterns_are_shown_of_another_value", '{"patternProperties":{}}', "1", '"" @ ""(/patternProperties @ "")'),
-        ("False_for_additional_members_is_shown_of_another_value", '{"additionalProperties":false}', "1", '"" @ ""(/additionalProperties @ "")'),
-        ("A_schema_of_names_is_shown_of_another_value", '{"propertyNames":{}}', "1", '"" @ ""(/propertyNames @ "")'),
-        ("Undeclared_names_are_not_shown", '{"properties":{}}', '{"a":1}', '"" @ ""(/properties @ "" names [])'),
-        ("Names_are_shown_pattern_by_pattern", '{"patternProperties":{"^a":{},"^ab":{}}}', '{"ab":1,"ac":2}',
+        ("alone_an_additional_schema_shows_even_no_names", '{"additionalProperties":{}}', "{}", '"" @ ""(/additionalProperties @ "" names [])'),
+        ("beside_declared_names_no_additional_names_are_not_shown", '{"properties":{},"additionalProperties":{}}', "{}", '"" @ ""(/additionalProperties @ "")'),
+        ("beside_declared_names_and_patterns_even_no_names_are_shown", '{"properties":{},"patternProperties":{},"additionalProperties":{}}', "{}", '"" @ ""(/additionalProperties @ "" names [])'),
+        ("beside_true_declared_names_are_shown", '{"properties":{},"additionalProperties":true}', "{}", '"" @ ""(/properties @ "" names [])'),
+        ("of_another_value_no_names_are_shown", '{"properties":{}}', "1", '"" @ ""(/properties @ "")'),
+        ("patterns_are_shown_of_another_value", '{"patternProperties":{}}', "1", '"" @ ""(/patternProperties @ "")'),
+        ("false_for_additional_members_is_shown_of_another_value", '{"additionalProperties":false}', "1", '"" @ ""(/additionalProperties @ "")'),
+        ("a_schema_of_names_is_shown_of_another_value", '{"propertyNames":{}}', "1", '"" @ ""(/propertyNames @ "")'),
+        ("undeclared_names_are_not_shown", '{"properties":{}}', '{"a":1}', '"" @ ""(/properties @ "" names [])'),
+        ("names_are_shown_pattern_by_pattern", '{"patternProperties":{"^a":{},"^ab":{}}}', '{"ab":1,"ac":2}',
          '"" @ ""(/patternProperties @ "" names ["ab","ac","ab"](/patternProperties/^a @ /ab)(/patternProperties/^a @ /ac)(/patternProperties/^ab @ /ab))'),
-        ("Branches_of_all_of_stand_at_their_keyword", '{"allOf":[true]}', "1", '"" @ ""(/allOf @ ""(/allOf/0 @ ""))'),
-        ("A_choice_shows_each_accepting_branch", '{"anyOf":[true,true]}', "1", '"" @ ""(/anyOf @ ""(/anyOf/0 @ "")(/anyOf/1 @ ""))'),
-        ("The_one_accepting_branch_is_shown", '{"oneOf":[true]}', "1", '"" @ ""(/oneOf @ ""(/oneOf/0 @ ""))'),
-        ("A_choice_that_fails_shows_all_branches", '{"anyOf":[false]}', "1", '"" @ "" invalid(/anyOf @ "" invalid(/anyOf/0 @ "" invalid' + false + "))"),
-        ("Of_no_accepting_branch_all_are_shown", '{"oneOf":[false]}', "1", '"" @ "" invalid(/oneOf @ "" invalid(/oneOf/0 @ "" invalid' + false + "))"),
-        ("Of_too_many_branches_the_accepting_are_shown", '{"oneOf":[true,true,false]}', "1",
+        ("branches_of_all_of_stand_at_their_keyword", '{"allOf":[true]}', "1", '"" @ ""(/allOf @ ""(/allOf/0 @ ""))'),
+        ("a_choice_shows_each_accepting_branch", '{"anyOf":[true,true]}', "1", '"" @ ""(/anyOf @ ""(/anyOf/0 @ "")(/anyOf/1 @ ""))'),
+        ("the_one_accepting_branch_is_shown", '{"oneOf":[true]}', "1", '"" @ ""(/oneOf @ ""(/oneOf/0 @ ""))'),
+        ("a_choice_that_fails_shows_all_branches", '{"anyOf":[false]}', "1", '"" @ "" invalid(/anyOf @ "" invalid(/anyOf/0 @ "" invalid' + false + "))"),
+        ("of_no_accepting_branch_all_are_shown", '{"oneOf":[false]}', "1", '"" @ "" invalid(/oneOf @ "" invalid(/oneOf/0 @ "" invalid' + false + "))"),
+        ("of_too_many_branches_the_accepting_are_shown", '{"oneOf":[true,true,false]}', "1",
          '"" @ "" invalid(/oneOf @ "" invalid error oneOf: more than one subschema succeeded(/oneOf/0 @ "")(/oneOf/1 @ ""))'),
-        ("A_negation_that_accepts_is_shown", '{"not":false}', "1", '"" @ ""(/not @ "")'),
-        ("Dependent_names_are_shown_without_their_key", '{"dependentRequired":{"a":[]}}', "{}", '"" @ ""(/dependentRequired @ "")'),
-        ("Dependent_schemas_are_shown_without_their_key", '{"dependentSchemas":{"a":{}}}', "{}", '"" @ ""(/dependentSchemas @ "")'),
-        ("Property_dependencies_are_shown_without_their_key", '{"propertyDependencies":{"k":{"a":{}}}}', "{}", '"" @ ""(/propertyDependencies @ "")'),
-        ("A_dependent_schema_stands_inside_its_keyword", '{"dependentSchemas":{"a":{}}}', '{"a":1}', '"" @ ""(/dependentSchemas @ ""(/dependentSchemas/a @ ""))'),
-        ("A_schema_of_a_dependency_stands_inside_its_keyword", '{"dependencies":{"a":{}}}', '{"a":1}', '"" @ ""(/dependencies @ ""(/dependencies/a @ ""))'),
-        ("A_dependent_list_stands_at_its_keyword", '{"dependentRequired":{"a":[]}}', '{"a":1}', '"" @ ""(/dependentRequired @ ""(/dependentRequired @ ""))'),
-        ("A_missing_dependent_name_stands_at_its_keyword", '{"dependentRequired":{"a":["b"]}}', '{"a":1}',
+        ("a_negation_that_accepts_is_shown", '{"not":false}', "1", '"" @ ""(/not @ "")'),
+        ("dependent_names_are_shown_without_their_key", '{"dependentRequired":{"a":[]}}', "{}", '"" @ ""(/dependentRequired @ "")'),
+        ("dependent_schemas_are_shown_without_their_key", '{"dependentSchemas":{"a":{}}}', "{}", '"" @ ""(/dependentSchemas @ "")'),
+        ("property_dependencies_are_shown_without_their_key", '{"propertyDependencies":{"k":{"a":{}}}}', "{}", '"" @ ""(/propertyDependencies @ "")'),
+        ("a_dependent_schema_stands_inside_its_keyword", '{"dependentSchemas":{"a":{}}}', '{"a":1}', '"" @ ""(/dependentSchemas @ ""(/dependentSchemas/a @ ""))'),
+        ("a_schema_of_a_dependency_stands_inside_its_keyword", '{"dependencies":{"a":{}}}', '{"a":1}', '"" @ ""(/dependencies @ ""(/dependencies/a @ ""))'),
+        ("a_dependent_list_stands_at_its_keyword", '{"dependentRequired":{"a":[]}}', '{"a":1}', '"" @ ""(/dependentRequired @ ""(/dependentRequired @ ""))'),
+        ("a_missing_dependent_name_stands_at_its_keyword", '{"dependentRequired":{"a":["b"]}}', '{"a":1}',
          '"" @ "" invalid(/dependentRequired @ "" invalid(/dependentRequired @ "" invalid' + required("b") + "))"),
-        ("A_list_of_a_dependency_stands_at_its_keyword", '{"dependencies":{"a":[]}}', '{"a":1}', '"" @ ""(/dependencies @ ""(/dependencies @ ""))'),
-        ("The_tree_of_a_name_stands_at_the_object", '{"propertyNames":{}}', '{"a":1}', '"" @ ""(/propertyNames @ ""(/propertyNames @ ""))'),
-        ("The_error_of_a_name_stands_at_the_object", '{"propertyNames":{"minLength":1}}', '{"":1}',
+        ("a_list_of_a_dependency_stands_at_its_keyword", '{"dependencies":{"a":[]}}', '{"a":1}', '"" @ ""(/dependencies @ ""(/dependencies @ ""))'),
+        ("the_tree_of_a_name_stands_at_the_object", '{"propertyNames":{}}', '{"a":1}', '"" @ ""(/propertyNames @ ""(/propertyNames @ ""))'),
+        ("the_error_of_a_name_stands_at_the_object", '{"propertyNames":{"minLength":1}}', '{"":1}',
          '"" @ "" invalid(/propertyNames @ "" invalid(/propertyNames @ "" invalid(/propertyNames/minLength @ "" invalid error minLength: "" is shorter than 1 characters)))'),
-        ("True_for_names_is_not_shown", '{"propertyNames":true}', '{"a":1}', '"" @ ""'),
-        ("False_for_names_is_shown_where_it_accepts", '{"propertyNames":false}', "{}", '"" @ ""(/propertyNames @ "")'),
-        ("A_condition_that_refuses_is_not_shown", '{"if":false,"else":true}', "1", '"" @ ""(/if @ ""(/else @ ""))'),
-        ("A_condition_without_then_is_shown", '{"if":true,"else":false}', "1", '"" @ ""(/if @ ""(/if @ ""))'),
-        ("A_condition_that_refuses_without_else_is_shown_empty", '{"if":false,"then":true}', "1", '"" @ ""(/if @ "")'),
-        ("Else_alone_is_not_shown", '{"else":false}', "1", '"" @ ""'),
-        ("An_invalid_node_shows_no_names", '{"properties":{"a":false}}', '{"a":1}', '"" @ "" invalid(/properties @ "" invalid(/properties/a @ /a invalid' + false + "))"),
-        ("The_error_of_a_leaf_has_its_keyword", '{"minimum":5}', "1", '"" @ "" invalid(/minimum @ "" invalid error minimum: 1 is less than the minimum of 5)'),
-        ("The_error_of_a_negation_has_its_keyword", '{"not":true}', "1", '"" @ "" invalid(/not @ "" invalid error not: true is not allowed for 1)'),
-        ("The_error_of_unexpected_names_has_their_keyword", '{"properties":{},"additionalProperties":false}', '{"a":1}',
+        ("true_for_names_is_not_shown", '{"propertyNames":true}', '{"a":1}', '"" @ ""'),
+        ("false_for_names_is_shown_where_it_accepts", '{"propertyNames":false}', "{}", '"" @ ""(/propertyNames @ "")'),
+        ("a_condition_that_refuses_is_not_shown", '{"if":false,"else":true}', "1", '"" @ ""(/if @ ""(/else @ ""))'),
+        ("a_condition_without_then_is_shown", '{"if":true,"else":false}', "1", '"" @ ""(/if @ ""(/if @ ""))'),
+        ("a_condition_that_refuses_without_else_is_shown_empty", '{"if":false,"then":true}', "1", '"" @ ""(/if @ "")'),
+        ("else_alone_is_not_shown", '{"else":false}', "1", '"" @ ""'),
+        ("an_invalid_node_shows_no_names", '{"properties":{"a":false}}', '{"a":1}', '"" @ "" invalid(/properties @ "" invalid(/properties/a @ /a invalid' + false + "))"),
+        ("the_error_of_a_leaf_has_its_keyword", '{"minimum":5}', "1", '"" @ "" invalid(/minimum @ "" invalid error minimum: 1 is less than the minimum of 5)'),
+        ("the_error_of_a_negation_has_its_keyword", '{"not":true}', "1", '"" @ "" invalid(/not @ "" invalid error not: true is not allowed for 1)'),
+        ("the_error_of_unexpected_names_has_their_keyword", '{"properties":{},"additionalProperties":false}', '{"a":1}',
          '"" @ "" invalid(/additionalProperties @ "" invalid error additionalProperties: Additional properties are not allowed (\'a\' was unexpected))'),
-        ("A_negation_of_a_fraction_promises_no_text", '{"not":{"title":1.5}}', "1", '"" @ "" invalid(/not @ "" invalid error not: ~)'),
-        ("A_false_schema_over_a_fraction_promises_no_text", "false", "1.5", '"" @ "" invalid error falseSchema: ~'),
+        ("a_negation_of_a_fraction_promises_no_text", '{"not":{"title":1.5}}', "1", '"" @ "" invalid(/not @ "" invalid error not: ~)'),
+        ("a_false_schema_over_a_fraction_promises_no_text", "false", "1.5", '"" @ "" invalid error falseSchema: ~'),
     ):
         g.has_tree(name, schema, value, tree)
     return g
@@ -733,53 +729,53 @@ def trees():
 def faults():
     g = Group("Rows_faults", "Faults and malformations with their kinds and instances, and the contexts of `oneOf`.")
     none, many = g.schema("one_of_false", '{"oneOf":[false]}'), g.schema("one_of_three", '{"oneOf":[true,true,false]}')
-    g.fails("Where_no_branch_accepts_each_tells_what_it_finds", none, "1",
+    g.fails("where_no_branch_accepts_each_tells_what_it_finds", none, "1",
             ["1 is not valid under any of the schemas listed in the 'oneOf' keyword @ \"\", /oneOf [{False schema does not allow 1 @ \"\", /oneOf/0;}]"])
-    g.fails("Where_too_many_accept_each_tells_what_it_finds", many, "1",
+    g.fails("where_too_many_accept_each_tells_what_it_finds", many, "1",
             ["1 is valid under more than one of the schemas listed in the 'oneOf' keyword @ \"\", /oneOf [{}{}{False schema does not allow 1 @ \"\", /oneOf/2;}]"])
     shut = g.schema("closed", '{"properties":{},"additionalProperties":false}')
-    g.cuts_to("The_first_of_two_unexpected_names_is_kept", shut, '{"a":1,"b":2}', ["Additional properties are not allowed ('a' was unexpected) @ \"\", /additionalProperties"])
-    g.fails("Beside_patterns_names_are_told", '{"patternProperties":{},"additionalProperties":false}', '{"a":1}',
+    g.cuts_to("the_first_of_two_unexpected_names_is_kept", shut, '{"a":1,"b":2}', ["Additional properties are not allowed ('a' was unexpected) @ \"\", /additionalProperties"])
+    g.fails("beside_patterns_names_are_told", '{"patternProperties":{},"additionalProperties":false}', '{"a":1}',
             ["Additional properties are not allowed ('a' was unexpected) @ \"\", /additionalProperties"])
     for name, schema, value, line in (
-        ("No_accepting_branch", none, "1", 'OneOfNotValid of 1 @ "", /oneOf'),
-        ("Too_many_accepting_branches", many, "1", 'OneOfMultipleValid of 1 @ "", /oneOf'),
-        ("No_choice", '{"anyOf":[false]}', "1", 'AnyOf of 1 @ "", /anyOf'),
-        ("A_negation", '{"not":true}', "1", 'Not of 1 @ "", /not'),
-        ("A_name_keeps_the_fault_inside", '{"propertyNames":{"minLength":1}}', '{"":1}', 'PropertyNames of {"":1} @ "", /propertyNames/minLength {Leaf of "" @ "", /propertyNames/minLength}'),
-        ("A_fault_inside_is_of_the_name", '{"propertyNames":{"not":true}}', '{"a":1}', 'PropertyNames of {"a":1} @ "", /propertyNames/not {Not of "a" @ "", /propertyNames/not}'),
-        ("Names_that_are_refused_are_told_of_the_object", '{"propertyNames":false}', '{"a":1}', 'FalseSchema of {"a":1} @ "", /propertyNames'),
-        ("Alone_it_is_told_at_the_object", '{"additionalProperties":false}', '{"a":1}', 'FalseSchema of 1 @ "", /additionalProperties'),
-        ("A_false_member", '{"properties":{"a":false}}', '{"a":1}', 'FalseSchema of 1 @ /a, /properties/a'),
-        ("An_unexpected_name_beside_patterns", '{"patternProperties":{},"additionalProperties":false}', '{"a":1}', 'AdditionalProperties of {"a":1} @ "", /additionalProperties'),
-        ("Two_unexpected_names_are_one_fault", shut, '{"a":1,"b":2}', 'AdditionalProperties of {"a":1,"b":2} @ "", /additionalProperties'),
-        ("A_dependent_name_is_told_at_the_keyword", '{"dependentRequired":{"a":["b"]}}', '{"a":1}', 'Required of {"a":1} @ "", /dependentRequired'),
-        ("A_name_of_a_dependency_is_told_at_the_keyword", '{"dependencies":{"a":["b"]}}', '{"a":1}', 'Required of {"a":1} @ "", /dependencies'),
-        ("A_required_name_is_told_of_the_object", '{"required":["a"]}', "{}", 'Required of {} @ "", /required'),
-        ("A_leaf_is_told_of_the_value", '{"minimum":5}', "1", 'Leaf of 1 @ "", /minimum'),
+        ("no_accepting_branch", none, "1", 'OneOfNotValid of 1 @ "", /oneOf'),
+        ("too_many_accepting_branches", many, "1", 'OneOfMultipleValid of 1 @ "", /oneOf'),
+        ("no_choice", '{"anyOf":[false]}', "1", 'AnyOf of 1 @ "", /anyOf'),
+        ("a_negation", '{"not":true}', "1", 'Not of 1 @ "", /not'),
+        ("a_name_keeps_the_fault_inside", '{"propertyNames":{"minLength":1}}', '{"":1}', 'PropertyNames of {"":1} @ "", /propertyNames/minLength {Leaf of "" @ "", /propertyNames/minLength}'),
+        ("a_fault_inside_is_of_the_name", '{"propertyNames":{"not":true}}', '{"a":1}', 'PropertyNames of {"a":1} @ "", /propertyNames/not {Not of "a" @ "", /propertyNames/not}'),
+        ("names_that_are_refused_are_told_of_the_object", '{"propertyNames":false}', '{"a":1}', 'FalseSchema of {"a":1} @ "", /propertyNames'),
+        ("alone_it_is_told_at_the_object", '{"additionalProperties":false}', '{"a":1}', 'FalseSchema of 1 @ "", /additionalProperties'),
+        ("a_false_member", '{"properties":{"a":false}}', '{"a":1}', 'FalseSchema of 1 @ /a, /properties/a'),
+        ("an_unexpected_name_beside_patterns", '{"patternProperties":{},"additionalProperties":false}', '{"a":1}', 'AdditionalProperties of {"a":1} @ "", /additionalProperties'),
+        ("two_unexpected_names_are_one_fault", shut, '{"a":1,"b":2}', 'AdditionalProperties of {"a":1,"b":2} @ "", /additionalProperties'),
+        ("a_dependent_name_is_told_at_the_keyword", '{"dependentRequired":{"a":["b"]}}', '{"a":1}', 'Required of {"a":1} @ "", /dependentRequired'),
+        ("a_name_of_a_dependency_is_told_at_the_keyword", '{"dependencies":{"a":["b"]}}', '{"a":1}', 'Required of {"a":1} @ "", /dependencies'),
+        ("a_required_name_is_told_of_the_object", '{"required":["a"]}', "{}", 'Required of {} @ "", /required'),
+        ("a_leaf_is_told_of_the_value", '{"minimum":5}', "1", 'Leaf of 1 @ "", /minimum'),
     ):
         g.tells(name, schema, value, [line])
     for name, schema, line in (
-        ("A_name_that_is_refused", '{"$ref":1}', 'Unsupported of 1 @ "", /$ref'),
-        ("An_item_that_is_no_text", '{"required":[1,2]}', 'SingleType of 1 @ "", /required'),
-        ("A_repeated_text", '{"dependentRequired":{"a":["b","c","b"]}}', 'UniqueItems of ["b","c","b"] @ "", /dependentRequired/a'),
-        ("A_pattern_that_is_refused", '{"patternProperties":{"a(":{}}}', 'Regex of "a(" @ "", /patternProperties/a('),
-        ("A_value_that_a_leaf_refuses", '{"type":5}', 'LeafRefused of 5 @ "", /type'),
-        ("A_value_that_is_no_schema", '{"not":5}', 'MultipleTypes of 5 @ "", /not'),
-        ("Declared_names_in_a_list", '{"properties":[]}', 'SingleType of [] @ "", /properties'),
+        ("a_name_that_is_refused", '{"$ref":1}', 'Unsupported of 1 @ "", /$ref'),
+        ("an_item_that_is_no_text", '{"required":[1,2]}', 'SingleType of 1 @ "", /required'),
+        ("a_repeated_text", '{"dependentRequired":{"a":["b","c","b"]}}', 'UniqueItems of ["b","c","b"] @ "", /dependentRequired/a'),
+        ("a_pattern_that_is_refused", '{"patternProperties":{"a(":{}}}', 'Regex of "a(" @ "", /patternProperties/a('),
+        ("a_value_that_a_leaf_refuses", '{"type":5}', 'LeafRefused of 5 @ "", /type'),
+        ("a_value_that_is_no_schema", '{"not":5}', 'MultipleTypes of 5 @ "", /not'),
+        ("declared_names_in_a_list", '{"properties":[]}', 'SingleType of [] @ "", /properties'),
     ):
         g.is_refused_as(name, schema, [line])
     for name, schema, value, yes in (
-        ("A_choice_over_a_whole_number_promises_its_text", '{"anyOf":[false]}', "1", True),
-        ("A_choice_over_a_fraction_promises_no_text", '{"anyOf":[false]}', "1.5", False),
-        ("No_accepting_branch_over_a_fraction_promises_no_text", none, "1.5", False),
-        ("Too_many_accepting_branches_over_a_fraction_promise_no_text", many, "1.5", False),
-        ("A_negation_over_a_fraction_promises_no_text", '{"not":true}', "1.5", False),
-        ("A_name_of_an_object_with_a_fraction_promises_its_text", '{"propertyNames":{"not":true}}', '{"a":1.5}', True),
-        ("A_name_whose_own_fault_prints_a_fraction_promises_no_text", '{"propertyNames":{"not":{"title":1.5}}}', '{"a":1}', False),
+        ("a_choice_over_a_whole_number_promises_its_text", '{"anyOf":[false]}', "1", True),
+        ("a_choice_over_a_fraction_promises_no_text", '{"anyOf":[false]}', "1.5", False),
+        ("no_accepting_branch_over_a_fraction_promises_no_text", none, "1.5", False),
+        ("too_many_accepting_branches_over_a_fraction_promise_no_text", many, "1.5", False),
+        ("a_negation_over_a_fraction_promises_no_text", '{"not":true}', "1.5", False),
+        ("a_name_of_an_object_with_a_fraction_promises_its_text", '{"propertyNames":{"not":true}}', '{"a":1.5}', True),
+        ("a_name_whose_own_fault_prints_a_fraction_promises_no_text", '{"propertyNames":{"not":{"title":1.5}}}', '{"a":1}', False),
     ):
         g.promises(name, schema, value, yes)
-    g.promises_its_refusal("A_refused_name_with_a_fraction_promises_its_text", '{"$ref":1.5}')
+    g.promises_its_refusal("a_refused_name_with_a_fraction_promises_its_text", '{"$ref":1.5}')
     return g
 
 
@@ -789,45 +785,45 @@ def faults():
 def bench():
     g = Group("Rows_bench", "The leaves of the bench.")
     for kind, v in (("null", "null"), ("boolean", "true"), ("integer", "-5"), ("number", "-5"), ("string", '"a"'), ("array", "[1]"), ("object", "{}")):
-        g.holds("A_value_of_kind_" + kind, {"type": kind}, v)
+        g.holds("a_value_of_kind_" + kind, {"type": kind}, v)
     kinds = ("null", "boolean", "integer", "number", "string", "array", "object")
     for own, v in (("null", "null"), ("boolean", "true"), ("integer", "-5"), ("string", '"a"'), ("array", "[1]"), ("object", "{}")):
         others = [{"type": kind} for kind in kinds if kind != own and (own, kind) != ("integer", "number")]
-        g.holds("A_value_of_kind_" + own + "_is_of_no_other", {"not": {"anyOf": others}}, v)
-    g.holds("A_fraction_is_a_number", '{"type":"number"}', "1.5")
-    g.fails("A_fraction_is_no_integer", '{"type":"integer"}', "1.5", ['value is not of type "integer" @ "", /type'])
-    g.fails("A_text_shows_no_fraction", '{"type":"object"}', '["a",1.5]', ['value is not of type "object" @ "", /type'])
-    g.holds("A_constant_number", '{"const":-3}', "-3")
-    g.fails("Another_number", '{"const":-3}', "3", ['-3 was expected @ "", /const'])
-    g.fails("A_text_for_a_number", '{"const":3}', '"3"', ['3 was expected @ "", /const'])
-    g.holds("A_constant_text", '{"const":"a/b"}', '"a/b"')
-    g.fails("Another_text", '{"const":"a"}', "null", ['"a" was expected @ "", /const'])
-    g.holds("The_minimum_itself", '{"minimum":-3}', "-3")
-    g.fails("Less_than_the_minimum", '{"minimum":-3}', "-4", ['-4 is less than the minimum of -3 @ "", /minimum'])
-    g.holds("The_maximum_itself", '{"maximum":18446744073709551615}', "18446744073709551615")
-    g.fails("Greater_than_the_maximum", '{"maximum":-3}', "0", ['0 is greater than the maximum of -3 @ "", /maximum'])
-    g.holds("A_fraction_is_no_whole_number", '{"minimum":3,"maximum":1,"multipleOf":7}', "2.5")
-    g.holds("A_text_is_no_whole_number", '{"minimum":3,"maximum":1,"multipleOf":7}', '"2"')
-    g.holds("A_multiple_below_zero", '{"multipleOf":3}', "-6")
-    g.fails("No_multiple_below_zero", '{"multipleOf":3}', "-7", ['-7 is not a multiple of 3 @ "", /multipleOf'])
-    g.holds("Two_characters_of_four_bytes", '{"minLength":2,"maxLength":2}', '"\\u00e9\\u00e9"')
-    g.refuses("One_character_of_two_bytes", '{"minLength":2}', '"\\u00e9"')
-    g.fails("Three_characters", '{"maxLength":2}', '"abc"', ['"abc" is longer than 2 characters @ "", /maxLength'])
-    g.holds("A_number_has_no_length", '{"minLength":2,"maxLength":2}', "1")
-    for n, s in (("Kinds_have_names", '{"type":["string"]}'), ("A_constant_object", '{"const":{}}'), ("A_fraction_as_minimum", '{"minimum":1.5}'), ("A_text_as_maximum", '{"maximum":"1"}'),
-                 ("Multiples_of_zero", '{"multipleOf":0}'), ("A_length_below_zero", '{"minLength":-1}'), ("Kind_is_unknown", '{"type":"float"}')):
+        g.holds("a_value_of_kind_" + own + "_is_of_no_other", {"not": {"anyOf": others}}, v)
+    g.holds("a_fraction_is_a_number", '{"type":"number"}', "1.5")
+    g.fails("a_fraction_is_no_integer", '{"type":"integer"}', "1.5", ['value is not of type "integer" @ "", /type'])
+    g.fails("a_text_shows_no_fraction", '{"type":"object"}', '["a",1.5]', ['value is not of type "object" @ "", /type'])
+    g.holds("a_constant_number", '{"const":-3}', "-3")
+    g.fails("another_number", '{"const":-3}', "3", ['-3 was expected @ "", /const'])
+    g.fails("a_text_for_a_number", '{"const":3}', '"3"', ['3 was expected @ "", /const'])
+    g.holds("a_constant_text", '{"const":"a/b"}', '"a/b"')
+    g.fails("another_text", '{"const":"a"}', "null", ['"a" was expected @ "", /const'])
+    g.holds("the_minimum_itself", '{"minimum":-3}', "-3")
+    g.fails("less_than_the_minimum", '{"minimum":-3}', "-4", ['-4 is less than the minimum of -3 @ "", /minimum'])
+    g.holds("the_maximum_itself", '{"maximum":18446744073709551615}', "18446744073709551615")
+    g.fails("greater_than_the_maximum", '{"maximum":-3}', "0", ['0 is greater than the maximum of -3 @ "", /maximum'])
+    g.holds("a_fraction_is_no_whole_number", '{"minimum":3,"maximum":1,"multipleOf":7}', "2.5")
+    g.holds("a_text_is_no_whole_number", '{"minimum":3,"maximum":1,"multipleOf":7}', '"2"')
+    g.holds("a_multiple_below_zero", '{"multipleOf":3}', "-6")
+    g.fails("no_multiple_below_zero", '{"multipleOf":3}', "-7", ['-7 is not a multiple of 3 @ "", /multipleOf'])
+    g.holds("two_characters_of_four_bytes", '{"minLength":2,"maxLength":2}', '"\\u00e9\\u00e9"')
+    g.refuses("one_character_of_two_bytes", '{"minLength":2}', '"\\u00e9"')
+    g.fails("three_characters", '{"maxLength":2}', '"abc"', ['"abc" is longer than 2 characters @ "", /maxLength'])
+    g.holds("a_number_has_no_length", '{"minLength":2,"maxLength":2}', "1")
+    for n, s in (("kinds_have_names", '{"type":["string"]}'), ("a_constant_object", '{"const":{}}'), ("a_fraction_as_minimum", '{"minimum":1.5}'), ("a_text_as_maximum", '{"maximum":"1"}'),
+                 ("multiples_of_zero", '{"multipleOf":0}'), ("a_length_below_zero", '{"minLength":-1}'), ("kind_is_unknown", '{"type":"float"}')):
         k = s.split('"')[1]
         value = s[s.index(":") + 1:-1]
         if "." not in value:
             g.is_refused(n, s, ['%s is not a value for "%s" @ "", /%s' % (value, k, k)])
-    g.holds("An_unknown_keyword_is_ignored", '{"enum":[]}', "1")
-    for n, p in (("A_class", "[a-z]"), ("A_slow_nothing", "(slow)"), ("A_slow_anchor", "(slow)^a"), ("An_empty_pattern", ""), ("Two_anchors", "^$")):
+    g.holds("an_unknown_keyword_is_ignored", '{"enum":[]}', "1")
+    for n, p in (("a_class", "[a-z]"), ("a_slow_nothing", "(slow)"), ("a_slow_anchor", "(slow)^a"), ("an_empty_pattern", ""), ("two_anchors", "^$")):
         g.is_refused(n + "_is_refused", {"patternProperties": {p: {}}}, ['"%s" is not a "regex" @ "", /patternProperties/%s' % (p, p)])
-    g.says_of("The_end_is_not_the_start", "a$", "ab", "unmatched", "unmatched")
-    g.says_of("The_end_is_the_end", "a$", "ba", "matched", "matched")
-    g.says_of("A_test_needs_no_matcher", "^(a|b)$", "b", "unmatched", "matched")
-    g.fails("A_body_stands_anywhere", '{"patternProperties":{"b":false}}', '{"abc":1,"ac":2}', ["False schema does not allow 1 @ /abc, /patternProperties/b"])
-    g.fails("An_escaped_body_stands_anywhere", '{"patternProperties":{"\\\\.":false}}', '{"a.c":1,"abc":2}', ["False schema does not allow 1 @ /a.c, /patternProperties/\\."])
+    g.says_of("the_end_is_not_the_start", "a$", "ab", "unmatched", "unmatched")
+    g.says_of("the_end_is_the_end", "a$", "ba", "matched", "matched")
+    g.says_of("a_test_needs_no_matcher", "^(a|b)$", "b", "unmatched", "matched")
+    g.fails("a_body_stands_anywhere", '{"patternProperties":{"b":false}}', '{"abc":1,"ac":2}', ["False schema does not allow 1 @ /abc, /patternProperties/b"])
+    g.fails("an_escaped_body_stands_anywhere", '{"patternProperties":{"\\\\.":false}}', '{"a.c":1,"abc":2}', ["False schema does not allow 1 @ /a.c, /patternProperties/\\."])
     return g
 
 
@@ -844,7 +840,7 @@ def names():
     for n, d, k in pairs:
         equal = d == k
         say = g.holds, g.refuses
-        word = "In_equal_" if equal else "At_"
+        word = "in_equal_" if equal else "at_"
         for label, schema, value, valid in (
             ("a_false_schema", {"properties": {d: False, "p": True}}, {k: 1, "p": 1}, not equal),
             ("a_required_false_schema", {"properties": {d: False, "p": True}, "required": [d, "p"]}, {k: 1, "p": 1}, False),
@@ -860,20 +856,20 @@ def names():
 
 def members():
     g = Group("Vectors_members", "Declared names, patterns and additional members in all their combinations, and other object keywords.")
-    g.fails("Dependencies_list_names", '{"dependencies":{"bar":["foo"]}}', '{"bar":1}', ['"foo" is a required property @ "", /dependencies'])
-    g.fails("Dependencies_hold_schemas", '{"dependencies":{"bar":{"type":"string"}}}', '{"bar":1}', ['{"bar":1} is not of type "string" @ "", /dependencies/bar/type'])
+    g.fails("dependencies_list_names", '{"dependencies":{"bar":["foo"]}}', '{"bar":1}', ['"foo" is a required property @ "", /dependencies'])
+    g.fails("dependencies_hold_schemas", '{"dependencies":{"bar":{"type":"string"}}}', '{"bar":1}', ['{"bar":1} is not of type "string" @ "", /dependencies/bar/type'])
     dep = g.schema("a_requires_b_and_c", '{"dependentRequired":{"a":["b","c"]}}')
-    g.fails("Both_dependent_names_are_missing", dep, '{"a":1}', ['"%s" is a required property @ "", /dependentRequired' % n for n in "bc"])
-    g.holds("Both_dependent_names_are_there", dep, '{"a":1,"b":2,"c":3}')
-    g.holds("Without_the_key_nothing_is_required", dep, '{"b":2}')
-    g.holds("An_array_has_no_key", dep, "[1]")
+    g.fails("both_dependent_names_are_missing", dep, '{"a":1}', ['"%s" is a required property @ "", /dependentRequired' % n for n in "bc"])
+    g.holds("both_dependent_names_are_there", dep, '{"a":1,"b":2,"c":3}')
+    g.holds("without_the_key_nothing_is_required", dep, '{"b":2}')
+    g.holds("an_array_has_no_key", dep, "[1]")
     short = g.schema("short_names", '{"propertyNames":{"maxLength":3}}')
-    g.holds("Three_short_names", short, '{"a":1,"bc":1,"def":1}')
-    g.fails("One_long_name", short, '{"ab":1,"cdef":1}', ['"cdef" is longer than 3 characters @ "", /propertyNames/maxLength'])
+    g.holds("three_short_names", short, '{"a":1,"bc":1,"def":1}')
+    g.fails("one_long_name", short, '{"ab":1,"cdef":1}', ['"cdef" is longer than 3 characters @ "", /propertyNames/maxLength'])
     blank = g.schema("names_without_white_space", '{"additionalProperties":false,"patternProperties":{"^\\\\S*$":{"type":"integer"}}}')
-    g.holds("A_name_without_white_space", blank, '{"ab":1}')
-    g.refuses("A_name_with_white_space", blank, '{"a b":1}')
-    g.refuses("A_wrong_value_without_white_space", blank, '{"ab":"x"}')
+    g.holds("a_name_without_white_space", blank, '{"ab":1}')
+    g.refuses("a_name_with_white_space", blank, '{"a b":1}')
+    g.refuses("a_wrong_value_without_white_space", blank, '{"ab":"x"}')
 
     def without(s, k):
         return {a: b for a, b in s.items() if a != k}
@@ -902,32 +898,32 @@ def members():
     ):
         for n in names:
             lines = [f"{errors[w[0]][0]} @ {w[1:]}, {errors[w[0]][1]}" for w in found.split()]
-            name = n[0].upper() + n[1:] + "_on_" + label
+            name = n + "_on_" + label
             (g.fails(name, n, value, lines) if lines else g.holds(name, n, value))
 
     two = g.schema("two_required", '{"properties":{"a":{"type":"integer"},"b":{"type":"string"}},"required":["a","b"]}')
-    g.holds("A_text_requires_nothing", two, '"string"')
-    g.refuses("One_of_two_is_missing", two, '{"a":1,"c":3}')
-    g.refuses("One_of_two_is_missing_among_300_others", two, {"b": "x", **{"m%03d" % i: 1 for i in range(300)}})
-    g.fails("The_missing_one_and_the_wrong_one", two, '{"b":1}', ['"a" is a required property @ "", /required', '1 is not of type "string" @ /b, /properties/b/type'])
+    g.holds("a_text_requires_nothing", two, '"string"')
+    g.refuses("one_of_two_is_missing", two, '{"a":1,"c":3}')
+    g.refuses("one_of_two_is_missing_among_300_others", two, {"b": "x", **{"m%03d" % i: 1 for i in range(300)}})
+    g.fails("the_missing_one_and_the_wrong_one", two, '{"b":1}', ['"a" is a required property @ "", /required', '1 is not of type "string" @ /b, /properties/b/type'])
     z = g.schema("one_declared_of_two", '{"properties":{"a":{"type":"integer"},"b":{}},"required":["a","z"]}')
-    g.holds("A_required_name_is_undeclared", z, '{"a":1,"z":2}')
-    g.refuses("The_undeclared_name_is_missing", z, '{"a":1}')
-    g.refuses("The_declared_value_is_wrong", z, '{"a":"x","z":2}')
+    g.holds("a_required_name_is_undeclared", z, '{"a":1,"z":2}')
+    g.refuses("the_undeclared_name_is_missing", z, '{"a":1}')
+    g.refuses("the_declared_value_is_wrong", z, '{"a":"x","z":2}')
     five = g.schema("five_arrays", {"additionalProperties": False, "required": ["id"], "properties": {"id": {"type": "integer"}, **{k: {"type": "array"} for k in "abcde"}}})
-    g.holds("The_required_one_alone", five, '{"id":1}')
-    g.holds("The_required_one_and_an_array", five, '{"a":[],"id":1}')
-    g.refuses("An_object_for_an_array", five, '{"a":{},"id":1}')
-    g.refuses("A_text_for_the_required_one", five, '{"a":[],"id":"x"}')
-    g.refuses("An_unexpected_member", five, '{"a":[],"id":1,"zzz":1}')
-    g.refuses("The_required_one_is_missing", five, '{"a":[]}')
+    g.holds("the_required_one_alone", five, '{"id":1}')
+    g.holds("the_required_one_and_an_array", five, '{"a":[],"id":1}')
+    g.refuses("an_object_for_an_array", five, '{"a":{},"id":1}')
+    g.refuses("a_text_for_the_required_one", five, '{"a":[],"id":"x"}')
+    g.refuses("an_unexpected_member", five, '{"a":[],"id":1,"zzz":1}')
+    g.refuses("the_required_one_is_missing", five, '{"a":[]}')
     return g
 
 
 def refused_patterns():
     g = Group("Vectors_patterns", "Patterns that the matcher refuses, beside each neighbour.")
     many = {"p%d" % i: {} for i in range(15)}
-    for label, pattern in (("An_open_group", "a("), ("A_look_behind", "(?<=a)b")):
+    for label, pattern in (("an_open_group", "a("), ("a_look_behind", "(?<=a)b")):
         for name, more, others in (
             ("alone", {}, {}), ("beside_a_prefix", {}, {"^x": {}}), ("beside_true", {"additionalProperties": True}, {}),
             ("beside_false", {"additionalProperties": False}, {}), ("beside_a_schema", {"additionalProperties": {"type": "integer"}}, {}),
