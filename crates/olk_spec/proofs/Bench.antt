@@ -9,7 +9,7 @@ use Rattle.olk_spec.specs.Names.{Text}
 use Rattle.olk_spec.specs.Bench.{is_in}
 
 in_front : (t n : Text) → starts_with nat_eq n t ≡ true → HasSubslice n t
-in_front t n h = ([], drop (length t) n, (starts_is Decides-eqb n t _ refl).0 h)
+in_front t n h = ([], drop _ n, (starts_is Decides-eqb n t _ refl).0 h)
 
 behind_one : (b : ℕ) (t n : Text) → HasSubslice n t → HasSubslice (b ∷ n) t
 behind_one b t n (front, rest, e) = (b ∷ front, rest, ap (λ l. b ∷ l) e)
@@ -17,6 +17,6 @@ behind_one b t n (front, rest, e) = (b ∷ front, rest, ap (λ l. b ∷ l) e)
 pub found_in : (t n : Text) → is_in t n ≡ true → HasSubslice n t
 found_in [] [] h = ([], [], refl)
 found_in (x ∷ t) [] h = absurd (true≢false (sym h))
-found_in t (b ∷ n) h = elim (or_cases (starts_with nat_eq (b ∷ n) t) (is_in t n) h) [ inl e ↦ in_front t (b ∷ n) e | inr e ↦ behind_one b t n (found_in t n e) ]
+found_in t (b ∷ n) h = elim (or_cases _ _ h) [ inl e ↦ in_front t _ e | inr e ↦ behind_one b t n (found_in t n e) ]
 
 -- a test that is true exactly where the text stands in the name

@@ -20,7 +20,7 @@ not_true true h = absurd (h refl)
 not_true false h = refl
 
 bar_is_special : (c : ℕ) → is_special c ≡ false → (c == 124) ≡ false
-bar_is_special c h = not_true (c == 124) (λ t. let P : ℕ → Type 0 = λ x. is_special x ≡ false in let n : true ≡ false = subst P ((Decides-eqb c 124).0 t) h in cc)
+bar_is_special c h = not_true _ (λ t. let P : ℕ → Type 0 = λ x. is_special x ≡ false in let n : true ≡ false = subst P ((Decides-eqb c 124).0 t) h in cc)
 
 backslash_is_no_bar : (c : ℕ) → (c == 92) ≡ true → (c == 124) ≡ false
 backslash_is_no_bar c h = grind (arith, nat_tests)
@@ -45,7 +45,7 @@ mutual
 
   pub bodies_is : (cs : List ℕ) → bodies_of cs ≡ joined (body_of cs).0 (body_of cs).1
   bodies_is [] = refl
-  bodies_is (c ∷ cs) = one_step c cs (c == 92) (is_special c) (bar_is_special c) (bodies_is cs) (escape_is c cs)
+  bodies_is (c ∷ cs) = one_step c cs _ _ (bar_is_special c) (bodies_is cs) (escape_is c cs)
 
   pub escape_is : (b : ℕ) (cs : List ℕ) → (b == 92) ≡ true → escape_in b cs ≡ joined (escape_of b cs).0 (escape_of b cs).1
   escape_is b [] h = rw (backslash_is_no_bar b h) refl

@@ -16,8 +16,8 @@ pub sum_last : (c : Cost) → c ⊕ no_cost ≡ c
 sum_last c = costs_alike (omega arith) (omega arith) (omega arith) (omega arith)
 
 pub total_cost-append : {X : Type 0} (f : X → Cost) (xs ys : List X) → total_cost f (xs ++ ys) ≡ total_cost f xs ⊕ total_cost f ys
-total_cost-append f [] ys = sym (sum_first (total_cost f ys))
-total_cost-append f (x ∷ xs) ys = ap (λ c. f x ⊕ c) (total_cost-append f xs ys) ∙ sym (sum_around (f x) (total_cost f xs) (total_cost f ys))
+total_cost-append f [] ys = sym (sum_first _)
+total_cost-append f (x ∷ xs) ys = ap (λ c. f x ⊕ c) (total_cost-append f xs ys) ∙ sym (sum_around _ _ _)
 
 pub total_cost-map : {X Y : Type 0} (f : X → Cost) (g : Y → Cost) (h : Y → X) → ((y : Y) → f (h y) ≡ g y) → (ys : List Y) → total_cost f (map h ys) ≡ total_cost g ys
 total_cost-map f g h e [] = refl

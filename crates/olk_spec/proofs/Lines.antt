@@ -26,10 +26,10 @@ front_by Greater t s ss more h = absurd (true≢false h)
 front_by _ t s ss more h = refl
 
 behind : (t s : Text) (ss : List Text) → is_gt (slice_cmp nat_cmp t s) ≡ true → insert_text t (s ∷ ss) ≡ s ∷ insert_text t ss
-behind t s ss h = behind_by (slice_cmp nat_cmp t s) t s ss (insert_text t ss) h
+behind t s ss h = behind_by _ t s ss _ h
 
 front : (t s : Text) (ss : List Text) → is_gt (slice_cmp nat_cmp t s) ≡ false → insert_text t (s ∷ ss) ≡ t ∷ s ∷ ss
-front t s ss h = front_by (slice_cmp nat_cmp t s) t s ss (insert_text t ss) h
+front t s ss h = front_by _ t s ss _ h
 
 -- two texts that come before all others
 module _ (s t : Text) (l : List Text) (first : insert_text s l ≡ s ∷ l) (second : insert_text t l ≡ t ∷ l) where
@@ -44,22 +44,22 @@ module _ (s t : Text) (l : List Text) (first : insert_text s l ≡ s ∷ l) (sec
 -- one that comes behind x, and one that does not
 one_behind : (s t x : Text) (xs : List Text) → is_gt (slice_cmp nat_cmp s x) ≡ true → is_gt (slice_cmp nat_cmp t x) ≡ false
     → insert_text s (insert_text t (x ∷ xs)) ≡ insert_text t (insert_text s (x ∷ xs))
-one_behind s t x xs p q = by (is_gt (slice_cmp nat_cmp s t)) refl
+one_behind s t x xs p q = by (is_gt _) refl
   where
     by : (b : Bool) → is_gt (slice_cmp nat_cmp s t) ≡ b → insert_text s (insert_text t (x ∷ xs)) ≡ insert_text t (insert_text s (x ∷ xs))
-    by true h = (ap (insert_text s) (front t x xs q) ∙ behind s t (x ∷ xs) h ∙ ap (λ r. t ∷ r) (behind s x xs p)) ∙ sym (ap (insert_text t) (behind s x xs p) ∙ front t x (insert_text s xs) q)
+    by true h = (ap (insert_text s) (front t x xs q) ∙ behind s t _ h ∙ ap (λ r. t ∷ r) (behind s x xs p)) ∙ sym (ap (insert_text t) (behind s x xs p) ∙ front t x _ q)
     by false h = absurd (true≢false (sym p ∙ upto nat_list_cmp_total s t x h q))
 
 -- two texts go in in either order
 either_order : (s t : Text) (l : List Text) → insert_text s (insert_text t l) ≡ insert_text t (insert_text s l)
 either_order s t [] = heads s t [] refl refl
-either_order s t (x ∷ xs) = by (either_order s t xs) (is_gt (slice_cmp nat_cmp s x)) (is_gt (slice_cmp nat_cmp t x)) refl refl
+either_order s t (x ∷ xs) = by (either_order s t xs) _ _ refl refl
   where
     by : insert_text s (insert_text t xs) ≡ insert_text t (insert_text s xs) → (a b : Bool) → is_gt (slice_cmp nat_cmp s x) ≡ a → is_gt (slice_cmp nat_cmp t x) ≡ b
         → insert_text s (insert_text t (x ∷ xs)) ≡ insert_text t (insert_text s (x ∷ xs))
     by more true true p q =
-        (ap (insert_text s) (behind t x xs q) ∙ behind s x (insert_text t xs) p) ∙ ap (λ r. x ∷ r) more
-        ∙ sym (ap (insert_text t) (behind s x xs p) ∙ behind t x (insert_text s xs) q)
+        (ap (insert_text s) (behind t x xs q) ∙ behind s x _ p) ∙ ap (λ r. x ∷ r) more
+        ∙ sym (ap (insert_text t) (behind s x xs p) ∙ behind t x _ q)
     by more true false p q = one_behind s t x xs p q
     by more false true p q = sym (one_behind t s x xs q p)
     by more false false p q = ap (insert_text s) (front t x xs q) ∙ heads s t (x ∷ xs) (front s x xs p) (front t x xs q) ∙ sym (ap (insert_text t) (front s x xs p))

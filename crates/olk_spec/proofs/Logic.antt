@@ -14,7 +14,7 @@ nil_of_is_empty (x ∷ xs) e = grind arith
 
 pub empty_report : Empty_report
 empty_report W u S v P Q = (
-  λ e. subst (λ fs. [] ∼ fs) (sym (nil_of_is_empty (report W u S v P Q) (sym (verdict_of_reports W u S v P Q) ∙ e))) like_empty,
+  λ e. subst (λ fs. [] ∼ fs) (sym (nil_of_is_empty _ (sym (verdict_of_reports W u S v P Q) ∙ e))) like_empty,
   λ h. verdict_of_reports W u S v P Q ∙ sym (∼_is_empty h),
 )
 
@@ -27,7 +27,7 @@ twice false = refl
 
 pub not_not : Not_not
 unfolding meaning
-not_not W u S v = twice (accepts W u S v)
+not_not W u S v = twice _
 
 one_of_all : (a : Bool) → (((a && true) && true) && true) ≡ a
 one_of_all true = refl
@@ -35,7 +35,7 @@ one_of_all false = refl
 
 pub all_of_one : One_branch (codes "allOf")
 unfolding meaning
-all_of_one W u S v = one_of_all (accepts W u S v)
+all_of_one W u S v = one_of_all _
 
 one_of_any : (a : Bool) → ((true && (a || false)) && true) ≡ a
 one_of_any true = refl
@@ -43,7 +43,7 @@ one_of_any false = refl
 
 pub any_of_one : One_branch (codes "anyOf")
 unfolding meaning
-any_of_one W u S v = one_of_any (accepts W u S v)
+any_of_one W u S v = one_of_any _
 
 one_of_counted : (a : Bool) → ((true && (0 + cond a 1 0 == 1)) && true) ≡ a
 one_of_counted true = refl
@@ -51,4 +51,4 @@ one_of_counted false = refl
 
 pub one_of_one : One_branch (codes "oneOf")
 unfolding meaning
-one_of_one W u S v = one_of_counted (accepts W u S v)
+one_of_one W u S v = one_of_counted _

@@ -26,7 +26,7 @@ listed_first _ x r s e = e
 -- the member that the code looks up
 pub lookup_listed : (n : Name) (ms : Members) → lookup_name n (listed ms) ≡ get_member n ms
 lookup_listed n no_members = refl
-lookup_listed n (member k d ms) = listed_first (slice_cmp nat_cmp n k) d (lookup_name n (listed ms)) (get_member n ms) (lookup_listed n ms)
+lookup_listed n (member k d ms) = listed_first (slice_cmp nat_cmp n k) d (lookup_name n _) (get_member n ms) (lookup_listed n ms)
 
 module _ {X : Type 0} (step : Schema X → X) where
   -- a place, and an entry, by its data
@@ -87,7 +87,7 @@ module _ {X : Type 0} (step : Schema X → X) where
 
   pub lookup_read : (k : Name) (ms : Members) → lookup_name k (read_members step ms) ≡ option_map (read step) (get_member k ms)
   lookup_read k no_members = refl
-  lookup_read k (member n d ms) = found_first (read step) (slice_cmp nat_cmp k n) d (lookup_name k (read_members step ms)) (get_member k ms) (lookup_read k ms)
+  lookup_read k (member n d ms) = found_first (read step) (slice_cmp nat_cmp k n) d (lookup_name k _) (get_member k ms) (lookup_read k ms)
 
   present_of : (o : Option Data) → is_some (option_map (read step) o) ≡ is_some o
   present_of None = refl

@@ -34,7 +34,7 @@ one_list_of_kinds W u S v P Q list h = ∼_map told like_told h
 -- ---- lists with other lines are no reports
 
 differ : (fs gs : List Fault) → pointwise (pointwise nat_eq) (lines fs) (lines gs) ≡ false → ¬ (fs ∼ gs)
-differ fs gs n h = true≢false (sym ((lists_equiv nat_list_eq_equiv).refl (lines fs)) ∙ ap (pointwise (pointwise nat_eq) (lines fs)) (same_lines h) ∙ n)
+differ fs gs n h = true≢false (sym ((lists_equiv nat_list_eq_equiv).refl (lines fs)) ∙ ap (pointwise _ _) (same_lines h) ∙ n)
 
 pub all_names_are_told : refused.All_names_are_told
 unfolding literal chars digits meaning serde_json_on_literals

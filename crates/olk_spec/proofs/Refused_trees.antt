@@ -45,7 +45,7 @@ as_many_told (d ∷ es) (e ∷ es') (k, t, h) = ap (λ r. ([], [], false) ∷ r)
 as_many_told _ _ h = absurd h
 
 as_many : (es es' : List Described) → IsPermutation es es' → counted es ≡ counted es'
-as_many = along_permutation (λ xs ys. counted xs ≡ counted ys) (λ xs. refl) (λ x xs ys h. ap (λ r. ([], [], false) ∷ r) h) (λ x y xs. refl) (λ xs ys zs h k. h ∙ k)
+as_many = along_permutation _ (λ xs. refl) (λ x xs ys h. ap (λ r. ([], [], false) ∷ r) h) (λ x y xs. refl) (λ xs ys zs h k. h ∙ k)
 
 mutual
   same_frame : (t n : Tree) → IsLikeTree t n → frame n ≡ frame t
@@ -88,7 +88,7 @@ module _ {B : Type 0} (f : Path × Path × Described → B) (ok : Described → 
     same_errors (node P Q b a es ts) (leaf_node P' Q' es') o h = absurd h
     same_errors (leaf_node P Q es) (node P' Q' b' a' es' ts') o (p, q, h, k, l, m) =
         subst (λ r. IsPermutation (map f r) (map f (at P Q es))) (λ i. at (sym p i) (sym q i) es' ++ errors_of (sym m i))
-        (subst (λ r. IsPermutation (map f r) (map f (at P Q es))) (sym (append-nil (at P Q es'))) (IsPermutation-map f _ _ (IsPermutation-map (λ e. (P, Q, e)) _ _ (IsPermutation-sym _ _ l))))
+        (subst (λ r. IsPermutation (map f r) (map f (at P Q es))) (sym (append-nil _)) (IsPermutation-map f _ _ (IsPermutation-map _ _ _ (IsPermutation-sym _ _ l))))
     same_errors (leaf_node P Q es) (leaf_node P' Q' es') o h = absurd h
 
     all_errors : (ts us : Trees) → all_ok (errors_of ts) → AreLikeTrees ts us → IsPermutation (map f (errors_of us)) (map f (errors_of ts))
@@ -109,7 +109,7 @@ pub one_list_of_keywords : refused.One_list_of_keywords
 one_list_of_keywords W u S v P Q t h = same_errors error_keyword (λ d. true) (λ P Q d e o k r. λ i. (P, Q, k i)) _ t (any_passes (errors (tree W u S v P Q))) h
 
 pub one_list_of_texts : refused.One_list_of_texts
-one_list_of_texts W u S v P Q t o h = same_errors error_text (λ d. not d.2) (λ P Q d e o k r. λ i. (P, Q, k i, r (not_true d.2 o) i)) _ t o h
+one_list_of_texts W u S v P Q t o h = same_errors error_text _ (λ P Q d e o k r. λ i. (P, Q, k i, r (not_true d.2 o) i)) _ t o h
 
 pub one_validity : refused.One_validity
 one_validity W u S v P Q t h = same_validity _ t h

@@ -37,16 +37,16 @@ valid_node true P Q a es ts = refl
 valid_node false P Q a es ts = refl
 
 pub is_valid-result : (P Q : Path) (a : Option (List Name)) (c : Bool) (es : List Described) (ts : List Tree) → is_valid (result P Q a c es ts) ≡ (is_empty es && not c && list_all is_valid ts)
-is_valid-result P Q a c es ts = valid_node (is_empty es && not c && list_all is_valid ts) P Q a es ts
+is_valid-result P Q a c es ts = valid_node _ P Q a es ts
 
 pub is_valid-plain : (P Q : Path) (ts : List Tree) → is_valid (plain P Q ts) ≡ list_all is_valid ts
 is_valid-plain P Q ts = is_valid-result P Q None false [] ts
 
 pub is_valid-erring : (P Q : Path) (fs : List Fault) → is_valid (erring P Q fs) ≡ is_empty fs
-is_valid-erring P Q fs = is_valid-result P Q None false (described fs) [] ∙ and-true (is_empty (described fs) && true) ∙ and-true (is_empty (described fs)) ∙ is_empty-map described_fault fs
+is_valid-erring P Q fs = is_valid-result P Q None false _ [] ∙ and-true _ ∙ and-true _ ∙ is_empty-map described_fault fs
 
 one_valid : (t : Tree) → list_all is_valid (t ∷ []) ≡ is_valid t
-one_valid t = and-true (is_valid t)
+one_valid t = and-true _
 
 plain_valid : (P Q : Path) (ts : List Tree) → list_all is_valid (plain P Q ts ∷ []) ≡ list_all is_valid ts
 plain_valid P Q ts = one_valid (plain P Q ts) ∙ is_valid-plain P Q ts
@@ -62,12 +62,12 @@ none_where true k v P Q = refl
 none_where false k v P Q = refl
 
 pub none_missing : (ns : List Name) (v : Data) (P Q : Path) → is_empty (required_faults ns v P Q) ≡ is_empty (missing ns v)
-none_missing ns v P Q = is_empty-map (λ n. fault (Required n) v Q P) (missing ns v)
+none_missing ns v P Q = is_empty-map _ _
 
 -- ---- values
 
 pub Distinct-members : (d : Data) → DistinctNames d → Distinct (members d)
-Distinct-members (object ms) h = Distinct-from (listed ms) h.0
+Distinct-members (object ms) h = Distinct-from _ h.0
 Distinct-members _ h = tt
 
 Each-listed : (ms : Members) → DistinctInMembers ms → Each (λ m. DistinctNames m.1) (listed ms)
@@ -111,7 +111,7 @@ module _ (W : World) (u : Bool) (S : Keywords Meaning) (h : GoodKeywords TreeAgr
   fines = DistinctNames-members v dv
 
   entries_distinct : (k : Name) → Distinct (entries_at S k)
-  entries_distinct k = by (lookup_name k S) (On-lookup_name (λ p. Distinct p.entries) k S dE)
+  entries_distinct k = by (lookup_name k S) (On-lookup_name _ k S dE)
     where
       by : (o : Option (Part Meaning)) → On (λ p. Distinct p.entries) o → Distinct (flat_map (λ p. p.entries) (option_to_list o))
       by None g = tt
@@ -123,8 +123,8 @@ module _ (W : World) (u : Bool) (S : Keywords Meaning) (h : GoodKeywords TreeAgr
   declared_row : list_all is_valid (flat_map (declared_trees W u S v P Q) (members v)) ≡ the_properties
   declared_row =
       list_all-flat_map is_valid (declared_trees W u S v P Q) (members v)
-      ∙ list_all-same (λ m. list_all is_valid (declared_trees W u S v P Q m)) (λ m. list_all (λ s. holds s m.1) (option_to_list (lookup_name m.0 es))) (members v) (Each-implies (λ m. DistinctNames m.1) (λ m. list_all is_valid (declared_trees W u S v P Q m) ≡ list_all (λ s. holds s m.1) (option_to_list (lookup_name m.0 es))) of_member (members v) fines)
-      ∙ sym (list_all-other_side (λ s w. holds s w) es (members v) (entries_distinct (codes "properties")) dM)
+      ∙ list_all-same (λ m. list_all is_valid (declared_trees W u S v P Q m)) (λ m. list_all (λ s. holds s m.1) (option_to_list (lookup_name m.0 es))) (members v) (Each-implies _ _ of_member _ fines)
+      ∙ sym (list_all-other_side (λ s w. holds s w) es _ (entries_distinct (codes "properties")) dM)
       ∙ list_all-flat_map (λ e. list_all (λ w. holds e.1 w) (at e.0 v)) (λ p. p.entries) (parts_at S (codes "properties"))
       ∙ (λ i. list_all (λ p. of_part p i) (parts_at S (codes "properties")))
     where
@@ -132,40 +132,40 @@ module _ (W : World) (u : Bool) (S : Keywords Meaning) (h : GoodKeywords TreeAgr
       es = entries_at S (codes "properties")
 
       of_member : (m : Name × Data) → DistinctNames m.1 → list_all is_valid (declared_trees W u S v P Q m) ≡ list_all (λ s. holds s m.1) (option_to_list (lookup_name m.0 es))
-      of_member m g = list_all-map is_valid (λ s. s.answer.tree m.1 (P // codes "properties" // m.0) (Q // m.0)) (option_to_list (lookup_name m.0 es))
-          ∙ list_all-same (λ s. is_valid (s.answer.tree m.1 (P // codes "properties" // m.0) (Q // m.0))) (λ s. holds s m.1) (option_to_list (lookup_name m.0 es)) (Each-implies (GoodSub TreeAgrees) (λ s. is_valid (s.answer.tree m.1 (P // codes "properties" // m.0) (Q // m.0)) ≡ holds s m.1) (λ s c. c m.1 (P // codes "properties" // m.0) (Q // m.0) g) (option_to_list (lookup_name m.0 es)) (Each-option (GoodSub TreeAgrees) (lookup_name m.0 es) (On-lookup_name (GoodSub TreeAgrees) m.0 es (entries_at_good TreeAgrees S h (codes "properties")))))
+      of_member m g = list_all-map is_valid _ (option_to_list (lookup_name m.0 es))
+          ∙ list_all-same (λ s. is_valid (s.answer.tree m.1 _ _)) _ (option_to_list (lookup_name m.0 es)) (Each-implies (GoodSub TreeAgrees) _ (λ s c. c m.1 _ _ g) _ (Each-option _ _ (On-lookup_name _ m.0 es (entries_at_good TreeAgrees S h (codes "properties")))))
 
       of_part : (p : Part Meaning) → list_all (λ e. list_all (λ w. holds e.1 w) (at e.0 v)) p.entries ≡ keyword_accepts W u S (codes "properties") p v properties
-      of_part p = sym (and-true (list_all (λ a. holds a.sub a.value) (applied W u S (codes "properties") p v properties))
-          ∙ list_all-flat_map (λ a. holds a.sub a.value) (λ e. map (λ w. asked e.1 w (codes "properties" ∷ e.0 ∷ []) (e.0 ∷ [])) (at e.0 v)) p.entries
+      of_part p = sym (and-true _
+          ∙ list_all-flat_map _ _ p.entries
           ∙ (λ i. list_all (λ e. list_all-map (λ a. holds a.sub a.value) (λ w. asked e.1 w (codes "properties" ∷ e.0 ∷ []) (e.0 ∷ [])) (at e.0 v) i) p.entries))
 
   -- a pattern's subschema over each member that it matches
   patterns_row : list_all is_valid (flat_map (pattern_trees W u S v P Q) (members v)) ≡ the_patterns
   patterns_row =
       list_all-flat_map is_valid (pattern_trees W u S v P Q) (members v)
-      ∙ list_all-same (λ m. list_all is_valid (pattern_trees W u S v P Q m)) (λ m. list_all (λ e. not (matches W u e.0 m.0) || holds e.1 m.1) es) (members v) (Each-implies (λ m. DistinctNames m.1) (λ m. list_all is_valid (pattern_trees W u S v P Q m) ≡ list_all (λ e. not (matches W u e.0 m.0) || holds e.1 m.1) es) of_member (members v) fines)
+      ∙ list_all-same (λ m. list_all is_valid (pattern_trees W u S v P Q m)) (λ m. list_all (λ e. not _ || holds e.1 m.1) es) (members v) (Each-implies _ _ of_member _ fines)
       ∙ list_all-inside_out (λ m e. not (matches W u e.0 m.0) || holds e.1 m.1) (members v) es
-      ∙ list_all-flat_map (λ e. list_all (λ m. not (matches W u e.0 m.0) || holds e.1 m.1) (members v)) (λ p. p.entries) (parts_at S (codes "patternProperties"))
+      ∙ list_all-flat_map (λ e. list_all (λ m. not _ || holds e.1 m.1) (members v)) (λ p. p.entries) (parts_at S (codes "patternProperties"))
       ∙ (λ i. list_all (λ p. of_part p i) (parts_at S (codes "patternProperties")))
     where
       es : List (Name × Subschema)
       es = entries_at S (codes "patternProperties")
 
       of_member : (m : Name × Data) → DistinctNames m.1 → list_all is_valid (pattern_trees W u S v P Q m) ≡ list_all (λ e. not (matches W u e.0 m.0) || holds e.1 m.1) es
-      of_member m g = list_all-map is_valid (λ e. e.1.answer.tree m.1 (P // codes "patternProperties" // e.0) (Q // m.0)) (filter_once (λ e. matches W u e.0 m.0) es)
-          ∙ list_all-same (λ e. is_valid (e.1.answer.tree m.1 (P // codes "patternProperties" // e.0) (Q // m.0))) (λ e. holds e.1 m.1) (filter_once (λ e. matches W u e.0 m.0) es) (Each-implies (GoodEntry TreeAgrees) (λ e. is_valid (e.1.answer.tree m.1 (P // codes "patternProperties" // e.0) (Q // m.0)) ≡ holds e.1 m.1) (λ e c. c m.1 (P // codes "patternProperties" // e.0) (Q // m.0) g) (filter_once (λ e. matches W u e.0 m.0) es) (Each-filter_once (GoodEntry TreeAgrees) (λ e. matches W u e.0 m.0) es (entries_at_good TreeAgrees S h (codes "patternProperties"))))
-          ∙ list_all-filter_once (λ e. holds e.1 m.1) (λ e. matches W u e.0 m.0) es
+      of_member m g = list_all-map is_valid _ (filter_once _ es)
+          ∙ list_all-same (λ e. is_valid (e.1.answer.tree m.1 _ _)) _ (filter_once _ es) (Each-implies _ _ (λ e c. c m.1 _ _ g) _ (Each-filter_once _ _ es (entries_at_good TreeAgrees S h (codes "patternProperties"))))
+          ∙ list_all-filter_once _ (λ e. matches W u e.0 m.0) es
 
       of_part : (p : Part Meaning) → list_all (λ e. list_all (λ m. not (matches W u e.0 m.0) || holds e.1 m.1) (members v)) p.entries ≡ keyword_accepts W u S (codes "patternProperties") p v pattern_properties
-      of_part p = sym (and-true (list_all (λ a. holds a.sub a.value) (applied W u S (codes "patternProperties") p v pattern_properties))
-          ∙ list_all-flat_map (λ a. holds a.sub a.value) (λ e. map (λ m. asked e.1 m.1 (codes "patternProperties" ∷ e.0 ∷ []) (m.0 ∷ [])) (filter_once (λ m. matches W u e.0 m.0) (members v))) p.entries
+      of_part p = sym (and-true _
+          ∙ list_all-flat_map _ _ p.entries
           ∙ (λ i. list_all (λ e. (list_all-map (λ a. holds a.sub a.value) (λ m. asked e.1 m.1 (codes "patternProperties" ∷ e.0 ∷ []) (m.0 ∷ [])) (filter_once (λ m. matches W u e.0 m.0) (members v)) ∙ list_all-filter_once (λ m. holds e.1 m.1) (λ m. matches W u e.0 m.0) (members v)) i) p.entries))
 
   -- `required` inside another validator
   missing_row : (b : Bool) → list_all is_valid (missing_child W u S v P Q b) ≡ (not b || the_required)
-  missing_row b = where_valid (b && not (is_empty (missing ns v))) (erring (P // codes "required") Q (required_faults ns v (P // codes "required") Q)) (is_empty (missing ns v)) (is_valid-erring (P // codes "required") Q (required_faults ns v (P // codes "required") Q) ∙ none_missing ns v (P // codes "required") Q)
-      ∙ missing_truth b (is_empty (missing ns v))
+  missing_row b = where_valid _ (erring _ Q _) _ (is_valid-erring (P // codes "required") Q _ ∙ none_missing ns v (P // codes "required") Q)
+      ∙ missing_truth b _
       ∙ ap (λ c. not b || c) (by (lookup_name (codes "required") S))
     where
       ns : List Name
@@ -173,7 +173,7 @@ module _ (W : World) (u : Bool) (S : Keywords Meaning) (h : GoodKeywords TreeAgr
 
       by : (o : Option (Part Meaning)) → is_empty (missing (flat_map names (option_to_list o)) v) ≡ list_all (λ p. keyword_accepts W u S (codes "required") p v required) (option_to_list o)
       by None = refl
-      by (Some p) = ap (λ xs. is_empty (missing xs v)) (append-nil (names p)) ∙ sym (and-true (is_empty (missing (names p) v)))
+      by (Some p) = ap (λ xs. is_empty (missing xs v)) (append-nil _) ∙ sym (and-true _)
 
   -- ---- the child of one keyword
 
@@ -197,9 +197,9 @@ module _ (W : World) (u : Bool) (S : Keywords Meaning) (h : GoodKeywords TreeAgr
         ∙ list_all-filter_once (λ m. not (is_object p.whole.schema) || holds p.whole m.1) (λ m. is_additional m.0) (members v))
       where
         of_member : (m : Name × Data) → DistinctNames m.1 × (is_among m.0 (map (λ e. e.0) (members v)) ≡ true) → list_all is_valid (additional_trees W u S v P Q k p m) ≡ (not (is_additional m.0) || (not (is_object p.whole.schema) || holds p.whole m.1))
-        of_member m c = where_valid (is_object p.whole.schema && is_among m.0 (additional_names W u S v P Q)) (p.whole.answer.tree m.1 (P // k) (Q // m.0)) (holds p.whole m.1) (g.0 m.1 (P // k) (Q // m.0) c.0)
-            ∙ ap (λ b. not (is_object p.whole.schema && b) || holds p.whole m.1) (is_among-filter_once is_additional m.0 (members v) ∙ ap (λ b. is_additional m.0 && b) c.1)
-            ∙ among_truth (is_object p.whole.schema) (is_additional m.0) (holds p.whole m.1)
+        of_member m c = where_valid _ _ _ (g.0 m.1 _ _ c.0)
+            ∙ ap (λ b. not (is_object p.whole.schema && b) || holds p.whole m.1) (is_among-filter_once is_additional m.0 _ ∙ ap (λ b. is_additional m.0 && b) c.1)
+            ∙ among_truth (is_object p.whole.schema) (is_additional m.0) _
 
     -- the declared, the matching and the additional schemas, member by member
     members_row : list_all is_valid (flat_map (λ m. declared_trees W u S v P Q m ++ pattern_trees W u S v P Q m ++ additional_trees W u S v P Q k p m) (members v)) ≡ ((the_properties && the_patterns) && list_all (λ a. holds a.sub a.value) (applied W u S k p v additional_properties))
@@ -230,13 +230,13 @@ module _ (W : World) (u : Bool) (S : Keywords Meaning) (h : GoodKeywords TreeAgr
         annotation = on_objects W u S v P Q (is_object p.whole.schema && (cond (declares S) (has_patterns S) (not (has_patterns S)) || not (is_empty (additional_names W u S v P Q)))) (additional_names W u S v P Q)
 
         own_part : is_empty (described (own W u S k p v P Q additional_properties)) ≡ wanted W u S k p v additional_properties
-        own_part = is_empty-map described_fault (own W u S k p v P Q additional_properties) ∙ sym (additional_own_row W u S k p v P Q)
+        own_part = is_empty-map described_fault _ ∙ sym (additional_own_row W u S k p v P Q)
 
         matched_child : List Tree
         matched_child = where_so (has_patterns S && not (declares S) && not (is_empty (matched_names W u S v P Q))) (node (P // codes "patternProperties") Q true (Some (matched_names W u S v P Q)) [] no_tree)
 
         matched_row : list_all is_valid matched_child ≡ true
-        matched_row = where_valid (has_patterns S && not (declares S) && not (is_empty (matched_names W u S v P Q))) (node (P // codes "patternProperties") Q true (Some (matched_names W u S v P Q)) [] no_tree) true refl ∙ or-true (not (has_patterns S && not (declares S) && not (is_empty (matched_names W u S v P Q))))
+        matched_row = where_valid _ _ true refl ∙ or-true (not _)
 
         walked : List Tree
         walked = flat_map (λ m. declared_trees W u S v P Q m ++ pattern_trees W u S v P Q m ++ additional_trees W u S v P Q k p m) (members v)
@@ -248,9 +248,9 @@ module _ (W : World) (u : Bool) (S : Keywords Meaning) (h : GoodKeywords TreeAgr
 
     names_row : list_all is_valid (names_child W u S v P Q k p) ≡ keyword_accepts W u S k p v property_names
     names_row =
-        list_all-append is_valid (where_so (is_object p.whole.schema) (plain (P // k) Q name_trees)) (where_so (is_truth false p.whole.schema) (erring (P // k) Q none_allowed))
-        ∙ (λ i. where_valid (is_object p.whole.schema) (plain (P // k) Q name_trees) (list_all (λ m. holds p.whole (string m.0)) (members v)) (is_valid-plain (P // k) Q name_trees ∙ names_valid) i
-        && where_valid (is_truth false p.whole.schema) (erring (P // k) Q none_allowed) (is_empty (members v)) (is_valid-erring (P // k) Q none_allowed ∙ none_where (not (is_empty (members v))) FalseSchema v (P // k) Q ∙ not-not (is_empty (members v))) i)
+        list_all-append is_valid (where_so _ _) (where_so _ _)
+        ∙ (λ i. where_valid (is_object p.whole.schema) (plain (P // k) Q name_trees) (list_all (λ m. holds p.whole _) (members v)) (is_valid-plain _ Q name_trees ∙ names_valid) i
+        && where_valid (is_truth false p.whole.schema) (erring (P // k) Q none_allowed) (is_empty _) (is_valid-erring _ Q none_allowed ∙ none_where _ FalseSchema v _ Q ∙ not-not _) i)
       where
         name_trees : List Tree
         name_trees = map (λ m. p.whole.answer.tree (string m.0) (P // k) Q) (members v)
@@ -259,18 +259,18 @@ module _ (W : World) (u : Bool) (S : Keywords Meaning) (h : GoodKeywords TreeAgr
         none_allowed = fault_if (not (is_empty (members v))) FalseSchema v (P // k) Q
 
         names_valid : list_all is_valid name_trees ≡ list_all (λ m. holds p.whole (string m.0)) (members v)
-        names_valid = list_all-map is_valid (λ m. p.whole.answer.tree (string m.0) (P // k) Q) (members v) ∙ (λ i. list_all (λ m. g.0 (string m.0) (P // k) Q tt i) (members v))
+        names_valid = list_all-map is_valid _ (members v) ∙ (λ i. list_all (λ m. g.0 (string m.0) (P // k) Q tt i) (members v))
 
     due_row : list_all is_valid (due_trees W u S v P Q k p) ≡ list_all (λ e. is_empty (missing e.1 v)) (due p v)
-    due_row = list_all-map is_valid (λ e. erring (P // k) Q (required_faults e.1 v (P // k) Q)) (due p v)
-        ∙ (λ i. list_all (λ e. (is_valid-erring (P // k) Q (required_faults e.1 v (P // k) Q) ∙ none_missing e.1 v (P // k) Q) i) (due p v))
+    due_row = list_all-map is_valid (λ e. erring _ Q _) (due p v)
+        ∙ (λ i. list_all (λ e. (is_valid-erring (P // k) Q _ ∙ none_missing e.1 v (P // k) Q) i) (due p v))
 
     dependencies_row : list_all is_valid (map (dependency_tree W u S v P Q k p) (filter_once (λ e. has e.0 v) p.entries)) ≡ keyword_accepts W u S k p v dependencies
     dependencies_row =
-        list_all-map is_valid (dependency_tree W u S v P Q k p) (filter_once (λ e. has e.0 v) p.entries)
+        list_all-map is_valid (dependency_tree W u S v P Q k p) (filter_once _ p.entries)
         ∙ list_all-filter_once (λ e. is_valid (dependency_tree W u S v P Q k p e)) (λ e. has e.0 v) p.entries
-        ∙ list_all-same (λ e. not (has e.0 v) || is_valid (dependency_tree W u S v P Q k p e)) (λ e. (not (has e.0 v && not (is_array e.1.schema)) || holds e.1 v) && (not (is_array e.1.schema) || (not (has e.0 v) || is_empty (missing (texts e.1.schema) v)))) p.entries (Each-implies (GoodEntry TreeAgrees) (λ e. (not (has e.0 v) || is_valid (dependency_tree W u S v P Q k p e)) ≡ ((not (has e.0 v && not (is_array e.1.schema)) || holds e.1 v) && (not (is_array e.1.schema) || (not (has e.0 v) || is_empty (missing (texts e.1.schema) v))))) of_entry p.entries g.1)
-        ∙ list_all-and (λ e. not (has e.0 v && not (is_array e.1.schema)) || holds e.1 v) (λ e. not (is_array e.1.schema) || (not (has e.0 v) || is_empty (missing (texts e.1.schema) v))) p.entries
+        ∙ list_all-same (λ e. not (has e.0 v) || is_valid (dependency_tree W u S v P Q k p e)) _ p.entries (Each-implies _ _ of_entry p.entries g.1)
+        ∙ list_all-and _ _ p.entries
         ∙ (λ i. sym subschemas i && sym name_lists_row i)
       where
         of_valid : (b : Bool) (s t : Tree) → is_valid (cond b s t) ≡ cond b (is_valid s) (is_valid t)
@@ -278,16 +278,16 @@ module _ (W : World) (u : Bool) (S : Keywords Meaning) (h : GoodKeywords TreeAgr
         of_valid false s t = refl
 
         of_entry : (e : Name × Subschema) → GoodEntry TreeAgrees e → (not (has e.0 v) || is_valid (dependency_tree W u S v P Q k p e)) ≡ ((not (has e.0 v && not (is_array e.1.schema)) || holds e.1 v) && (not (is_array e.1.schema) || (not (has e.0 v) || is_empty (missing (texts e.1.schema) v))))
-        of_entry e c = ap (λ b. not (has e.0 v) || b) (of_valid (is_array e.1.schema) (erring (P // k) Q (required_faults (texts e.1.schema) v (P // k) Q)) (e.1.answer.tree v (P // k // e.0) Q))
-            ∙ dependency_truth (has e.0 v) (is_array e.1.schema) _ _ (is_empty (missing (texts e.1.schema) v)) (holds e.1 v) (is_valid-erring (P // k) Q (required_faults (texts e.1.schema) v (P // k) Q) ∙ none_missing (texts e.1.schema) v (P // k) Q) (c v (P // k // e.0) Q dv)
+        of_entry e c = ap (λ b. not (has e.0 v) || b) (of_valid (is_array e.1.schema) _ _)
+            ∙ dependency_truth (has e.0 v) _ _ _ _ _ (is_valid-erring (P // k) Q (required_faults _ v (P // k) Q) ∙ none_missing _ v _ Q) (c v (P // k // e.0) Q dv)
 
         subschemas : list_all (λ a. holds a.sub a.value) (applied W u S k p v dependencies) ≡ list_all (λ e. not (has e.0 v && not (is_array e.1.schema)) || holds e.1 v) p.entries
-        subschemas = list_all-map (λ a. holds a.sub a.value) (λ e. asked e.1 v (k ∷ e.0 ∷ []) []) (filter_once (λ e. has e.0 v && not (is_array e.1.schema)) p.entries) ∙ list_all-filter_once (λ e. holds e.1 v) (λ e. has e.0 v && not (is_array e.1.schema)) p.entries
+        subschemas = list_all-map _ _ (filter_once _ p.entries) ∙ list_all-filter_once _ _ p.entries
 
         name_lists_row : list_all (λ e. is_empty (missing e.1 v)) (due p v) ≡ list_all (λ e. not (is_array e.1.schema) || (not (has e.0 v) || is_empty (missing (texts e.1.schema) v))) p.entries
-        name_lists_row = list_all-filter_once (λ e. is_empty (missing e.1 v)) (λ e. has e.0 v) (name_lists p)
-            ∙ list_all-map (λ e. not (has e.0 v) || is_empty (missing e.1 v)) (λ e. (e.0, texts e.1.schema)) (filter_once (λ e. is_array e.1.schema) p.entries)
-            ∙ list_all-filter_once (λ e. not (has e.0 v) || is_empty (missing (texts e.1.schema) v)) (λ e. is_array e.1.schema) p.entries
+        name_lists_row = list_all-filter_once _ _ (name_lists p)
+            ∙ list_all-map (λ e. not _ || is_empty _) _ (filter_once _ p.entries)
+            ∙ list_all-filter_once _ (λ e. is_array e.1.schema) p.entries
 
     -- the branches that accept
     branches_row : list_all is_valid (branch_trees W u S v P Q k p (λ s. holds s v)) ≡ true
@@ -316,7 +316,7 @@ module _ (W : World) (u : Bool) (S : Keywords Meaning) (h : GoodKeywords TreeAgr
         by true = is_valid-result (P // k) Q None true [] (branch_trees W u S v P Q k p (λ s. true))
         by false = is_valid-result (P // k) Q None false told (branch_trees W u S v P Q k p (λ s. holds s v))
             ∙ (λ i. (none_told (nat_lt 1 (accepting p v)) (codes "oneOf", codes "more than one subschema succeeded", false) i && true) && branches_row i)
-            ∙ and-true (not (nat_lt 1 (accepting p v)) && true) ∙ and-true (not (nat_lt 1 (accepting p v)))
+            ∙ and-true _ ∙ and-true _
 
     -- ---- `if`, where this is it
 
@@ -353,7 +353,7 @@ module _ (W : World) (u : Bool) (S : Keywords Meaning) (h : GoodKeywords TreeAgr
           elses = case_trees W u S v P Q k p (not (holds p.whole v)) (codes "else")
 
           itself_row : list_all is_valid itself ≡ true
-          itself_row = where_valid (holds p.whole v) (p.whole.answer.tree v (P // k) Q) (holds p.whole v) (g.0 v (P // k) Q dv) ∙ not_or_same (holds p.whole v)
+          itself_row = where_valid _ _ _ (g.0 v _ Q dv) ∙ not_or_same (holds p.whole v)
 
           then_row : list_all is_valid thens ≡ the_then
           then_row = case_row (holds p.whole v) (codes "then") ∙ (λ i. list_all (λ q. sym (one_asked (holds p.whole v) (if_accepts S v) (codes "then") q accepts_here) i) (parts_at S (codes "then")))
@@ -363,7 +363,7 @@ module _ (W : World) (u : Bool) (S : Keywords Meaning) (h : GoodKeywords TreeAgr
 
   -- the keyword that a name stands for, where it is this one
   here : (name : Name) (w : Keyword) (k : Name) (p : Part Meaning) → k ≡ name → lookup_name k S ≡ Some p → accepts_at name w ≡ keyword_accepts W u S k p v w
-  here name w k p n there = ap (λ a. accepts_at a w) (sym n) ∙ ap (λ o. list_all (λ q. keyword_accepts W u S k q v w) (option_to_list o)) there ∙ and-true (keyword_accepts W u S k p v w)
+  here name w k p n there = ap (λ a. accepts_at a w) (sym n) ∙ ap (λ o. list_all (λ q. keyword_accepts W u S k q v w) (option_to_list o)) there ∙ and-true _
 
   -- ---- what a keyword shows, by what the keywords accept
 
@@ -405,9 +405,9 @@ module _ (W : World) (u : Bool) (S : Keywords Meaning) (h : GoodKeywords TreeAgr
     keyword_row all_of n = asked_child k p g all_of
     keyword_row any_of n = one_valid (any_of_child W u S v P Q k p) ∙ any_of_row k p g ∙ sym (some_counted (λ s. holds s v) p.items)
     keyword_row one_of n = one_valid (one_of_child W u S v P Q k p) ∙ one_of_row k p g
-    keyword_row not_keyword n = erring_valid (P // k) Q (own W u S k p v P Q not_keyword) ∙ none_where (holds p.whole v) (Not p.whole.schema) v (P // k) Q
+    keyword_row not_keyword n = erring_valid _ Q _ ∙ none_where _ _ v _ Q
     keyword_row if_keyword n = if_row k p g (subst (λ a. lookup_name a S ≡ Some p) n there)
-    keyword_row leaf n = and-true (is_empty (described (own W u S k p v P Q leaf))) ∙ is_empty-map described_fault (own W u S k p v P Q leaf) ∙ is_empty-map (λ t. fault (Leaf k t) v Q (P // k)) (W.faults k p.whole.schema v)
+    keyword_row leaf n = and-true _ ∙ is_empty-map described_fault _ ∙ is_empty-map _ _
     keyword_row _ n = refl
 
   -- ---- all keywords together
@@ -422,13 +422,13 @@ module _ (W : World) (u : Bool) (S : Keywords Meaning) (h : GoodKeywords TreeAgr
       where
         by : (o : Option (Part Meaning)) → lookup_name (codes "additionalProperties") S ≡ o → On (λ p. shown (codes "additionalProperties") p additional_properties ≡ true) o → ((the_properties && the_patterns) && (not (fuses_one S) || the_required)) ≡ true
         by None e t = absurd (true≢false (sym r ∙ ap (λ o. list_any (λ s. is_truth false s.schema || is_object s.schema) (map (λ p. p.whole) (option_to_list o))) e))
-        by (Some p) e t = and_second (keyword_accepts W u S (codes "additionalProperties") p v additional_properties) _ (or_second (not (restricts S)) _ t (ap not r))
+        by (Some p) e t = and_second _ _ (or_second _ _ t (ap not r))
 
     properties_true : the_properties ≡ true
     properties_true = by (restricts S) refl (lookup_name (codes "properties") S) refl (shows (codes "properties"))
       where
         by : (r : Bool) → restricts S ≡ r → (o : Option (Part Meaning)) → lookup_name (codes "properties") S ≡ o → On (λ p. shown (codes "properties") p properties ≡ true) o → the_properties ≡ true
-        by true r o e t = and_first the_properties the_patterns (and_first (the_properties && the_patterns) (not (fuses_one S) || the_required) (by_additional r))
+        by true r o e t = and_first the_properties the_patterns (and_first _ _ (by_additional r))
         by false r None e t = absent (codes "properties") properties e
         by false r (Some p) e t = and_first the_properties (not (fuses_two S) || the_required) (or_second (restricts S) (the_properties && (not (fuses_two S) || the_required)) t r)
 
@@ -436,21 +436,21 @@ module _ (W : World) (u : Bool) (S : Keywords Meaning) (h : GoodKeywords TreeAgr
     patterns_true = by (restricts S) refl (lookup_name (codes "patternProperties") S) refl (shows (codes "patternProperties"))
       where
         by : (r : Bool) → restricts S ≡ r → (o : Option (Part Meaning)) → lookup_name (codes "patternProperties") S ≡ o → On (λ p. shown (codes "patternProperties") p pattern_properties ≡ true) o → the_patterns ≡ true
-        by true r o e t = and_second the_properties the_patterns (and_first (the_properties && the_patterns) (not (fuses_one S) || the_required) (by_additional r))
+        by true r o e t = and_second the_properties the_patterns (and_first _ _ (by_additional r))
         by false r None e t = absent (codes "patternProperties") pattern_properties e
-        by false r (Some p) e t = or_second (restricts S) the_patterns t r
+        by false r (Some p) e t = or_second _ the_patterns t r
 
     by_one : fuses_one S ≡ true → the_required ≡ true
-    by_one e = or_second (not (fuses_one S)) the_required (and_second (the_properties && the_patterns) (not (fuses_one S) || the_required) (by_additional restricted)) (ap not e)
+    by_one e = or_second (not _) the_required (and_second (the_properties && the_patterns) _ (by_additional restricted)) (ap not e)
       where
         restricted : restricts S ≡ true
-        restricted = any_of_either (λ s. is_truth false s.schema) (λ s. is_object s.schema) (wholes_at S (codes "additionalProperties")) (and_second (declares S) _ (and_first _ (not (has_patterns S)) (and_first _ (nat_eq (length (names_at S (codes "required"))) 1) e)))
+        restricted = any_of_either (λ s. is_truth false s.schema) _ (wholes_at S (codes "additionalProperties")) (and_second (declares S) _ (and_first _ _ (and_first _ _ e)))
 
     by_two : fuses_two S ≡ true → the_required ≡ true
     by_two e = by (lookup_name (codes "properties") S) refl (shows (codes "properties"))
       where
         unrestricted : (declares S && not (restricts S)) ≡ true
-        unrestricted = and_first _ (not (has_patterns S)) (and_first _ (nat_lt (length (entries_at S (codes "properties"))) 15) (and_first _ (are_two (names_at S (codes "required"))) e))
+        unrestricted = and_first _ _ (and_first _ _ (and_first _ _ e))
 
         by : (o : Option (Part Meaning)) → lookup_name (codes "properties") S ≡ o → On (λ p. shown (codes "properties") p properties ≡ true) o → the_required ≡ true
         by None n t = absurd (true≢false (sym (and_first (declares S) (not (restricts S)) unrestricted) ∙ ap is_some n))
@@ -472,22 +472,22 @@ module _ (W : World) (u : Bool) (S : Keywords Meaning) (h : GoodKeywords TreeAgr
         where
           by : (o : Option (Part Meaning)) → lookup_name n S ≡ o → (c : Option (Part Meaning)) → lookup_name (codes "if") S ≡ c → accepts_at n w ≡ true
           by None e c f = absent n w e
-          by (Some p) e None f = ap (λ o. list_all (λ q. keyword_accepts W u S n q v w) (option_to_list o)) e ∙ and-true (keyword_accepts W u S n p v w) ∙ idle (without f) p
+          by (Some p) e None f = ap (λ o. list_all (λ q. keyword_accepts W u S n q v w) (option_to_list o)) e ∙ and-true _ ∙ idle (without f) p
           by (Some p) e (Some q) f = beside q f p e
 
     nothing_asked : (b : Bool) (a : Asked) → b ≡ false → (list_all (λ x. holds x.sub x.value) (put_if b a []) && true) ≡ true
     nothing_asked b a e = ap (λ c. list_all (λ x. holds x.sub x.value) (put_if c a []) && true) e
 
     both_cases : (q : Part Meaning) → lookup_name (codes "if") S ≡ Some q → is_conditional S ≡ true → (the_then && the_else) ≡ true
-    both_cases q e c = or_second (not (is_conditional S)) (the_then && the_else) (subst (On (λ p. shown (codes "if") p if_keyword ≡ true)) e (shows (codes "if"))) (ap not c)
+    both_cases q e c = or_second (not _) _ (subst (On (λ p. shown (codes "if") p if_keyword ≡ true)) e (shows (codes "if"))) (ap not c)
 
     then_true : the_then ≡ true
-    then_true = case_true (codes "then") then_keyword (if_accepts S v) (λ e p. nothing_asked (if_accepts S v) (asked p.whole v (codes "then" ∷ []) []) e)
+    then_true = case_true (codes "then") then_keyword (if_accepts S v) (λ e p. nothing_asked _ _ e)
         (λ e. ap (λ o. list_any (λ s. holds s v) (map (λ p. p.whole) (option_to_list o))) e)
         (λ q e p f. and_first the_then the_else (both_cases q e (λ i. is_some (e i) && (is_some (f i) || is_present S (codes "else")))))
 
     else_true : the_else ≡ true
-    else_true = case_true (codes "else") else_keyword (if_refuses S v) (λ e p. nothing_asked (if_refuses S v) (asked p.whole v (codes "else" ∷ []) []) e)
+    else_true = case_true (codes "else") else_keyword (if_refuses S v) (λ e p. nothing_asked _ _ e)
         (λ e. ap (λ o. list_any (λ s. not (holds s v)) (map (λ p. p.whole) (option_to_list o))) e)
         (λ q e p f. and_second the_then the_else (both_cases q e ((λ i. is_some (e i) && (is_present S (codes "then") || is_some (f i))) ∙ or-true (is_present S (codes "then")))))
 
@@ -522,14 +522,14 @@ module _ (W : World) (u : Bool) (S : Keywords Meaning) (h : GoodKeywords TreeAgr
       where
         by : (o : Option (Part Meaning)) → On (λ p. keyword_accepts W u S n p v (keyword_named W n) ≡ true) o → list_all (λ p. keyword_accepts W u S n p v (keyword_named W n)) (option_to_list o) ≡ true
         by None t = refl
-        by (Some p) t = and-true (keyword_accepts W u S n p v (keyword_named W n)) ∙ t
+        by (Some p) t = and-true _ ∙ t
 
     shown_where_accepts : (k : Name) (p : Part Meaning) (w : Keyword) → keyword_accepts W u S k p v w ≡ true → shown k p w ≡ true
-    shown_where_accepts k p properties t = or_from (restricts S) _ (and_from the_properties _ (at_true (codes "properties")) (or_from (not (fuses_two S)) the_required (at_true (codes "required"))))
-    shown_where_accepts k p pattern_properties t = or_from (restricts S) the_patterns (at_true (codes "patternProperties"))
-    shown_where_accepts k p additional_properties t = or_from (not (restricts S)) _ (and_from (keyword_accepts W u S k p v additional_properties) _ t (and_from (the_properties && the_patterns) _ (and_from the_properties the_patterns (at_true (codes "properties")) (at_true (codes "patternProperties"))) (or_from (not (fuses_one S)) the_required (at_true (codes "required")))))
-    shown_where_accepts k p required t = or_from (fuses_one S || fuses_two S) (keyword_accepts W u S k p v required) t
-    shown_where_accepts k p if_keyword t = or_from (not (is_conditional S)) _ (and_from the_then the_else (at_true (codes "then")) (at_true (codes "else")))
+    shown_where_accepts k p properties t = or_from (restricts S) _ (and_from the_properties _ (at_true (codes "properties")) (or_from _ the_required (at_true (codes "required"))))
+    shown_where_accepts k p pattern_properties t = or_from _ the_patterns (at_true (codes "patternProperties"))
+    shown_where_accepts k p additional_properties t = or_from (not _) _ (and_from _ _ t (and_from (the_properties && the_patterns) _ (and_from the_properties the_patterns (at_true (codes "properties")) (at_true (codes "patternProperties"))) (or_from _ the_required (at_true (codes "required")))))
+    shown_where_accepts k p required t = or_from _ _ t
+    shown_where_accepts k p if_keyword t = or_from (not _) _ (and_from the_then the_else (at_true (codes "then")) (at_true (codes "else")))
     shown_where_accepts k p then_keyword t = refl
     shown_where_accepts k p else_keyword t = refl
     shown_where_accepts k p _ t = t
@@ -541,11 +541,11 @@ module _ (W : World) (u : Bool) (S : Keywords Meaning) (h : GoodKeywords TreeAgr
   accepts_each m = keyword_accepts W u S m.0 m.1 v (keyword_named W m.0)
 
   children_row : list_all is_valid (flat_map (λ m. keyword_child W u S v P Q m.0 m.1 (keyword_named W m.0)) S) ≡ list_all shows_each S
-  children_row = list_all-flat_map is_valid (λ m. keyword_child W u S v P Q m.0 m.1 (keyword_named W m.0)) S
+  children_row = list_all-flat_map is_valid _ S
       ∙ list_all-same (λ m. list_all is_valid (keyword_child W u S v P Q m.0 m.1 (keyword_named W m.0))) shows_each S (Each-implies (λ m. GoodPart TreeAgrees m.1 × (lookup_name m.0 S ≡ Some m.1)) (λ m. list_all is_valid (keyword_child W u S v P Q m.0 m.1 (keyword_named W m.0)) ≡ shows_each m) (λ m c. keyword_row m.0 m.1 c.0 c.1 (keyword_named W m.0) (named m.0 W)) S (Each-both (λ m. GoodPart TreeAgrees m.1) (λ m. lookup_name m.0 S ≡ Some m.1) S h (Each-found S dS)))
 
   shown_is_accepted : list_all shows_each S ≡ list_all accepts_each S
-  shown_is_accepted = same_truth (list_all shows_each S) (list_all accepts_each S)
+  shown_is_accepted = same_truth _ _
       (λ e. let t : Each (λ m. shows_each m ≡ true) S = each_true shows_each S e in
       all_true accepts_each S (Each-implies (λ m. (shows_each m ≡ true) × (lookup_name m.0 S ≡ Some m.1)) (λ m. accepts_each m ≡ true) (λ m c. accepts_where_shown (λ n. On-lookup_name-named (λ k p. shown k p (keyword_named W k) ≡ true) n S t) m.0 m.1 (keyword_named W m.0) (named m.0 W) c.1 c.0) S (Each-both (λ m. shows_each m ≡ true) (λ m. lookup_name m.0 S ≡ Some m.1) S t (Each-found S dS))))
       (λ e. let t : Each (λ m. accepts_each m ≡ true) S = each_true accepts_each S e in

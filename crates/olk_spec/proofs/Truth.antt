@@ -106,7 +106,7 @@ module _ {B : Type 0} (t : Name → Bool) where
       by : (b : Bool) → false ≡ (b && false)
       by true = refl
       by false = refl
-  is_among-filter_once n (m ∷ ms) = among_step n m ms (bytes_eq n m.0) (t m.0) refl refl (is_among-filter_once n ms)
+  is_among-filter_once n (m ∷ ms) = among_step n m ms _ _ refl refl (is_among-filter_once n ms)
 
 module _ {B : Type 0} where
   among_later : (m : Name × B) (ms ks : List (Name × B)) → Each (λ k. is_among k.0 (map (λ e. e.0) ms) ≡ true) ks → Each (λ k. is_among k.0 (map (λ e. e.0) (m ∷ ms)) ≡ true) ks

@@ -39,7 +39,7 @@ module _ {A B : Type 0} where
 
   -- where a test holds
   pub empty_where : (b c : Bool) (x : A) (g : A → List B) → c ≡ is_empty (g x) → (not b || c) ≡ is_empty (flat_map g (put_if b x []))
-  empty_where true c x g e = e ∙ sym (is_empty-nil (g x))
+  empty_where true c x g e = e ∙ sym (is_empty-nil _)
   empty_where false c x g e = refl
 
 -- a verdict that two lists of faults share
@@ -71,7 +71,7 @@ unexpected_row true (m ∷ ms) v P Q = refl
 unexpected_row false (m ∷ ms) v P Q = refl
 
 pub additional_own_row : (W : World) (u : Bool) (S : Keywords Meaning) (k : Name) (p : Part Meaning) (v : Data) (P Q : Path) → wanted W u S k p v additional_properties ≡ is_empty (own W u S k p v P Q additional_properties)
-additional_own_row W u S k p v P Q = empty_where (is_truth false p.whole.schema) (is_empty (additional S W u v)) p.whole (λ s. unexpected_faults (has_neighbour S) (additional S W u v) v (P // k) Q) (unexpected_row (has_neighbour S) (additional S W u v) v (P // k) Q)
+additional_own_row W u S k p v P Q = empty_where (is_truth false p.whole.schema) (is_empty _) p.whole (λ s. unexpected_faults _ _ v _ Q) (unexpected_row _ _ v _ Q)
 
 module _ (W : World) (u : Bool) where
   abbrev pub Agrees : Data → Meaning → Type 0
@@ -93,32 +93,32 @@ module _ (W : World) (u : Bool) where
       pub own_row : (w : Keyword) → wanted W u S k p v w ≡ is_empty (own W u S k p v P Q w)
       own_row additional_properties = additional_own_row W u S k p v P Q
       own_row property_names = both_empty _ _ _ _
-          (empty_where (is_object p.whole.schema) (list_all (λ m. holds p.whole (string m.0)) (members v)) p.whole (λ s. flat_map (λ m. map (wrapped v Q) (s.answer.report (string m.0) (P // k) Q)) (members v)) names_row)
-          (not_both (is_truth false p.whole.schema) (is_empty (members v)) ∙ none_if (is_truth false p.whole.schema && not (is_empty (members v))) FalseSchema v (P // k) Q)
-      own_row required = required_row (names p) (P // k)
+          (empty_where (is_object p.whole.schema) _ p.whole (λ s. flat_map (λ m. map _ _) (members v)) names_row)
+          (not_both (is_truth false p.whole.schema) (is_empty _) ∙ none_if (is_truth false p.whole.schema && not _) FalseSchema v (P // k) Q)
+      own_row required = required_row _ _
       own_row dependent_required = due_row
       own_row dependencies = due_row
-      own_row any_of = not_not (list_any (λ s. holds s v) p.items) ∙ none_if (not (list_any (λ s. holds s v) p.items)) (AnyOf (branch_faults p v (P // k) Q)) v (P // k) Q
-      own_row one_of = exactly_one (accepting p v) ∙ both_empty _ _ _ _
-          (none_if (accepting p v == 0) (OneOfNotValid (branch_faults p v (P // k) Q)) v (P // k) Q)
-          (none_if (nat_lt 1 (accepting p v)) (OneOfMultipleValid (branch_faults p v (P // k) Q)) v (P // k) Q)
-      own_row not_keyword = none_if (holds p.whole v) (Not p.whole.schema) v (P // k) Q
-      own_row leaf = sym (is_empty-map (λ t. fault (Leaf k t) v Q (P // k)) (W.faults k p.whole.schema v))
+      own_row any_of = not_not _ ∙ none_if _ _ v _ Q
+      own_row one_of = exactly_one _ ∙ both_empty _ _ _ _
+          (none_if _ _ v _ Q)
+          (none_if _ _ v _ Q)
+      own_row not_keyword = none_if _ _ v _ Q
+      own_row leaf = sym (is_empty-map _ _)
       own_row _ = refl
 
       pub keyword_row : (w : Keyword) → keyword_accepts W u S k p v w ≡ is_empty (keyword_report W u S k p v P Q w)
       keyword_row w = both_empty _ _ _ _
-          (all_empty (λ a. holds a.sub a.value) (λ a. a.sub.answer.report a.value (down P a.in_schema) (down Q a.in_instance)) (applied W u S k p v w)
-          (Each-implies (GoodAsked Agrees (λ w. ⊤)) (λ a. holds a.sub a.value ≡ is_empty (a.sub.answer.report a.value (down P a.in_schema) (down Q a.in_instance))) (λ a g. g.0 a.value (down P a.in_schema) (down Q a.in_instance)) (applied W u S k p v w)
-          (applied_good Agrees (λ w. ⊤) W u S k p h v tt (Each-any (λ m. ⊤) (λ m. tt) (members v)) w)))
+          (all_empty (λ a. holds a.sub a.value) (λ a. a.sub.answer.report a.value _ _) (applied W u S k p v w)
+          (Each-implies (GoodAsked Agrees (λ w. ⊤)) _ (λ a g. g.0 a.value _ _) _
+          (applied_good Agrees _ W u S k p h v tt (Each-any _ _ _) w)))
           (own_row w)
 
   keep : (S : Schema Meaning) → GoodSchema Agrees S → (v : Data) (P Q : Path) → (meaning_step W u S).accepts v ≡ is_empty ((meaning_step W u S).report v P Q)
   keep (truth true) h v P Q = refl
-  keep (keywords S) h v P Q = all_empty (λ m. keyword_accepts W u S m.0 m.1 v (keyword_named W m.0)) (λ m. keyword_report W u S m.0 m.1 v P Q (keyword_named W m.0)) S
-      (Each-implies (λ m. GoodPart Agrees m.1) (λ m. keyword_accepts W u S m.0 m.1 v (keyword_named W m.0) ≡ is_empty (keyword_report W u S m.0 m.1 v P Q (keyword_named W m.0))) (λ m g. keyword_row S m.0 m.1 g v P Q (keyword_named W m.0)) S h)
+  keep (keywords S) h v P Q = all_empty _ _ S
+      (Each-implies _ _ (λ m g. keyword_row S m.0 m.1 g v P Q _) S h)
   keep _ h v P Q = refl
 
 pub verdict_of_reports : Verdict_of_reports
 unfolding meaning
-verdict_of_reports W u S v P Q = good_answer (Agrees W u) (meaning_step W u) (λ d. keep W u (schema_read (meaning_step W u) d)) S v P Q
+verdict_of_reports W u S v P Q = good_answer _ (meaning_step W u) (λ d. keep W u _) S v P Q

@@ -27,7 +27,7 @@ pub bytes_eq-itself : (a : Name) → bytes_eq a a ≡ true
 bytes_eq-itself a = (bytes_decides a a).1 refl
 
 pub bytes_eq-sym : (a b : Name) → bytes_eq a b ≡ bytes_eq b a
-bytes_eq-sym a b = one_answer (bytes_eq a b) (bytes_eq b a) (bytes_decides a b) (λ e. sym ((bytes_decides b a).0 e), λ e. (bytes_decides b a).1 (sym e))
+bytes_eq-sym a b = one_answer _ _ (bytes_decides a b) (λ e. sym ((bytes_decides b a).0 e), λ e. (bytes_decides b a).1 (sym e))
 
 -- no name stands twice
 abbrev pub Distinct : {X : Type 0} → List (Name × X) → Type 0
@@ -165,7 +165,7 @@ module _ {A : Type 0} where
 
 pub list_all-inside_out : {A B : Type 0} (f : A → B → Bool) (xs : List A) (ys : List B) → list_all (λ x. list_all (λ y. f x y) ys) xs ≡ list_all (λ y. list_all (λ x. f x y) xs) ys
 list_all-inside_out f [] ys = sym (list_all-true ys)
-list_all-inside_out f (x ∷ xs) ys = ap (λ b. list_all (λ y. f x y) ys && b) (list_all-inside_out f xs ys) ∙ sym (list_all-and (λ y. f x y) (λ y. list_all (λ z. f z y) xs) ys)
+list_all-inside_out f (x ∷ xs) ys = ap (λ b. list_all (λ y. f x y) ys && b) (list_all-inside_out f xs ys) ∙ sym (list_all-and (λ y. f x y) (λ y. list_all _ xs) ys)
 
 module _ {B : Type 0} (f : B → Bool) where
   all_of_found : (o : Option B) → list_all f (option_to_list o) ≡ list_all f (flat_map (λ y. y ∷ []) (option_to_list o))
