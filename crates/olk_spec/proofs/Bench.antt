@@ -1,5 +1,5 @@
 -- The bench's search for a text in a name, against std's.
-use Rattle.std.proofs.Common.{◌≡◌, ℕ, true, nat_eq, [], ◌∷◌, length, drop, refl, ap, sym, inl, inr}
+use Rattle.std.proofs.Common.{◌≡◌, ℕ, true, nat_eq, [], ◌∷◌, drop, refl, ap, sym, inl, inr}
 use Rattle.std.proofs.lemmas.Bool.{true≢false, or_cases}
 use Rattle.std.proofs.lemmas.Slice.Eq.{starts_is}
 use Rattle.std.proofs.lemmas.Bool.Decides.{Decides-eqb}

@@ -1,5 +1,5 @@
 -- `literal` is the grammar: a pattern stands for a test just where `literal` gives that test.
-use Rattle.std.proofs.Common.{◌≡◌, ◌≢◌, ℕ, ◌≤◌, Bool, true, false, cond, not, ◌&&◌, ◌⊎◌, inl, inr, List, [], ◌∷◌, ◌++◌, map, length, encode_utf8_all, refl, sym, ◌∙◌, ap, subst, append_assoc, append-nil, arith, bytes_eq, Some, None, chars}
+use Rattle.std.proofs.Common.{◌≡◌, ◌≢◌, ℕ, ◌≤◌, Bool, true, false, cond, not, ◌&&◌, ◌⊎◌, inl, inr, List, [], ◌∷◌, ◌++◌, map, length, encode_utf8_all, refl, sym, ◌∙◌, ap, subst, append_assoc, append-nil, arith, bytes_eq, Some, None}
 use Rattle.std.specs.Bool.{◌==◌}
 use Rattle.std.specs.Prelude.{codes, nat_le}
 use Rattle.std.specs.List.{list_all, join_with_byte}
@@ -80,7 +80,7 @@ suffix_stands cs (c ∷ x) y t s h =
           let n : Some (ends_with_text (encode_utf8_all (c ∷ x))) ≡ Some t = rw g at h in
           let e : ends_with_text (encode_utf8_all (c ∷ x)) ≡ t = cc in
           subst (λ l. IsPatternOf l cs) e
-          (s.front, s.whole ∙ ap (λ xs. s.front ++ xs) ((bytes_eq-Decides y _).0 g), record { spelled = c ∷ x; spells = s.spells; some = λ n. cc; text = refl })
+          (s.front, s.whole ∙ ap (λ xs. s.front ++ xs) ((bytes_eq-Decides y (codes "$")).0 g), record { spelled = c ∷ x; spells = s.spells; some = λ n. cc; text = refl })
       | inr g ↦ absurd (let n : None ≡ Some t = rw g at h in cc)
     ]
 

@@ -3,7 +3,7 @@ use Rattle.std.specs.Prelude.{◌≡◌, Bool, true, false, not, cond, ◌&&◌,
 use Rattle.std.proofs.Common.{refl, sym, ◌∙◌, subst, arith}
 use Rattle.olk_spec.specs.Names.{is_empty}
 use Rattle.olk_spec.specs.Faults.{◌∼◌, like_empty}
-use Rattle.olk_spec.specs.Meaning.{meaning, accepts, report}
+use Rattle.olk_spec.specs.Meaning.{meaning}
 use Rattle.olk_spec.specs.Laws.{Empty_report, Only_report, Not_not, One_branch}
 use Rattle.olk_spec.proofs.Order.{∼_is_empty}
 use Rattle.olk_spec.proofs.Verdicts.{verdict_of_reports}

@@ -1,5 +1,5 @@
 -- A tree is valid exactly where its schema accepts.
-use Rattle.std.specs.Prelude.{◌≡◌, Bool, true, false, not, cond, ◌&&◌, ◌||◌, ◌==◌, nat_lt, nat_eq, List, [], ◌∷◌, ◌++◌, map, codes, length, Option, Some, None, option_to_list, is_some}
+use Rattle.std.specs.Prelude.{◌≡◌, Bool, true, false, not, cond, ◌&&◌, ◌||◌, ◌==◌, nat_lt, List, [], ◌∷◌, ◌++◌, map, codes, Option, Some, None, option_to_list, is_some}
 use Rattle.std.specs.List.{flat_map, list_all, list_any}
 use Rattle.std.proofs.Common.{refl, sym, ◌∙◌, ap, subst}
 use Rattle.std.proofs.lemmas.List.{append-nil}
@@ -10,13 +10,13 @@ use Rattle.serde_json.specs.Data.{Data, boolean, string, object, Items, no_items
 use Rattle.olk_spec.specs.Names.{Name, Path, ◌//◌, down, filter_once, put_if, is_empty, is_among, lookup_name}
 use Rattle.olk_spec.specs.World.{World}
 use Rattle.olk_spec.specs.Vocabulary.{Keyword, properties, pattern_properties, additional_properties, property_names, required, dependent_required, dependent_schemas, dependencies, property_dependencies, all_of, any_of, one_of, not_keyword, if_keyword, then_keyword, else_keyword, leaf, keyword_named}
-use Rattle.olk_spec.specs.Schemas.{at, has, is_array, is_object, is_truth, Schema, Keywords, Part, listed, members, branches, names, texts, read, read_members, name_lists, parts_at, entries_at, names_at, wholes_at, is_present}
+use Rattle.olk_spec.specs.Schemas.{at, has, is_array, is_object, is_truth, Schema, Keywords, Part, listed, members, branches, names, texts, read, read_members, parts_at, entries_at, names_at, wholes_at, is_present}
 use Rattle.olk_spec.specs.Meanings.{Meaning, Subschema, holds, applied, additional, Asked, asked, matches, matching, restricts, is_declared, is_conditional, if_accepts, if_refuses}
 use Rattle.olk_spec.specs.Accepts.{wanted, keyword_accepts, missing, due, accepting}
-use Rattle.olk_spec.specs.Faults.{Fault, fault, FalseSchema, Not, Required, Leaf, Kind}
+use Rattle.olk_spec.specs.Faults.{Fault, FalseSchema, Kind}
 use Rattle.olk_spec.specs.Reports.{fault_if, required_faults, own}
 use Rattle.olk_spec.specs.Tree.{Tree, node, no_tree, Described, is_valid, result, result_node, plain, erring, described, described_fault, trees_from}
-use Rattle.olk_spec.specs.Trees.{where_so, declared_trees, pattern_trees, additional_trees, additional_names, matched_names, on_objects, missing_child, branch_trees, asked_trees, additional_child, names_child, due_trees, dependency_tree, any_of_child, one_of_child, are_two, case_trees, if_child, keyword_child, fuses_one, fuses_two, declares, has_patterns}
+use Rattle.olk_spec.specs.Trees.{where_so, declared_trees, pattern_trees, additional_trees, additional_names, matched_names, on_objects, missing_child, branch_trees, asked_trees, additional_child, names_child, due_trees, dependency_tree, any_of_child, one_of_child, case_trees, if_child, keyword_child, fuses_one, fuses_two, declares, has_patterns}
 use Rattle.olk_spec.specs.Meaning.{meaning, meaning_step}
 use Rattle.olk_spec.specs.Distinct.{DistinctNames, DistinctInItems, DistinctInMembers}
 use Rattle.olk_spec.specs.Laws.{Verdict_of_trees}
@@ -25,7 +25,7 @@ use Rattle.olk_spec.proofs.Induction.{sound_answer, EachItem, EachMember, schema
 use Rattle.olk_spec.proofs.Applied.{GoodAsked, applied_good}
 use Rattle.olk_spec.proofs.Passing.{flat_map-none}
 use Rattle.olk_spec.proofs.Truth.{not_or_same, and_first, and_second, or_second, or_from, and_from, same_truth, regroup, dependency_truth, missing_truth, unless_either, among_truth, some_counted, is_among-filter_once, Each-among, each_true, all_true, any_of_either}
-use Rattle.olk_spec.proofs.Walks.{neither, Distinct, Distinct-from, Distinct-map, On-lookup_name-named, Each-found, list_all-flat_map, list_all-and, list_all-same, list_all-where, list_all-filter_once, list_all-inside_out, list_all-other_side}
+use Rattle.olk_spec.proofs.Walks.{neither, Distinct, Distinct-from, Distinct-map, On-lookup_name-named, Each-found, list_all-flat_map, list_all-and, list_all-alike, list_all-true, list_all-where, list_all-filter_once, list_all-inside_out, list_all-other_side}
 use Rattle.olk_spec.proofs.Named.{Named, named}
 use Rattle.olk_spec.proofs.Reading.{members_read, entries_read, place}
 use Rattle.olk_spec.proofs.Verdicts.{is_empty-map, exactly_one, additional_own_row}
@@ -63,6 +63,9 @@ none_where false k v P Q = refl
 
 pub none_missing : (ns : List Name) (v : Data) (P Q : Path) → is_empty (required_faults ns v P Q) ≡ is_empty (missing ns v)
 none_missing ns v P Q = is_empty-map _ _
+
+both_same : {a b c d : Bool} → a ≡ b → c ≡ d → (a && c) ≡ (b && d)
+both_same e f = λ i. e i && f i
 
 -- ---- values
 
@@ -122,8 +125,7 @@ module _ (W : World) (u : Bool) (S : Keywords Meaning) (h : GoodKeywords TreeAgr
   -- a declared name's subschema over the member of that name
   declared_row : list_all is_valid (flat_map (declared_trees W u S v P Q) (members v)) ≡ the_properties
   declared_row =
-      list_all-flat_map is_valid (declared_trees W u S v P Q) (members v)
-      ∙ list_all-same (λ m. list_all is_valid (declared_trees W u S v P Q m)) (λ m. list_all (λ s. holds s m.1) (option_to_list (lookup_name m.0 es))) (members v) (Each-implies _ _ of_member _ fines)
+      rw list_all-flat_map (list_all-alike of_member (members v) fines)
       ∙ sym (list_all-other_side (λ s w. holds s w) es _ (entries_distinct (codes "properties")) dM)
       ∙ list_all-flat_map (λ e. list_all (λ w. holds e.1 w) (at e.0 v)) (λ p. p.entries) (parts_at S (codes "properties"))
       ∙ (λ i. list_all (λ p. of_part p i) (parts_at S (codes "properties")))
@@ -132,19 +134,16 @@ module _ (W : World) (u : Bool) (S : Keywords Meaning) (h : GoodKeywords TreeAgr
       es = entries_at S (codes "properties")
 
       of_member : (m : Name × Data) → DistinctNames m.1 → list_all is_valid (declared_trees W u S v P Q m) ≡ list_all (λ s. holds s m.1) (option_to_list (lookup_name m.0 es))
-      of_member m g = list_all-map is_valid _ (option_to_list (lookup_name m.0 es))
-          ∙ list_all-same (λ s. is_valid (s.answer.tree m.1 _ _)) _ (option_to_list (lookup_name m.0 es)) (Each-implies (GoodSub TreeAgrees) _ (λ s c. c m.1 _ _ g) _ (Each-option _ _ (On-lookup_name _ m.0 es (entries_at_good TreeAgrees S h (codes "properties")))))
+      of_member m g =
+          rw list_all-map (list_all-alike (λ s (c : GoodSub TreeAgrees s). c m.1 _ _ g) (option_to_list (lookup_name m.0 es)) (Each-option _ _ (On-lookup_name _ m.0 es (entries_at_good TreeAgrees S h (codes "properties")))))
 
       of_part : (p : Part Meaning) → list_all (λ e. list_all (λ w. holds e.1 w) (at e.0 v)) p.entries ≡ keyword_accepts W u S (codes "properties") p v properties
-      of_part p = sym (and-true _
-          ∙ list_all-flat_map _ _ p.entries
-          ∙ (λ i. list_all (λ e. list_all-map (λ a. holds a.sub a.value) (λ w. asked e.1 w (codes "properties" ∷ e.0 ∷ []) (e.0 ∷ [])) (at e.0 v) i) p.entries))
+      of_part p = sym (and-true _ ∙ simp (list_all-flat_map, list_all-map))
 
   -- a pattern's subschema over each member that it matches
   patterns_row : list_all is_valid (flat_map (pattern_trees W u S v P Q) (members v)) ≡ the_patterns
   patterns_row =
-      list_all-flat_map is_valid (pattern_trees W u S v P Q) (members v)
-      ∙ list_all-same (λ m. list_all is_valid (pattern_trees W u S v P Q m)) (λ m. list_all (λ e. not _ || holds e.1 m.1) es) (members v) (Each-implies _ _ of_member _ fines)
+      rw list_all-flat_map (list_all-alike of_member (members v) fines)
       ∙ list_all-inside_out (λ m e. not (matches W u e.0 m.0) || holds e.1 m.1) (members v) es
       ∙ list_all-flat_map (λ e. list_all (λ m. not _ || holds e.1 m.1) (members v)) (λ p. p.entries) (parts_at S (codes "patternProperties"))
       ∙ (λ i. list_all (λ p. of_part p i) (parts_at S (codes "patternProperties")))
@@ -153,14 +152,12 @@ module _ (W : World) (u : Bool) (S : Keywords Meaning) (h : GoodKeywords TreeAgr
       es = entries_at S (codes "patternProperties")
 
       of_member : (m : Name × Data) → DistinctNames m.1 → list_all is_valid (pattern_trees W u S v P Q m) ≡ list_all (λ e. not (matches W u e.0 m.0) || holds e.1 m.1) es
-      of_member m g = list_all-map is_valid _ (filter_once _ es)
-          ∙ list_all-same (λ e. is_valid (e.1.answer.tree m.1 _ _)) _ (filter_once _ es) (Each-implies _ _ (λ e c. c m.1 _ _ g) _ (Each-filter_once _ _ es (entries_at_good TreeAgrees S h (codes "patternProperties"))))
+      of_member m g =
+          rw list_all-map (list_all-alike (λ e (c : GoodEntry TreeAgrees e). c m.1 _ _ g) (filter_once _ es) (Each-filter_once _ _ es (entries_at_good TreeAgrees S h (codes "patternProperties"))))
           ∙ list_all-filter_once _ (λ e. matches W u e.0 m.0) es
 
       of_part : (p : Part Meaning) → list_all (λ e. list_all (λ m. not (matches W u e.0 m.0) || holds e.1 m.1) (members v)) p.entries ≡ keyword_accepts W u S (codes "patternProperties") p v pattern_properties
-      of_part p = sym (and-true _
-          ∙ list_all-flat_map _ _ p.entries
-          ∙ (λ i. list_all (λ e. (list_all-map (λ a. holds a.sub a.value) (λ m. asked e.1 m.1 (codes "patternProperties" ∷ e.0 ∷ []) (m.0 ∷ [])) (filter_once (λ m. matches W u e.0 m.0) (members v)) ∙ list_all-filter_once (λ m. holds e.1 m.1) (λ m. matches W u e.0 m.0) (members v)) i) p.entries))
+      of_part p = sym (and-true _ ∙ simp (list_all-flat_map, list_all-map, list_all-filter_once))
 
   -- `required` inside another validator
   missing_row : (b : Bool) → list_all is_valid (missing_child W u S v P Q b) ≡ (not b || the_required)
@@ -179,23 +176,22 @@ module _ (W : World) (u : Bool) (S : Keywords Meaning) (h : GoodKeywords TreeAgr
 
   module _ (k : Name) (p : Part Meaning) (g : GoodPart TreeAgrees p) where
     asked_row : (w : Keyword) → list_all is_valid (asked_trees W u S v P Q k p w) ≡ list_all (λ a. holds a.sub a.value) (applied W u S k p v w)
-    asked_row w = list_all-map is_valid (λ a. a.sub.answer.tree a.value (down P a.in_schema) (down Q a.in_instance)) (applied W u S k p v w)
-        ∙ list_all-same (λ a. is_valid (a.sub.answer.tree a.value (down P a.in_schema) (down Q a.in_instance))) (λ a. holds a.sub a.value) (applied W u S k p v w) (Each-implies (GoodAsked TreeAgrees DistinctNames) (λ a. is_valid (a.sub.answer.tree a.value (down P a.in_schema) (down Q a.in_instance)) ≡ holds a.sub a.value) (λ a c. c.0 a.value (down P a.in_schema) (down Q a.in_instance) c.1) (applied W u S k p v w) (applied_good TreeAgrees DistinctNames W u S k p g v dv fines w))
+    asked_row w =
+        rw list_all-map (list_all-alike (λ a (c : GoodAsked TreeAgrees DistinctNames a). c.0 a.value (down P a.in_schema) (down Q a.in_instance) c.1) (applied W u S k p v w) (applied_good TreeAgrees DistinctNames W u S k p g v dv fines w))
 
     asked_child : (w : Keyword) → list_all is_valid (plain (P // k) Q (asked_trees W u S v P Q k p w) ∷ []) ≡ (list_all (λ a. holds a.sub a.value) (applied W u S k p v w) && true)
-    asked_child w = plain_valid (P // k) Q (asked_trees W u S v P Q k p w) ∙ asked_row w ∙ sym (and-true (list_all (λ a. holds a.sub a.value) (applied W u S k p v w)))
+    asked_child w = plain_valid (P // k) Q (asked_trees W u S v P Q k p w) ∙ asked_row w ∙ sym (and-true _)
 
     abbrev is_additional : Name → Bool
     is_additional n = not (is_declared S n) && is_empty (matching S W u n)
 
     additional_row : list_all is_valid (flat_map (additional_trees W u S v P Q k p) (members v)) ≡ list_all (λ a. holds a.sub a.value) (applied W u S k p v additional_properties)
     additional_row =
-        list_all-flat_map is_valid (additional_trees W u S v P Q k p) (members v)
-        ∙ list_all-same (λ m. list_all is_valid (additional_trees W u S v P Q k p m)) (λ m. not (is_additional m.0) || (not (is_object p.whole.schema) || holds p.whole m.1)) (members v) (Each-implies (λ m. DistinctNames m.1 × (is_among m.0 (map (λ e. e.0) (members v)) ≡ true)) (λ m. list_all is_valid (additional_trees W u S v P Q k p m) ≡ (not (is_additional m.0) || (not (is_object p.whole.schema) || holds p.whole m.1))) of_member (members v) (Each-both (λ m. DistinctNames m.1) (λ m. is_among m.0 (map (λ e. e.0) (members v)) ≡ true) (members v) fines (Each-among (members v))))
-        ∙ sym (list_all-flat_map (λ a. holds a.sub a.value) (λ m. put_if (is_object p.whole.schema) (asked p.whole m.1 (k ∷ []) (m.0 ∷ [])) []) (additional S W u v)
-        ∙ (λ i. list_all (λ m. list_all-where (λ a. holds a.sub a.value) (is_object p.whole.schema) (asked p.whole m.1 (k ∷ []) (m.0 ∷ [])) i) (additional S W u v))
-        ∙ list_all-filter_once (λ m. not (is_object p.whole.schema) || holds p.whole m.1) (λ m. is_additional m.0) (members v))
+        rw list_all-flat_map (list_all-alike of_member (members v) (Each-both _ _ (members v) fines (Each-among (members v))) ∙ sym asked_here)
       where
+        asked_here : list_all (λ a. holds a.sub a.value) (applied W u S k p v additional_properties) ≡ list_all (λ m. not (is_additional m.0) || (not (is_object p.whole.schema) || holds p.whole m.1)) (members v)
+        asked_here = simp (list_all-flat_map, list_all-where, list_all-filter_once)
+
         of_member : (m : Name × Data) → DistinctNames m.1 × (is_among m.0 (map (λ e. e.0) (members v)) ≡ true) → list_all is_valid (additional_trees W u S v P Q k p m) ≡ (not (is_additional m.0) || (not (is_object p.whole.schema) || holds p.whole m.1))
         of_member m c = where_valid _ _ _ (g.0 m.1 _ _ c.0)
             ∙ ap (λ b. not (is_object p.whole.schema && b) || holds p.whole m.1) (is_among-filter_once is_additional m.0 _ ∙ ap (λ b. is_additional m.0 && b) c.1)
@@ -203,28 +199,13 @@ module _ (W : World) (u : Bool) (S : Keywords Meaning) (h : GoodKeywords TreeAgr
 
     -- the declared, the matching and the additional schemas, member by member
     members_row : list_all is_valid (flat_map (λ m. declared_trees W u S v P Q m ++ pattern_trees W u S v P Q m ++ additional_trees W u S v P Q k p m) (members v)) ≡ ((the_properties && the_patterns) && list_all (λ a. holds a.sub a.value) (applied W u S k p v additional_properties))
-    members_row =
-        list_all-flat_map is_valid (λ m. ds m ++ ps m ++ rs m) (members v)
-        ∙ (λ i. list_all (λ m. (list_all-append is_valid (ds m ++ ps m) (rs m) ∙ ap (λ b. b && list_all is_valid (rs m)) (list_all-append is_valid (ds m) (ps m))) i) (members v))
-        ∙ list_all-and (λ m. list_all is_valid (ds m) && list_all is_valid (ps m)) (λ m. list_all is_valid (rs m)) (members v)
-        ∙ ap (λ b. b && list_all (λ m. list_all is_valid (rs m)) (members v)) (list_all-and (λ m. list_all is_valid (ds m)) (λ m. list_all is_valid (ps m)) (members v))
-        ∙ (λ i. (sym (list_all-flat_map is_valid ds (members v)) i && sym (list_all-flat_map is_valid ps (members v)) i) && sym (list_all-flat_map is_valid rs (members v)) i)
-        ∙ (λ i. (declared_row i && patterns_row i) && additional_row i)
-      where
-        ds : Name × Data → List Tree
-        ds m = declared_trees W u S v P Q m
-
-        ps : Name × Data → List Tree
-        ps m = pattern_trees W u S v P Q m
-
-        rs : Name × Data → List Tree
-        rs m = additional_trees W u S v P Q k p m
+    members_row = simp (list_all-flat_map, list_all-append, list_all-and) (simp (list_all-flat_map, list_all-and) at (both_same (both_same declared_row patterns_row) additional_row))
 
     additional_child_row : list_all is_valid (additional_child W u S v P Q k p) ≡ (not (restricts S) || (keyword_accepts W u S k p v additional_properties && ((the_properties && the_patterns) && (not (fuses_one S) || the_required))))
-    additional_child_row = where_valid (restricts S) (result (P // k) Q annotation false (described (own W u S k p v P Q additional_properties)) (walked ++ matched_child ++ missing_child W u S v P Q (fuses_one S))) (keyword_accepts W u S k p v additional_properties && ((the_properties && the_patterns) && (not (fuses_one S) || the_required)))
+    additional_child_row = where_valid (restricts S) _ _
         (is_valid-result (P // k) Q annotation false (described (own W u S k p v P Q additional_properties)) (walked ++ matched_child ++ missing_child W u S v P Q (fuses_one S))
         ∙ (λ i. (own_part i && true) && children i)
-        ∙ regroup (wanted W u S k p v additional_properties) the_properties the_patterns (list_all (λ a. holds a.sub a.value) (applied W u S k p v additional_properties)) (not (fuses_one S) || the_required))
+        ∙ regroup (wanted W u S k p v additional_properties) the_properties the_patterns _ (not (fuses_one S) || the_required))
       where
         annotation : Option (List Name)
         annotation = on_objects W u S v P Q (is_object p.whole.schema && (cond (declares S) (has_patterns S) (not (has_patterns S)) || not (is_empty (additional_names W u S v P Q)))) (additional_names W u S v P Q)
@@ -242,9 +223,7 @@ module _ (W : World) (u : Bool) (S : Keywords Meaning) (h : GoodKeywords TreeAgr
         walked = flat_map (λ m. declared_trees W u S v P Q m ++ pattern_trees W u S v P Q m ++ additional_trees W u S v P Q k p m) (members v)
 
         children : list_all is_valid (walked ++ matched_child ++ missing_child W u S v P Q (fuses_one S)) ≡ ((((the_properties && the_patterns) && list_all (λ a. holds a.sub a.value) (applied W u S k p v additional_properties)) && true) && (not (fuses_one S) || the_required))
-        children = list_all-append is_valid (walked ++ matched_child) (missing_child W u S v P Q (fuses_one S))
-            ∙ ap (λ b. b && list_all is_valid (missing_child W u S v P Q (fuses_one S))) (list_all-append is_valid walked matched_child)
-            ∙ (λ i. (members_row i && matched_row i) && missing_row (fuses_one S) i)
+        children = rw (list_all-append, list_all-append) (both_same (both_same members_row matched_row) (missing_row (fuses_one S)))
 
     names_row : list_all is_valid (names_child W u S v P Q k p) ≡ keyword_accepts W u S k p v property_names
     names_row =
@@ -267,9 +246,7 @@ module _ (W : World) (u : Bool) (S : Keywords Meaning) (h : GoodKeywords TreeAgr
 
     dependencies_row : list_all is_valid (map (dependency_tree W u S v P Q k p) (filter_once (λ e. has e.0 v) p.entries)) ≡ keyword_accepts W u S k p v dependencies
     dependencies_row =
-        list_all-map is_valid (dependency_tree W u S v P Q k p) (filter_once _ p.entries)
-        ∙ list_all-filter_once (λ e. is_valid (dependency_tree W u S v P Q k p e)) (λ e. has e.0 v) p.entries
-        ∙ list_all-same (λ e. not (has e.0 v) || is_valid (dependency_tree W u S v P Q k p e)) _ p.entries (Each-implies _ _ of_entry p.entries g.1)
+        rw (list_all-map, list_all-filter_once) (list_all-alike of_entry p.entries g.1)
         ∙ list_all-and _ _ p.entries
         ∙ (λ i. sym subschemas i && sym name_lists_row i)
       where
@@ -282,18 +259,15 @@ module _ (W : World) (u : Bool) (S : Keywords Meaning) (h : GoodKeywords TreeAgr
             ∙ dependency_truth (has e.0 v) _ _ _ _ _ (is_valid-erring (P // k) Q (required_faults _ v (P // k) Q) ∙ none_missing _ v _ Q) (c v (P // k // e.0) Q dv)
 
         subschemas : list_all (λ a. holds a.sub a.value) (applied W u S k p v dependencies) ≡ list_all (λ e. not (has e.0 v && not (is_array e.1.schema)) || holds e.1 v) p.entries
-        subschemas = list_all-map _ _ (filter_once _ p.entries) ∙ list_all-filter_once _ _ p.entries
+        subschemas = simp (list_all-map, list_all-filter_once)
 
         name_lists_row : list_all (λ e. is_empty (missing e.1 v)) (due p v) ≡ list_all (λ e. not (is_array e.1.schema) || (not (has e.0 v) || is_empty (missing (texts e.1.schema) v))) p.entries
-        name_lists_row = list_all-filter_once _ _ (name_lists p)
-            ∙ list_all-map (λ e. not _ || is_empty _) _ (filter_once _ p.entries)
-            ∙ list_all-filter_once _ (λ e. is_array e.1.schema) p.entries
+        name_lists_row = simp (list_all-filter_once, list_all-map)
 
     -- the branches that accept
     branches_row : list_all is_valid (branch_trees W u S v P Q k p (λ s. holds s v)) ≡ true
-    branches_row = list_all-map is_valid (λ b. b.1.answer.tree v (P // k // b.0) Q) (filter_once (λ b. holds b.1 v) (branches p))
-        ∙ list_all-filter_once (λ b. is_valid (b.1.answer.tree v (P // k // b.0) Q)) (λ b. holds b.1 v) (branches p)
-        ∙ all_true (λ b. not (holds b.1 v) || is_valid (b.1.answer.tree v (P // k // b.0) Q)) (branches p) (Each-implies (GoodEntry TreeAgrees) (λ b. (not (holds b.1 v) || is_valid (b.1.answer.tree v (P // k // b.0) Q)) ≡ true) (λ b c. ap (λ a. not (holds b.1 v) || a) (c v (P // k // b.0) Q dv) ∙ not_or_same (holds b.1 v)) (branches p) (branches_good TreeAgrees p g))
+    branches_row =
+        rw (list_all-map, list_all-filter_once) (list_all-alike (λ b (c : GoodEntry TreeAgrees b). ap (λ a. not (holds b.1 v) || a) (c v (P // k // b.0) Q dv) ∙ not_or_same (holds b.1 v)) (branches p) (branches_good TreeAgrees p g) ∙ list_all-true (branches p))
 
     any_of_row : is_valid (any_of_child W u S v P Q k p) ≡ not (accepting p v == 0)
     any_of_row = by (accepting p v == 0)
@@ -329,19 +303,15 @@ module _ (W : World) (u : Bool) (S : Keywords Meaning) (h : GoodKeywords TreeAgr
 
       case_row : (b : Bool) (n : Name) → list_all is_valid (case_trees W u S v P Q k p b n) ≡ list_all (λ q. not b || holds q.whole v) (parts_at S n)
       case_row b n =
-          list_all-flat_map is_valid (λ s. where_so b (s.answer.tree v (P // n) Q)) (wholes_at S n)
-          ∙ list_all-same (λ s. list_all is_valid (where_so b (s.answer.tree v (P // n) Q))) (λ s. not b || holds s v) (wholes_at S n) (Each-implies (GoodSub TreeAgrees) (λ s. list_all is_valid (where_so b (s.answer.tree v (P // n) Q)) ≡ (not b || holds s v)) (λ s c. where_valid b (s.answer.tree v (P // n) Q) (holds s v) (c v (P // n) Q dv)) (wholes_at S n) (wholes_at_good TreeAgrees S h n))
+          rw list_all-flat_map (list_all-alike (λ s (c : GoodSub TreeAgrees s). where_valid b (s.answer.tree v (P // n) Q) (holds s v) (c v (P // n) Q dv)) (wholes_at S n) (wholes_at_good TreeAgrees S h n))
           ∙ list_all-map (λ s. not b || holds s v) (λ q. q.whole) (parts_at S n)
 
       one_asked : (b c : Bool) (n : Name) (q : Part Meaning) → c ≡ b → (list_all (λ a. holds a.sub a.value) (put_if c (asked q.whole v (n ∷ []) []) []) && true) ≡ (not b || holds q.whole v)
-      one_asked b c n q e = and-true (list_all (λ a. holds a.sub a.value) (put_if c (asked q.whole v (n ∷ []) []) [])) ∙ list_all-where (λ a. holds a.sub a.value) c (asked q.whole v (n ∷ []) []) ∙ ap (λ d. not d || holds q.whole v) e
+      one_asked b c n q e = and-true _ ∙ list_all-where (λ a. holds a.sub a.value) c (asked q.whole v (n ∷ []) []) ∙ ap (λ d. not d || holds q.whole v) e
 
       if_row : list_all is_valid (if_child W u S v P Q k p) ≡ (not (is_conditional S) || (the_then && the_else))
-      if_row = where_valid (is_conditional S) (plain (P // k) Q (itself ++ thens ++ elses)) (the_then && the_else)
-          (is_valid-plain (P // k) Q (itself ++ thens ++ elses)
-          ∙ list_all-append is_valid (itself ++ thens) elses
-          ∙ ap (λ b. b && list_all is_valid elses) (list_all-append is_valid itself thens)
-          ∙ (λ i. (itself_row i && then_row i) && else_row i))
+      if_row = where_valid (is_conditional S) _ _
+          (is_valid-plain (P // k) Q (itself ++ thens ++ elses) ∙ rw (list_all-append, list_all-append) (both_same (both_same itself_row then_row) else_row))
         where
           itself : List Tree
           itself = where_so (holds p.whole v) (p.whole.answer.tree v (P // k) Q)
@@ -379,7 +349,7 @@ module _ (W : World) (u : Bool) (S : Keywords Meaning) (h : GoodKeywords TreeAgr
 
   module _ (k : Name) (p : Part Meaning) (g : GoodPart TreeAgrees p) (there : lookup_name k S ≡ Some p) where
     keyword_row : (w : Keyword) → Named k w → list_all is_valid (keyword_child W u S v P Q k p w) ≡ shown k p w
-    keyword_row properties n = where_valid (not (restricts S)) _ (the_properties && (not (fuses_two S) || the_required)) (is_valid-result (P // k) Q annotation false [] (walked ++ missing_child W u S v P Q (fuses_two S)) ∙ list_all-append is_valid walked (missing_child W u S v P Q (fuses_two S)) ∙ (λ i. declared_row i && missing_row (fuses_two S) i))
+    keyword_row properties n = where_valid (not (restricts S)) _ _ (is_valid-result (P // k) Q annotation false [] (walked ++ missing_child W u S v P Q (fuses_two S)) ∙ rw list_all-append (both_same declared_row (missing_row (fuses_two S))))
         ∙ ap (λ b. b || (the_properties && (not (fuses_two S) || the_required))) (not-not (restricts S))
       where
         annotation : Option (List Name)
@@ -387,20 +357,20 @@ module _ (W : World) (u : Bool) (S : Keywords Meaning) (h : GoodKeywords TreeAgr
 
         walked : List Tree
         walked = flat_map (declared_trees W u S v P Q) (members v)
-    keyword_row pattern_properties n = where_valid (not (restricts S)) _ the_patterns (is_valid-result (P // k) Q annotation false [] (asked_trees W u S v P Q k p pattern_properties) ∙ asked_row k p g pattern_properties ∙ patterns_here)
+    keyword_row pattern_properties n = where_valid (not (restricts S)) _ _ (is_valid-result (P // k) Q annotation false [] (asked_trees W u S v P Q k p pattern_properties) ∙ asked_row k p g pattern_properties ∙ patterns_here)
         ∙ ap (λ b. b || the_patterns) (not-not (restricts S))
       where
         annotation : Option (List Name)
         annotation = on_objects W u S v P Q true (flat_map (λ e. map (λ m. m.0) (filter_once (λ m. matches W u e.0 m.0) (members v))) p.entries)
 
         patterns_here : list_all (λ a. holds a.sub a.value) (applied W u S k p v pattern_properties) ≡ the_patterns
-        patterns_here = sym (and-true (list_all (λ a. holds a.sub a.value) (applied W u S k p v pattern_properties))) ∙ sym (here (codes "patternProperties") pattern_properties k p n there)
+        patterns_here = sym (and-true _) ∙ sym (here (codes "patternProperties") pattern_properties k p n there)
     keyword_row additional_properties n = additional_child_row k p g
     keyword_row property_names n = names_row k p g
-    keyword_row required n = where_valid (not (fuses_one S) && not (fuses_two S)) (erring (P // k) Q (required_faults (names p) v (P // k) Q)) (is_empty (missing (names p) v)) (is_valid-erring (P // k) Q (required_faults (names p) v (P // k) Q) ∙ none_missing (names p) v (P // k) Q) ∙ unless_either (fuses_one S) (fuses_two S) (is_empty (missing (names p) v))
+    keyword_row required n = where_valid _ _ _ (is_valid-erring (P // k) Q (required_faults (names p) v (P // k) Q) ∙ none_missing (names p) v (P // k) Q) ∙ unless_either (fuses_one S) (fuses_two S) _
     keyword_row dependent_required n = plain_valid (P // k) Q (due_trees W u S v P Q k p) ∙ due_row k p g
     keyword_row dependent_schemas n = asked_child k p g dependent_schemas
-    keyword_row dependencies n = plain_valid (P // k) Q (map (dependency_tree W u S v P Q k p) (filter_once (λ e. has e.0 v) p.entries)) ∙ dependencies_row k p g
+    keyword_row dependencies n = plain_valid (P // k) Q (map (dependency_tree W u S v P Q k p) (filter_once _ p.entries)) ∙ dependencies_row k p g
     keyword_row property_dependencies n = asked_child k p g property_dependencies
     keyword_row all_of n = asked_child k p g all_of
     keyword_row any_of n = one_valid (any_of_child W u S v P Q k p) ∙ any_of_row k p g ∙ sym (some_counted (λ s. holds s v) p.items)
@@ -428,15 +398,15 @@ module _ (W : World) (u : Bool) (S : Keywords Meaning) (h : GoodKeywords TreeAgr
     properties_true = by (restricts S) refl (lookup_name (codes "properties") S) refl (shows (codes "properties"))
       where
         by : (r : Bool) → restricts S ≡ r → (o : Option (Part Meaning)) → lookup_name (codes "properties") S ≡ o → On (λ p. shown (codes "properties") p properties ≡ true) o → the_properties ≡ true
-        by true r o e t = and_first the_properties the_patterns (and_first _ _ (by_additional r))
+        by true r o e t = and_first _ _ (and_first _ _ (by_additional r))
         by false r None e t = absent (codes "properties") properties e
-        by false r (Some p) e t = and_first the_properties (not (fuses_two S) || the_required) (or_second (restricts S) (the_properties && (not (fuses_two S) || the_required)) t r)
+        by false r (Some p) e t = and_first _ _ (or_second _ _ t r)
 
     patterns_true : the_patterns ≡ true
     patterns_true = by (restricts S) refl (lookup_name (codes "patternProperties") S) refl (shows (codes "patternProperties"))
       where
         by : (r : Bool) → restricts S ≡ r → (o : Option (Part Meaning)) → lookup_name (codes "patternProperties") S ≡ o → On (λ p. shown (codes "patternProperties") p pattern_properties ≡ true) o → the_patterns ≡ true
-        by true r o e t = and_second the_properties the_patterns (and_first _ _ (by_additional r))
+        by true r o e t = and_second _ _ (and_first _ _ (by_additional r))
         by false r None e t = absent (codes "patternProperties") pattern_properties e
         by false r (Some p) e t = or_second _ the_patterns t r
 
@@ -453,8 +423,8 @@ module _ (W : World) (u : Bool) (S : Keywords Meaning) (h : GoodKeywords TreeAgr
         unrestricted = and_first _ _ (and_first _ _ (and_first _ _ e))
 
         by : (o : Option (Part Meaning)) → lookup_name (codes "properties") S ≡ o → On (λ p. shown (codes "properties") p properties ≡ true) o → the_required ≡ true
-        by None n t = absurd (true≢false (sym (and_first (declares S) (not (restricts S)) unrestricted) ∙ ap is_some n))
-        by (Some p) n t = or_second (not (fuses_two S)) the_required (and_second the_properties (not (fuses_two S) || the_required) (or_second (restricts S) (the_properties && (not (fuses_two S) || the_required)) t (sym (not-not (restricts S)) ∙ ap not (and_second (declares S) (not (restricts S)) unrestricted)))) (ap not e)
+        by None n t = absurd (true≢false (sym (and_first _ _ unrestricted) ∙ ap is_some n))
+        by (Some p) n t = or_second _ _ (and_second _ _ (or_second _ _ t (sym (not-not (restricts S)) ∙ ap not (and_second (declares S) _ unrestricted)))) (ap not e)
 
     required_true : the_required ≡ true
     required_true = by (fuses_one S) refl (fuses_two S) refl (lookup_name (codes "required") S) refl (shows (codes "required"))
@@ -463,7 +433,7 @@ module _ (W : World) (u : Bool) (S : Keywords Meaning) (h : GoodKeywords TreeAgr
         by true a b c o e t = by_one a
         by false a true c o e t = by_two c
         by false a false c None e t = absent (codes "required") required e
-        by false a false c (Some p) e t = here (codes "required") required (codes "required") p refl e ∙ or_second (fuses_one S || fuses_two S) (keyword_accepts W u S (codes "required") p v required) t (λ i. a i || c i)
+        by false a false c (Some p) e t = here (codes "required") required (codes "required") p refl e ∙ or_second _ _ t (λ i. a i || c i)
 
     -- `then` and `else`, the one that n names, where `if` is there or is not
     module _ (n : Name) (w : Keyword) (asks_if : Bool) (idle : asks_if ≡ false → (p : Part Meaning) → keyword_accepts W u S n p v w ≡ true) where
@@ -494,17 +464,18 @@ module _ (W : World) (u : Bool) (S : Keywords Meaning) (h : GoodKeywords TreeAgr
     -- a keyword at `additionalProperties` that neither closes nor restricts asks nothing
     open_object : (k : Name) (p : Part Meaning) (o f : Bool) → o ≡ false → f ≡ false → (list_all (λ a. holds a.sub a.value) (flat_map (λ m. put_if o (asked p.whole m.1 (k ∷ []) (m.0 ∷ [])) []) (additional S W u v)) && (not f || is_empty (additional S W u v))) ≡ true
     open_object k p o f e c = (λ i. list_all (λ a. holds a.sub a.value) (flat_map (λ m. put_if (e i) (asked p.whole m.1 (k ∷ []) (m.0 ∷ [])) []) (additional S W u v)) && (not (c i) || is_empty (additional S W u v)))
-        ∙ and-true (list_all (λ a. holds a.sub a.value) (flat_map (λ m. []) (additional S W u v))) ∙ ap (list_all (λ a. holds a.sub a.value)) (flat_map-none (additional S W u v))
+        ∙ and-true _ ∙ ap (list_all (λ a. holds a.sub a.value)) (flat_map-none (additional S W u v))
 
     additional_true : (k : Name) (p : Part Meaning) → k ≡ codes "additionalProperties" → lookup_name k S ≡ Some p → shown k p additional_properties ≡ true → keyword_accepts W u S k p v additional_properties ≡ true
     additional_true k p n there t = by (restricts S) refl
       where
         here_restricts : restricts S ≡ (is_truth false p.whole.schema || is_object p.whole.schema)
-        here_restricts = ap (λ o. list_any (λ s. is_truth false s.schema || is_object s.schema) (map (λ q. q.whole) (option_to_list o))) (subst (λ a. lookup_name a S ≡ Some p) n there) ∙ or-false (is_truth false p.whole.schema || is_object p.whole.schema)
+        here_restricts = ap (λ o. list_any (λ s. is_truth false s.schema || is_object s.schema) (map (λ q. q.whole) (option_to_list o))) (subst (λ a. lookup_name a S ≡ Some p) n there) ∙ or-false _
 
         by : (r : Bool) → restricts S ≡ r → keyword_accepts W u S k p v additional_properties ≡ true
-        by true r = and_first (keyword_accepts W u S k p v additional_properties) _ (or_second (not (restricts S)) _ t (ap not r))
-        by false r = open_object k p (is_object p.whole.schema) (is_truth false p.whole.schema) (neither (is_truth false p.whole.schema) (is_object p.whole.schema) (sym here_restricts ∙ r)).1 (neither (is_truth false p.whole.schema) (is_object p.whole.schema) (sym here_restricts ∙ r)).0
+        by true r = and_first _ _ (or_second (not (restricts S)) _ t (ap not r))
+        by false r = let closed_and_restricted = neither (is_truth false p.whole.schema) (is_object p.whole.schema) (sym here_restricts ∙ r) in
+            open_object k p _ _ closed_and_restricted.1 closed_and_restricted.0
 
     accepts_where_shown : (k : Name) (p : Part Meaning) (w : Keyword) → Named k w → lookup_name k S ≡ Some p → shown k p w ≡ true → keyword_accepts W u S k p v w ≡ true
     accepts_where_shown k p properties n there t = sym (here (codes "properties") properties k p n there) ∙ properties_true
@@ -541,15 +512,15 @@ module _ (W : World) (u : Bool) (S : Keywords Meaning) (h : GoodKeywords TreeAgr
   accepts_each m = keyword_accepts W u S m.0 m.1 v (keyword_named W m.0)
 
   children_row : list_all is_valid (flat_map (λ m. keyword_child W u S v P Q m.0 m.1 (keyword_named W m.0)) S) ≡ list_all shows_each S
-  children_row = list_all-flat_map is_valid _ S
-      ∙ list_all-same (λ m. list_all is_valid (keyword_child W u S v P Q m.0 m.1 (keyword_named W m.0))) shows_each S (Each-implies (λ m. GoodPart TreeAgrees m.1 × (lookup_name m.0 S ≡ Some m.1)) (λ m. list_all is_valid (keyword_child W u S v P Q m.0 m.1 (keyword_named W m.0)) ≡ shows_each m) (λ m c. keyword_row m.0 m.1 c.0 c.1 (keyword_named W m.0) (named m.0 W)) S (Each-both (λ m. GoodPart TreeAgrees m.1) (λ m. lookup_name m.0 S ≡ Some m.1) S h (Each-found S dS)))
+  children_row =
+      rw list_all-flat_map (list_all-alike (λ m (c : GoodPart TreeAgrees m.1 × (lookup_name m.0 S ≡ Some m.1)). keyword_row m.0 m.1 c.0 c.1 (keyword_named W m.0) (named m.0 W)) S (Each-both _ _ S h (Each-found S dS)))
 
   shown_is_accepted : list_all shows_each S ≡ list_all accepts_each S
   shown_is_accepted = same_truth _ _
       (λ e. let t : Each (λ m. shows_each m ≡ true) S = each_true shows_each S e in
-      all_true accepts_each S (Each-implies (λ m. (shows_each m ≡ true) × (lookup_name m.0 S ≡ Some m.1)) (λ m. accepts_each m ≡ true) (λ m c. accepts_where_shown (λ n. On-lookup_name-named (λ k p. shown k p (keyword_named W k) ≡ true) n S t) m.0 m.1 (keyword_named W m.0) (named m.0 W) c.1 c.0) S (Each-both (λ m. shows_each m ≡ true) (λ m. lookup_name m.0 S ≡ Some m.1) S t (Each-found S dS))))
+      all_true accepts_each S (Each-implies _ _ (λ m (c : (shows_each m ≡ true) × (lookup_name m.0 S ≡ Some m.1)). accepts_where_shown (λ n. On-lookup_name-named (λ k p. shown k p (keyword_named W k) ≡ true) n S t) m.0 m.1 (keyword_named W m.0) (named m.0 W) c.1 c.0) S (Each-both _ _ S t (Each-found S dS))))
       (λ e. let t : Each (λ m. accepts_each m ≡ true) S = each_true accepts_each S e in
-      all_true shows_each S (Each-implies (λ m. accepts_each m ≡ true) (λ m. shows_each m ≡ true) (λ m c. shown_where_accepts (λ n. On-lookup_name-named (λ k p. keyword_accepts W u S k p v (keyword_named W k) ≡ true) n S t) m.0 m.1 (keyword_named W m.0) c) S t))
+      all_true shows_each S (Each-implies _ _ (λ m. shown_where_accepts (λ n. On-lookup_name-named (λ k p. keyword_accepts W u S k p v (keyword_named W k) ≡ true) n S t) m.0 m.1 (keyword_named W m.0)) S t))
 
   pub object_row : is_valid (plain P Q (flat_map (λ m. keyword_child W u S v P Q m.0 m.1 (keyword_named W m.0)) S)) ≡ list_all accepts_each S
   object_row = is_valid-plain P Q (flat_map (λ m. keyword_child W u S v P Q m.0 m.1 (keyword_named W m.0)) S) ∙ children_row ∙ shown_is_accepted

@@ -1,22 +1,22 @@
 -- A schema accepts exactly where it finds no fault.
 use Rattle.std.specs.Prelude.{◌≡◌, ⊤, ℕ, Bool, true, false, not, ◌&&◌, ◌||◌, ◌==◌, nat_lt, List, [], ◌∷◌, ◌++◌, map}
-use Rattle.std.specs.List.{flat_map, list_all, list_any}
+use Rattle.std.specs.List.{flat_map, list_all}
 use Rattle.std.proofs.Common.{refl, sym, ◌∙◌}
 use native.Mathlib.Omega.{arith}
 use Rattle.serde_json.specs.Data.{Data, string}
-use Rattle.olk_spec.specs.Names.{Name, Path, ◌//◌, down, put_if, is_empty}
+use Rattle.olk_spec.specs.Names.{Name, Path, ◌//◌, put_if, is_empty}
 use Rattle.olk_spec.specs.World.{World}
-use Rattle.olk_spec.specs.Vocabulary.{Keyword, additional_properties, property_names, required, dependent_required, dependencies, any_of, one_of, not_keyword, leaf, keyword_named}
-use Rattle.olk_spec.specs.Schemas.{is_object, is_truth, Schema, truth, keywords, Keywords, Part, members, names}
-use Rattle.olk_spec.specs.Meanings.{Meaning, holds, applied, additional}
-use Rattle.olk_spec.specs.Accepts.{wanted, keyword_accepts, missing, due, accepting}
-use Rattle.olk_spec.specs.Faults.{fault, FalseSchema, Not, Required, Leaf, AnyOf, OneOfNotValid, OneOfMultipleValid, Kind}
-use Rattle.olk_spec.specs.Reports.{branch_faults, fault_if, required_faults, unexpected_faults, has_neighbour, wrapped, own, keyword_report}
+use Rattle.olk_spec.specs.Vocabulary.{Keyword, additional_properties, property_names, required, dependent_required, dependencies, any_of, one_of, not_keyword, leaf}
+use Rattle.olk_spec.specs.Schemas.{is_object, is_truth, Schema, truth, keywords, Keywords, Part, members}
+use Rattle.olk_spec.specs.Meanings.{Meaning, holds, applied}
+use Rattle.olk_spec.specs.Accepts.{wanted, keyword_accepts, missing, due}
+use Rattle.olk_spec.specs.Faults.{fault, FalseSchema, Required, Kind}
+use Rattle.olk_spec.specs.Reports.{fault_if, required_faults, unexpected_faults, wrapped, own, keyword_report}
 use Rattle.olk_spec.specs.Meaning.{meaning, meaning_step}
 use Rattle.olk_spec.specs.Laws.{Verdict_of_reports}
 use Rattle.olk_spec.proofs.Each.{Each, Each-implies, Each-any}
 use Rattle.olk_spec.proofs.Applied.{GoodAsked, applied_good}
-use Rattle.olk_spec.proofs.Induction.{good_answer, schema_read, GoodSchema, GoodPart}
+use Rattle.olk_spec.proofs.Induction.{good_answer, GoodSchema, GoodPart}
 
 -- ---- lists
 

@@ -151,6 +151,10 @@ module _ {A : Type 0} where
   list_all-same f g [] h = refl
   list_all-same f g (x ∷ xs) h = λ i. h.0 i && list_all-same f g xs h.1 i
 
+  pub list_all-alike : {P : A → Type 0} {f g : A → Bool} → ((x : A) → P x → f x ≡ g x) → (xs : List A) → Each P xs → list_all f xs ≡ list_all g xs
+  list_all-alike h [] e = refl
+  list_all-alike h (x ∷ xs) e = λ i. h x e.0 i && list_all-alike h xs e.1 i
+
   pub list_all-where : (f : A → Bool) (b : Bool) (x : A) → list_all f (put_if b x []) ≡ (not b || f x)
   list_all-where f true x = and-true (f x)
   list_all-where f false x = refl
