@@ -1,5 +1,5 @@
 -- `literal` is the grammar: a pattern stands for a test just where `literal` gives that test.
-use Rattle.std.proofs.Common.{◌≡◌, ◌≢◌, ℕ, ◌≤◌, Bool, true, false, cond, not, ◌&&◌, ◌⊎◌, inl, inr, List, [], ◌∷◌, ◌++◌, map, length, encode_utf8_all, refl, sym, ◌∙◌, ap, subst, append_assoc, append-nil, arith, bytes_eq, Some, None}
+use Rattle.std.proofs.Common.{◌≡◌, ◌≢◌, ℕ, ◌≤◌, Bool, true, false, cond, not, ◌&&◌, ◌⊎◌, inl, inr, List, [], ◌∷◌, ◌++◌, map, length, encode_utf8_all, refl, sym, ◌∙◌, ap, subst, append_assoc, append-nil, arith, bytes_eq, Some, None, chars}
 use Rattle.std.specs.Bool.{◌==◌}
 use Rattle.std.specs.Prelude.{codes, nat_le}
 use Rattle.std.specs.List.{list_all, join_with_byte}
@@ -44,15 +44,15 @@ mutual
   body_splits : (cs : List ℕ) → Splits cs (body_of cs).0 (body_of cs).1
   body_splits [] = split_none []
   body_splits (c ∷ cs) =
-      splits_by _ (c == 92) (escape_of c cs) (cond (is_special c) ([], c ∷ cs) (put_front c _))
+      splits_by (c ∷ cs) (c == 92) (escape_of c cs) (cond (is_special c) ([], c ∷ cs) (put_front c (body_of cs)))
       (λ e. escape_splits c cs ((Decides-eqb c 92).0 e))
-      (λ _. splits_by _ (is_special c) ([], c ∷ cs) (put_front c _) (λ _. split_none _) (λ h. split_plain c cs (body_of cs).0 (body_of cs).1 h (body_splits cs)))
+      (λ _. splits_by (c ∷ cs) (is_special c) ([], c ∷ cs) (put_front c (body_of cs)) (λ _. split_none (c ∷ cs)) (λ h. split_plain c cs (body_of cs).0 (body_of cs).1 h (body_splits cs)))
 
   escape_splits : (b : ℕ) (cs : List ℕ) → b ≡ 92 → Splits (b ∷ cs) (escape_of b cs).0 (escape_of b cs).1
-  escape_splits b [] e = split_none _
+  escape_splits b [] e = split_none (b ∷ [])
   escape_splits b (c ∷ cs) e =
-      splits_by _ (is_escapable c) (put_front c _) ([], b ∷ c ∷ cs)
-      (λ h. split_escaped b c cs (body_of cs).0 (body_of cs).1 e h (body_splits cs)) (λ _. split_none _)
+      splits_by (b ∷ c ∷ cs) (is_escapable c) (put_front c (body_of cs)) ([], b ∷ c ∷ cs)
+      (λ h. split_escaped b c cs (body_of cs).0 (body_of cs).1 e h (body_splits cs)) (λ _. split_none (b ∷ c ∷ cs))
 
 -- one body
 
@@ -63,7 +63,7 @@ single_stands cs (c ∷ x) [] t s h =
     subst (λ l. IsPatternOf l (94 ∷ cs)) e
     (s.front, ap (λ xs. 94 ∷ xs) (s.whole ∙ append-nil s.front), record { spelled = c ∷ x; spells = s.spells; some = λ n. cc; text = refl })
 single_stands cs (c ∷ x) (d ∷ y) t s h =
-    elim (bool_cases _) [
+    elim (bool_cases (bytes_eq (d ∷ y) (codes "$"))) [
       | inl g ↦
           let n : Some (equals_text (encode_utf8_all (c ∷ x))) ≡ Some t = rw g at h in
           let e : equals_text (encode_utf8_all (c ∷ x)) ≡ t = cc in
@@ -75,7 +75,7 @@ single_stands cs (c ∷ x) (d ∷ y) t s h =
 suffix_stands : (cs x y : List ℕ) (t : Literal) → Splits cs x y → suffix (x, y) ≡ Some t → IsPatternOf t cs
 suffix_stands cs [] y t s h = absurd (let n : None ≡ Some t = h in cc)
 suffix_stands cs (c ∷ x) y t s h =
-    elim (bool_cases _) [
+    elim (bool_cases (bytes_eq y (codes "$"))) [
       | inl g ↦
           let n : Some (ends_with_text (encode_utf8_all (c ∷ x))) ≡ Some t = rw g at h in
           let e : ends_with_text (encode_utf8_all (c ∷ x)) ≡ t = cc in
@@ -97,7 +97,7 @@ bars : List (List ℕ) → List ℕ
 bars bs = join_with_byte 124 bs
 
 -- the bodies at the start of cs spell ts, and y is left
-record Parts (cs : List ℕ) (ts : List _) (y : List ℕ) : Type 0 where
+record Parts (cs : List ℕ) (ts : List (List ℕ)) (y : List ℕ) : Type 0 where
   first : List ℕ
   others : List (List ℕ)
   whole : cs ≡ bars (first ∷ others) ++ y
@@ -126,7 +126,7 @@ parts_put : (c : ℕ) (p : List ℕ → List ℕ) (cs : List ℕ) (r : List (Lis
 unfolding AllSpell
 parts_put c p cs ([], y) f g k s = absurd s.spell
 parts_put c p cs (t ∷ ts, y) f g k s =
-    record { first = p s.first; others = s.others; whole = ap p s.whole ∙ k _ y ∙ ap (λ xs. xs ++ y) (sym (g s.first s.others)); spell = (f s.first t s.spell.0, s.spell.1) }
+    record { first = p s.first; others = s.others; whole = ap p s.whole ∙ k (bars (s.first ∷ s.others)) y ∙ ap (λ xs. xs ++ y) (sym (g s.first s.others)); spell = (f s.first t s.spell.0, s.spell.1) }
 
 parts_by : (cs : List ℕ) (b : Bool) (r s : List (List ℕ) × List ℕ) → (b ≡ true → Parts cs r.0 r.1) → (b ≡ false → Parts cs s.0 s.1) → Parts cs (cond b r s).0 (cond b r s).1
 parts_by cs true r s f g = f refl
@@ -136,20 +136,20 @@ mutual
   bodies_parts : (cs : List ℕ) → Parts cs (bodies_of cs).0 (bodies_of cs).1
   bodies_parts [] = parts_none []
   bodies_parts (c ∷ cs) =
-      parts_by _ (c == 92) (escape_in c cs) (cond (c == 124) ([] ∷ (bodies_of cs).0, (bodies_of cs).1) (cond (is_special c) ([] ∷ [], c ∷ cs) (put_first c _)))
+      parts_by (c ∷ cs) (c == 92) (escape_in c cs) (cond (c == 124) ([] ∷ (bodies_of cs).0, (bodies_of cs).1) (cond (is_special c) ([] ∷ [], c ∷ cs) (put_first c (bodies_of cs))))
       (λ e. escape_parts c cs ((Decides-eqb c 92).0 e))
-      (λ _. parts_by _ (c == 124) ([] ∷ (bodies_of cs).0, (bodies_of cs).1) (cond (is_special c) ([] ∷ [], c ∷ cs) (put_first c _))
+      (λ _. parts_by (c ∷ cs) (c == 124) ([] ∷ (bodies_of cs).0, (bodies_of cs).1) (cond (is_special c) ([] ∷ [], c ∷ cs) (put_first c (bodies_of cs)))
       (λ e. let P : ℕ → Type 0 = λ x. Parts (x ∷ cs) ([] ∷ (bodies_of cs).0) (bodies_of cs).1 in subst P (sym ((Decides-eqb c 124).0 e)) (parts_bar cs (bodies_of cs).0 (bodies_of cs).1 (bodies_parts cs)))
-      (λ _. parts_by _ (is_special c) ([] ∷ [], c ∷ cs) (put_first c _) (λ _. parts_none _)
-      (λ h. parts_put c (λ xs. c ∷ xs) cs _ (λ b t s. plain h s) (bars_cons c) (λ xs ys. refl) (bodies_parts cs))))
+      (λ _. parts_by (c ∷ cs) (is_special c) ([] ∷ [], c ∷ cs) (put_first c (bodies_of cs)) (λ _. parts_none (c ∷ cs))
+      (λ h. parts_put c (λ xs. c ∷ xs) cs (bodies_of cs) (λ b t s. plain h s) (bars_cons c) (λ xs ys. refl) (bodies_parts cs))))
 
   escape_parts : (b : ℕ) (cs : List ℕ) → b ≡ 92 → Parts (b ∷ cs) (escape_in b cs).0 (escape_in b cs).1
   escape_parts b [] e = parts_none (b ∷ [])
   escape_parts b (c ∷ cs) e =
-      parts_by _ (is_escapable c) (put_first c _) ([] ∷ [], b ∷ c ∷ cs)
-      (λ h. parts_put c (λ xs. b ∷ c ∷ xs) cs _ (λ b' t s. escaped e h s) (λ x bs. bars_cons b _ bs ∙ ap (λ xs. b ∷ xs) (bars_cons c x bs)) (λ xs ys. refl)
+      parts_by (b ∷ c ∷ cs) (is_escapable c) (put_first c (bodies_of cs)) ([] ∷ [], b ∷ c ∷ cs)
+      (λ h. parts_put c (λ xs. b ∷ c ∷ xs) cs (bodies_of cs) (λ b' t s. escaped e h s) (λ x bs. bars_cons b (c ∷ x) bs ∙ ap (λ xs. b ∷ xs) (bars_cons c x bs)) (λ xs ys. refl)
       (bodies_parts cs))
-      (λ _. parts_none _)
+      (λ _. parts_none (b ∷ c ∷ cs))
 
 bodies_from : (bs ts : List (List ℕ)) → AllSpell bs ts → list_all (λ t. not (is_empty t)) ts ≡ true → AreBodies bs (map encode_utf8_all ts)
 unfolding AllSpell
@@ -167,12 +167,12 @@ spell_length _ _ s = absurd s
 alternation_stands : (cs : List ℕ) (ts : List (List ℕ)) (y : List ℕ) (t : Literal) → Parts cs ts y → alternation (ts, y) ≡ Some t → IsPatternOf t (94 ∷ 40 ∷ cs)
 unfolding bars
 alternation_stands cs ts y t s h =
-    elim (bool_cases (list_all _ ts && nat_le 2 _ && bytes_eq y (codes ")$"))) [
+    elim (bool_cases (list_all (λ t. not (is_empty t)) ts && nat_le 2 (length ts) && bytes_eq y (codes ")$"))) [
       | inl g ↦
           let n : Some (is_one_of (map encode_utf8_all ts)) ≡ Some t = rw g at h in
           let e : is_one_of (map encode_utf8_all ts) ≡ t = cc in
-          let outer = and_true _ (bytes_eq y (codes ")$")) g in
-          let inner = and_true _ (nat_le 2 (length ts)) outer.0 in
+          let outer = and_true (list_all (λ t. not (is_empty t)) ts && nat_le 2 (length ts)) (bytes_eq y (codes ")$")) g in
+          let inner = and_true (list_all (λ t. not (is_empty t)) ts) (nat_le 2 (length ts)) outer.0 in
           let two : 2 ≤ length ts = let i = inner.1 in grind (arith, nat_tests) in
           let same = spell_length (s.first ∷ s.others) ts s.spell in
           subst (λ l. IsPatternOf l (94 ∷ 40 ∷ cs)) e (
@@ -187,26 +187,26 @@ alternation_stands cs ts y t s h =
 anchored_stands : (cs : List ℕ) (t : Literal) → anchored cs ≡ Some t → IsPatternOf t (94 ∷ cs)
 anchored_stands [] t h = absurd (let n : None ≡ Some t = h in cc)
 anchored_stands (c ∷ cs) t h =
-    elim (bool_cases _) [
+    elim (bool_cases (c == 40)) [
       | inl e ↦
           let k : alternation (bodies_of cs) ≡ Some t = rw e at h in
           let P : ℕ → Type 0 = λ x. IsPatternOf t (94 ∷ x ∷ cs) in
           subst P (sym ((Decides-eqb c 40).0 e)) (alternation_stands cs (bodies_of cs).0 (bodies_of cs).1 t (bodies_parts cs) k)
       | inr e ↦
           let k : single (body_of (c ∷ cs)) ≡ Some t = rw e at h in
-          single_stands _ (body_of (c ∷ cs)).0 (body_of (c ∷ cs)).1 t (body_splits _) k
+          single_stands (c ∷ cs) (body_of (c ∷ cs)).0 (body_of (c ∷ cs)).1 t (body_splits (c ∷ cs)) k
     ]
 
 -- what `literal` gives is what the pattern stands for
 pub literal-stands : (p : List ℕ) (t : Literal) → literal_in p ≡ Some t → IsPatternOf t p
 literal-stands [] t h = absurd (let n : None ≡ Some t = h in cc)
 literal-stands (c ∷ cs) t h =
-    elim (bool_cases _) [
+    elim (bool_cases (bytes_eq (c ∷ cs) (codes "^\\S*$"))) [
       | inl e ↦
           let n : Some has_no_whitespace ≡ Some t = rw e at h in
           let k : has_no_whitespace ≡ t = cc in
-          subst (λ l. IsPatternOf l (c ∷ cs)) k ((bytes_eq-Decides _ _).0 e)
-      | inr e ↦ elim (bool_cases _) [
+          subst (λ l. IsPatternOf l (c ∷ cs)) k ((bytes_eq-Decides (c ∷ cs) (codes "^\\S*$")).0 e)
+      | inr e ↦ elim (bool_cases (c == 94)) [
         | inl f ↦
             let k : anchored cs ≡ Some t = rw (e, f) at h in
             let P : ℕ → Type 0 = λ x. IsPatternOf t (x ∷ cs) in
@@ -220,7 +220,7 @@ literal-stands (c ∷ cs) t h =
 -- ---- what is spelled is read
 
 not_special_not_backslash : (c : ℕ) → is_special c ≡ false → (c == 92) ≡ false
-not_special_not_backslash c h = not_true _ (λ t. let P : ℕ → Type 0 = λ x. is_special x ≡ false in let n : true ≡ false = subst P ((Decides-eqb c 92).0 t) h in cc)
+not_special_not_backslash c h = not_true (c == 92) (λ t. let P : ℕ → Type 0 = λ x. is_special x ≡ false in let n : true ≡ false = subst P ((Decides-eqb c 92).0 t) h in cc)
 
 -- what follows the items begins with no item
 body_reads : (b t r : List ℕ) → Spells b t → body_of r ≡ ([], r) → body_of (b ++ r) ≡ (t, r)
@@ -237,9 +237,9 @@ bodies_read b (d ∷ bs) [] y s e l = absurd s
 bodies_read b [] (t ∷ []) y s e l = bodies_is (b ++ y) ∙ ap (λ r. joined r.0 r.1) (body_reads b t y s.0 e) ∙ l t
 bodies_read b (d ∷ bs) (t ∷ u ∷ ts) y s e l =
     let tail = bars (d ∷ bs) ++ y in
-    ap bodies_of (append_assoc b _ y)
-    ∙ bodies_is (b ++ 124 ∷ tail) ∙ ap (λ r. joined r.0 r.1) (body_reads b t _ s.0 refl)
-    ∙ ap (λ r. (t ∷ r.0, r.1)) (bodies_read d bs _ y s.1 e l)
+    ap bodies_of (append_assoc b (124 ∷ bars (d ∷ bs)) y)
+    ∙ bodies_is (b ++ 124 ∷ tail) ∙ ap (λ r. joined r.0 r.1) (body_reads b t (124 ∷ tail) s.0 refl)
+    ∙ ap (λ r. (t ∷ r.0, r.1)) (bodies_read d bs (u ∷ ts) y s.1 e l)
 bodies_read b _ _ y s e l = absurd s.1
 
 is_empty_of : (x : List ℕ) → x ≢ [] → is_empty x ≡ false
@@ -250,9 +250,9 @@ is_empty_of (c ∷ x) n = refl
 body_literal : (p b y x : List ℕ) → p ≡ 94 ∷ b → body_of b ≡ (x, y) → x ≢ [] → literal_in p ≡ single (x, y)
 body_literal p b y x e r n =
     let white : bytes_eq p (codes "^\\S*$") ≡ false =
-    not_true _
+    not_true (bytes_eq p (codes "^\\S*$"))
     (λ t.
-    let w : 94 ∷ b ≡ codes "^\\S*$" = sym e ∙ (bytes_eq-Decides p _).0 t in
+    let w : 94 ∷ b ≡ codes "^\\S*$" = sym e ∙ (bytes_eq-Decides p (codes "^\\S*$")).0 t in
     let k : b ≡ 92 ∷ 83 ∷ 42 ∷ 36 ∷ [] = cc in
     n (ap (λ q. q.0) (sym r ∙ ap body_of k))) in
     literal-body p b white e (λ q k. n (ap (λ q. q.0) (sym r ∙ ap body_of k))) ∙ ap single r
@@ -261,11 +261,11 @@ body_literal p b y x e r n =
 body_suffix : (p y x : List ℕ) → body_of p ≡ (x, y) → x ≢ [] → literal_in p ≡ suffix (x, y)
 body_suffix p y x r n =
     let white : bytes_eq p (codes "^\\S*$") ≡ false =
-    not_true _ (λ t. n (ap (λ q. q.0) (sym r ∙ ap body_of ((bytes_eq-Decides p _).0 t)))) in
+    not_true (bytes_eq p (codes "^\\S*$")) (λ t. n (ap (λ q. q.0) (sym r ∙ ap body_of ((bytes_eq-Decides p (codes "^\\S*$")).0 t)))) in
     literal-suffix p white (λ q k. n (ap (λ q. q.0) (sym r ∙ ap body_of k))) ∙ ap suffix r
 
 -- the texts of the bodies, in characters
-record Read (bs ts : List _) : Type 0 where
+record Read (bs ts : List (List ℕ)) : Type 0 where
   items : List (List ℕ)
   spell : AllSpell bs items
   full : list_all (λ t. not (is_empty t)) items ≡ true
@@ -294,24 +294,24 @@ stands-literal p (starts_with_text t) s =
     body_literal p s.0 [] x s.1 r s.2.some ∙ single_is ∙ ap (λ y. Some (starts_with_text y)) (sym s.2.text)
 stands-literal p (ends_with_text t) s =
     let x = s.2.spelled in
-    let r : body_of p ≡ (x, 36 ∷ []) = ap body_of s.1 ∙ body_reads s.0 x _ s.2.spells refl in
+    let r : body_of p ≡ (x, 36 ∷ []) = ap body_of s.1 ∙ body_reads s.0 x (36 ∷ []) s.2.spells refl in
     let suffix_is : suffix (x, 36 ∷ []) ≡ Some (ends_with_text (encode_utf8_all x)) = rw (is_empty_of x s.2.some) refl in
-    body_suffix p _ x r s.2.some ∙ suffix_is ∙ ap (λ y. Some (ends_with_text y)) (sym s.2.text)
+    body_suffix p (36 ∷ []) x r s.2.some ∙ suffix_is ∙ ap (λ y. Some (ends_with_text y)) (sym s.2.text)
 stands-literal p (equals_text t) s =
     let x = s.2.spelled in
-    let r : body_of (s.0 ++ 36 ∷ []) ≡ (x, 36 ∷ []) = body_reads s.0 x _ s.2.spells refl in
+    let r : body_of (s.0 ++ 36 ∷ []) ≡ (x, 36 ∷ []) = body_reads s.0 x (36 ∷ []) s.2.spells refl in
     let single_is : single (x, 36 ∷ []) ≡ Some (equals_text (encode_utf8_all x)) = rw (is_empty_of x s.2.some) refl in
-    body_literal p _ _ x s.1 r s.2.some ∙ single_is ∙ ap (λ y. Some (equals_text y)) (sym s.2.text)
+    body_literal p (s.0 ++ 36 ∷ []) (36 ∷ []) x s.1 r s.2.some ∙ single_is ∙ ap (λ y. Some (equals_text y)) (sym s.2.text)
 stands-literal p (is_one_of ts) ([], e, two, a) = absurd (omega (arith, two))
 stands-literal p (is_one_of ts) (b ∷ bs, e, two, a) =
-    let read = read_bodies _ ts a in
+    let read = read_bodies (b ∷ bs) ts a in
     let y : List ℕ = 41 ∷ 36 ∷ [] in
     let r : bodies_of (bars (b ∷ bs) ++ y) ≡ (read.items, y) = bodies_read b bs read.items y read.spell refl (λ n. refl) in
-    let count : nat_le 2 (length read.items) ≡ true = let l = spell_length _ read.items read.spell in grind (arith, nat_tests) in
+    let count : nat_le 2 (length read.items) ≡ true = let l = spell_length (b ∷ bs) read.items read.spell in grind (arith, nat_tests) in
     let alternation_is : alternation (read.items, y) ≡ Some (is_one_of (map encode_utf8_all read.items)) = rw (read.full, count) refl in
-    literal-bodies p _ _ e refl ∙ ap alternation r ∙ alternation_is ∙ ap (λ xs. Some (is_one_of xs)) read.texts
-stands-literal p has_no_whitespace s = literal-white p ((bytes_eq-Decides p _).1 s)
+    literal-bodies p (40 ∷ (bars (b ∷ bs) ++ y)) (bars (b ∷ bs) ++ y) e refl ∙ ap alternation r ∙ alternation_is ∙ ap (λ xs. Some (is_one_of xs)) read.texts
+stands-literal p has_no_whitespace s = literal-white p ((bytes_eq-Decides p (codes "^\\S*$")).1 s)
 
 pub literal_is_grammar : Literal_is_grammar
 unfolding literal
-literal_is_grammar p l = (literal-stands _ l, stands-literal _ l)
+literal_is_grammar p l = (literal-stands (chars p) l, stands-literal (chars p) l)
