@@ -74,7 +74,7 @@ module _ (W : World) (ms : Members) (d : Data) (allows : is_restriction (Some d)
     allowed = by d allows
       where
         all : list_all (λ x. not (is_other W u fs es x.0) || true) (members v) ≡ true
-        all = sym (each_passes (λ x. is_other W u fs es x.0) (members v))
+        all = sym (each_passes _ (members v))
 
         by : (d : Data) → is_restriction (Some d) ≡ false → list_all (rest_accepts W u fs es d) (members v) ≡ true
         by (boolean false) e = absurd (true≢false e)

@@ -53,7 +53,7 @@ none_passes t (x ∷ xs) = by (t x) (none_passes t xs)
 -- each passes where nothing is refused
 pub each_passes : {X : Type 0} (t : X → Bool) (xs : List X) → true ≡ list_all (λ x. not (t x) || true) xs
 each_passes t [] = refl
-each_passes t (x ∷ xs) = each_passes t xs ∙ ap (λ b. b && list_all (λ y. not (t y) || true) xs) (sym (or-true (not (t x))))
+each_passes t (x ∷ xs) = each_passes t xs ∙ ap (λ b. b && list_all (λ y. not (t y) || true) xs) (sym (or-true _))
 
 -- false accepts nothing, and asks nothing
 pub false_accepts_none : (W : World) (u : Bool) (v : Data) → accepts W u (boolean false) v ≡ false
@@ -91,14 +91,14 @@ module _ (W : World) (ms : Members) (d : Data) (u : Bool) (v : Data) where
       ∙ by d
     where
       allowing : list_all (λ (a : Asked). a.sub.answer.accepts a.value) (flat_map (λ x. []) others) && true ≡ list_all (λ x. not (is_other W u fs es x.0) || true) (members v)
-      allowing = ap (λ l. list_all (λ (a : Asked). a.sub.answer.accepts a.value) l && true) (nothing_of_each others) ∙ each_passes (λ x. is_other W u fs es x.0) (members v)
+      allowing = ap (λ l. list_all (λ (a : Asked). a.sub.answer.accepts a.value) l && true) (nothing_of_each others) ∙ each_passes _ (members v)
 
       by : (d : Data) → (list_all (λ a. a.sub.answer.accepts a.value) (asked_by (place (meaning_step W u) d) others) && (not (is_truth false d) || is_empty others)) ≡ list_all
           (rest_accepts W u fs es d) (members v)
-      by (boolean false) = ap (λ l. list_all (λ a. a.sub.answer.accepts a.value) l && is_empty others) (nothing_of_each others) ∙ none_passes (λ x. is_other W u fs es x.0) (members v)
+      by (boolean false) = ap (λ l. list_all (λ a. a.sub.answer.accepts a.value) l && is_empty others) (nothing_of_each others) ∙ none_passes _ (members v)
       by (object gs) =
-          and-true _ ∙ all_of_each (asked_of (place (meaning_step W u) (object gs))) (λ a. a.sub.answer.accepts a.value) others ∙ list_all-filter_once
-          (λ x. accepts W u (object gs) x.1) (λ x. is_other W u fs es x.0) (members v)
+          and-true _ ∙ all_of_each _ _ others ∙ list_all-filter_once
+          _ _ (members v)
       by _ = allowing
 
   pub additional_asks : member_asks W ms (codes "additionalProperties", d) additional_properties u v ≡ sum_by (rest_asks W u fs es d) (members v)
@@ -113,7 +113,7 @@ module _ (W : World) (ms : Members) (d : Data) (u : Bool) (v : Data) where
       nothing = ap (sum_by (λ (a : Asked). a.sub.answer.asks a.value)) (nothing_of_each others) ∙ sym (sum_of_none others)
 
       by : (d : Data) → sum_by (λ a. a.sub.answer.asks a.value) (asked_by (place (meaning_step W u) d) others) ≡ sum_by (λ x. asks W u d x.1) others
-      by (object gs) = sum_of_each (asked_of (place (meaning_step W u) (object gs))) (λ a. a.sub.answer.asks a.value) others
+      by (object gs) = sum_of_each _ _ others
       by (boolean true) = nothing
       by _ = nothing
 
@@ -136,9 +136,9 @@ module _ (W : World) (ms : Members) (d : Data) (u : Bool) (v : Data) where
       (λ i. flat_map (λ a. a.sub.answer.report a.value (down P a.in_schema) (down Q a.in_instance))
       (asked_by (whole_read (meaning_step W u) d i) (additional_read (meaning_step W u) ms W u v i)) ++ own_others P Q i)
       ∙ ap (λ l. l ++ others_report W u fs es P Q (has_beside ms) d v)
-      (by (is_object d) ∙ flat_map-filter_once (λ x. is_other W u fs es x.0) (λ x. cond (is_object d) (report W u d x.1 (P // codes "additionalProperties") (Q // x.0)) []) (members v))
+      (by (is_object d) ∙ flat_map-filter_once (λ x. is_other W u fs es x.0) (λ x. cond (is_object d) (report W u d x.1 _ _) []) (members v))
     where
       by : (b : Bool) → flat_map (λ (a : Asked). a.sub.answer.report a.value (down P a.in_schema) (down Q a.in_instance)) (flat_map (λ x. put_if b (asked_of (place (meaning_step W u) d) x) []) others)
           ≡ flat_map (λ x. cond b (report W u d x.1 (P // codes "additionalProperties") (Q // x.0)) []) others
-      by true = found_of_each (asked_of (place (meaning_step W u) d)) (λ a. a.sub.answer.report a.value (down P a.in_schema) (down Q a.in_instance)) others
+      by true = found_of_each _ _ others
       by false = ap (flat_map (λ (a : Asked). a.sub.answer.report a.value (down P a.in_schema) (down Q a.in_instance))) (nothing_of_each others) ∙ sym (nothing_of_each others)

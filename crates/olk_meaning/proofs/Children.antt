@@ -36,14 +36,14 @@ module _ {X : Type 0} (test : X → Bool) where
   -- none is counted where there is none
   none_counted : (xs : List X) → (count_by test xs == 0) ≡ is_empty (filter_once test xs)
   none_counted [] = refl
-  none_counted (x ∷ xs) = ap (λ n. n == 0) (sum_by-cons (λ y. cond (test y) 1 0) x xs) ∙ counted_none (test x) (count_by test xs) x (filter_once test xs) (none_counted xs)
+  none_counted (x ∷ xs) = ap (λ n. n == 0) (sum_by-cons _ x xs) ∙ counted_none (test x) (count_by test xs) x (filter_once test xs) (none_counted xs)
 
 all_those : {X : Type 0} (xs : List X) → filter_once (λ x. true) xs ≡ xs
 all_those [] = refl
 all_those (x ∷ xs) = ap (λ l. x ∷ l) (all_those xs)
 
 none_under : {X Y : Type 0} (p : X → Bool) (h : Y → X) (ys : List Y) → is_empty (filter_once p (map h ys)) ≡ is_empty (filter_once (λ y. p (h y)) ys)
-none_under p h ys = ap is_empty (filter_once-map p (λ y. p (h y)) h (λ y. refl) ys) ∙ is_empty-map h (filter_once (λ y. p (h y)) ys)
+none_under p h ys = ap is_empty (filter_once-map p _ h (λ y. refl) ys) ∙ is_empty-map h _
 
 module _ (W : World) (u : Bool) (v : Data) where
   -- ---- what the declared schemas show of the members
@@ -97,15 +97,15 @@ module _ (W : World) (u : Bool) (v : Data) where
         (P // k) Q (numbered (items_list ds))
     unfolding meaning
     all_branches_shown = ap (λ bs. map (λ b. b.1.answer.tree v (P // k // b.0) Q) (filter_once (λ b. true) bs)) (branch_entries (meaning_step W u) ds)
-        ∙ ap (map (λ b. b.1.answer.tree v (P // k // b.0) Q)) (all_those (map (entry (meaning_step W u)) (numbered (items_list ds))))
-        ∙ map-map (λ b. b.1.answer.tree v (P // k // b.0) Q) (λ e. tree W u e.1 v (P // k // e.0) Q) (entry (meaning_step W u)) (λ e. refl) (numbered (items_list ds))
+        ∙ ap (map _) (all_those _)
+        ∙ map-map (λ b. b.1.answer.tree v (P // k // b.0) Q) (λ e. tree W u e.1 v (P // k // e.0) Q) (entry (meaning_step W u)) (λ e. refl) _
 
     pub accepting_branches_shown : map (λ b. b.1.answer.tree v (P // k // b.0) Q) (filter_once (λ b. holds b.1 v) (branches (read (meaning_step W u) (array ds)))) ≡ branches_shown
         (P // k) Q (accepting_branches (numbered (items_list ds)))
     unfolding meaning
     accepting_branches_shown = ap (λ bs. map (λ b. b.1.answer.tree v (P // k // b.0) Q) (filter_once (λ b. holds b.1 v) bs)) (branch_entries (meaning_step W u) ds)
         ∙ ap (map (λ b. b.1.answer.tree v (P // k // b.0) Q)) (filter_once-map (λ b. holds b.1 v) (λ e. accepts W u e.1 v) (entry (meaning_step W u)) (λ e. refl) (numbered (items_list ds)))
-        ∙ map-map (λ b. b.1.answer.tree v (P // k // b.0) Q) (λ e. tree W u e.1 v (P // k // e.0) Q) (entry (meaning_step W u)) (λ e. refl) (accepting_branches (numbered (items_list ds)))
+        ∙ map-map (λ b. b.1.answer.tree v (P // k // b.0) Q) (λ e. tree W u e.1 v (P // k // e.0) Q) (entry (meaning_step W u)) (λ e. refl) _
 
   module _ (ms : Members) (P Q : Path) where
     pub properties_child : (fs : Members) → lookup_name (codes "properties") (listed ms) ≡ Some (object fs) → restricts (read_members (meaning_step W u) ms) ≡ false
@@ -122,14 +122,14 @@ module _ (W : World) (u : Bool) (v : Data) where
             (λ m. m.0) (filter_once (λ m. is_among m.0 (map (λ e. e.0) (listed fs))) (members v))
         met =
             ap (λ ns. map (λ m. m.0) (filter_once (λ m. is_among m.0 ns) (members v)))
-            (ap (map {A = Name × Sub Meaning} (λ e. e.0)) here ∙ map-map {X = Name × Sub Meaning} {Y = Name × Data} (λ e. e.0) (λ e. e.0) (entry (meaning_step W u)) (λ e. refl) (listed fs))
+            (ap (map {A = Name × Sub Meaning} _) here ∙ map-map {X = Name × Sub Meaning} {Y = Name × Data} _ _ _ (λ e. refl) _)
 
         shown : flat_map (λ m. map (λ s. s.answer.tree m.1 (P // codes "properties" // m.0) (Q // m.0))
             (option_to_list (lookup_name m.0 (entries_at (read_members (meaning_step W u) ms) (codes "properties"))))) (members v) ≡ flat_map
             (shown_at (P // codes "properties") Q (listed fs)) (members v)
         shown =
             ap (λ es. flat_map (λ m. map (λ s. s.answer.tree m.1 (P // codes "properties" // m.0) (Q // m.0)) (option_to_list (lookup_name m.0 es))) (members v)) here
-            ∙ entries_shown (P // codes "properties") Q (listed fs) (members v)
+            ∙ entries_shown _ Q _ (members v)
 
     pub required_child : (d : Data) → StandsAlone W u ms (codes "required", d) required → member_child W ms (codes "required", d) required u v P Q ≡ erring
         (P // codes "required") Q (required_faults (texts d) v (P // codes "required") Q) ∷ []
@@ -154,9 +154,9 @@ module _ (W : World) (u : Bool) (v : Data) where
           (plain (P // codes "anyOf") Q (accepting_branches_shown (codes "anyOf") P Q ds i)) ∷ []
         where
           count : (accepting (read (meaning_step W u) (array ds)) v == 0) ≡ is_empty (accepting_branches (numbered (items_list ds)))
-          count = none_counted (λ s. holds s v) ((read (meaning_step W u) (array ds)).items)
+          count = none_counted _ ((read (meaning_step W u) (array ds)).items)
               ∙ ap (λ xs. is_empty (filter_once (λ s. holds s v) xs)) (item_entries (meaning_step W u) ds)
-              ∙ none_under (λ s. holds s v) (λ e. e.1) (map (entry (meaning_step W u)) (numbered (items_list ds)))
+              ∙ none_under _ _ (map _ (numbered (items_list ds)))
               ∙ none_under (λ e. holds e.1 v) (entry (meaning_step W u)) (numbered (items_list ds))
 
     module _ (d : Data) where

@@ -26,19 +26,19 @@ use Rattle.olk_meaning.proofs.TakenOver.{absent_if}
 -- ---- the three names
 
 pub conditional_named : (k : Name) → is_conditional_name k ≡ true → (k ≡ codes "if") ⊎ (k ≡ codes "then") ⊎ (k ≡ codes "else")
-conditional_named k e = by (bytes_eq k (codes "if")) (bytes_eq k (codes "then")) (bytes_eq k (codes "else")) refl refl refl e
+conditional_named k e = by (bytes_eq k _) _ _ refl refl refl e
   where
     by : (a b c : Bool) → bytes_eq k (codes "if") ≡ a → bytes_eq k (codes "then") ≡ b → bytes_eq k (codes "else") ≡ c → (a || (b || (c || false))) ≡ true
         → (k ≡ codes "if") ⊎ (k ≡ codes "then") ⊎ (k ≡ codes "else")
-    by true b c p q r h = inl (same_name k (codes "if") p)
-    by false true c p q r h = inr (inl (same_name k (codes "then") q))
-    by false false true p q r h = inr (inr (same_name k (codes "else") r))
+    by true b c p q r h = inl (same_name k _ p)
+    by false true c p q r h = inr (inl (same_name k _ q))
+    by false false true p q r h = inr (inr (same_name k _ r))
     by false false false p q r h = absurd (true≢false (sym h))
 
 -- the others need not know their neighbours
 pub known_alone : (c : Known) (ms : Members) (k : Name) → is_read_beside k ≡ false → IsKnown c ms k
 known_alone c ms k e =
-    let apart = neither (is_conditional_name k) (bytes_eq k (codes "patternProperties")) e in (
+    let apart = neither (is_conditional_name k) (bytes_eq k _) e in (
       (λ q. absurd (true≢false (sym q ∙ apart.0))),
       λ q. absurd (true≢false (sym (ap (λ n. bytes_eq n (codes "patternProperties")) q) ∙ apart.1)),
     )
@@ -141,11 +141,11 @@ module _ (W : World) (ms : Members) (u : Bool) (v : Data) where
 
     if_holds : if_accepts neighbours v ≡ accepts W u d v
     unfolding meaning
-    if_holds = ap (list_any (λ s. s.answer.accepts v)) at_if ∙ or-false _
+    if_holds = ap (list_any _) at_if ∙ or-false _
 
     if_fails : if_refuses neighbours v ≡ not (accepts W u d v)
     unfolding meaning
-    if_fails = ap (list_any (λ s. not (s.answer.accepts v))) at_if ∙ or-false _
+    if_fails = ap (list_any _) at_if ∙ or-false _
 
     module _ (read_here : is_condition ms ≡ true) where
       pub if_asks_beside : member_asks W ms (codes "if", d) if_keyword u v ≡ asks W u d v
@@ -182,24 +182,24 @@ module _ (W : World) (ms : Members) (u : Bool) (v : Data) where
       pub then_report_beside : (P Q : Path) → member_report W ms (codes "then", e) then_keyword u v P Q ≡ cond (accepts W u d v) (report W u e v (P // codes "then") Q) []
       then_report_beside P Q =
           ap (λ b. flat_map (λ a. a.sub.answer.report a.value (down P a.in_schema) (down Q a.in_instance)) (asked_where b (codes "then")) ++ []) if_holds
-          ∙ found_where (accepts W u d v) (codes "then") P Q
+          ∙ found_where _ (codes "then") P Q
 
       pub else_accepts_beside : member_accepts W ms (codes "else", e) else_keyword u v ≡ cond (not (accepts W u d v)) (accepts W u e v) true
-      else_accepts_beside = ap (λ b. list_all (λ a. a.sub.answer.accepts a.value) (asked_where b (codes "else")) && true) if_fails ∙ accepted_where (not (accepts W u d v)) (codes "else")
+      else_accepts_beside = ap (λ b. list_all (λ a. a.sub.answer.accepts a.value) (asked_where b (codes "else")) && true) if_fails ∙ accepted_where (not _) (codes "else")
 
       pub else_asks_beside : member_asks W ms (codes "else", e) else_keyword u v ≡ cond (not (accepts W u d v)) (asks W u e v) 0
-      else_asks_beside = ap (λ b. sum_by (λ a. a.sub.answer.asks a.value) (asked_where b (codes "else")) + 0) if_fails ∙ asks_where (not (accepts W u d v)) (codes "else")
+      else_asks_beside = ap (λ b. sum_by (λ a. a.sub.answer.asks a.value) (asked_where b (codes "else")) + 0) if_fails ∙ asks_where (not _) (codes "else")
 
       pub else_report_beside : (P Q : Path) → member_report W ms (codes "else", e) else_keyword u v P Q ≡ cond (not (accepts W u d v)) (report W u e v (P // codes "else") Q) []
       else_report_beside P Q =
           ap (λ b. flat_map (λ a. a.sub.answer.report a.value (down P a.in_schema) (down Q a.in_instance)) (asked_where b (codes "else")) ++ []) if_fails
-          ∙ found_where (not (accepts W u d v)) (codes "else") P Q
+          ∙ found_where _ (codes "else") P Q
 
   -- what stands at a name, shown where the test holds
   case_read : (d : Data) (b : Bool) (k : Name) (P Q : Path) → case_trees W u neighbours v P Q (codes "if") (read (meaning_step W u) d) b k ≡ case_shown W u v b (P // k) Q (lookup_name k (listed ms))
   unfolding meaning
   case_read d b k P Q =
-      ap (flat_map (λ s. put_if b (s.answer.tree v (P // k) Q) [])) (wholes_at_read (meaning_step W u) ms k ∙ ap (λ o. map (place (meaning_step W u)) (option_to_list o))
+      ap (flat_map (λ s. put_if b (s.answer.tree v _ Q) [])) (wholes_at_read (meaning_step W u) ms k ∙ ap (λ o. map (place (meaning_step W u)) (option_to_list o))
       (sym (lookup_listed k ms))) ∙ by (lookup_name k (listed ms))
     where
       by : (o : Option Data) → flat_map (λ s. put_if b (s.answer.tree v (P // k) Q) []) (map (place (meaning_step W u)) (option_to_list o)) ≡ case_shown W u v b (P // k) Q o
@@ -228,7 +228,7 @@ pub unpaired_means_nothing : (W : World) (ms : Members) (m : Name × Data) → i
 unpaired_means_nothing W ms m e unread there = by (conditional_named m.0 e)
   where
     absent : (n : Name) → is_condition ms ≡ is_some (lookup_name n (listed ms)) → lookup_name n (listed ms) ≡ None
-    absent n q = absent_if (lookup_name n (listed ms)) (sym q ∙ unread)
+    absent n q = absent_if _ (sym q ∙ unread)
 
     by : (m.0 ≡ codes "if") ⊎ (m.0 ≡ codes "then") ⊎ (m.0 ≡ codes "else") → MeansNothing W ms m
     by (inl q) = subst (λ n. MeansNothing W ms (n, m.1)) (sym q) record {

@@ -37,7 +37,7 @@ module _ {X : Type 0} (h a : X → Bool) where
     where
       by : (b : Bool) → filter_once h (filter_once a xs) ≡ filter_once (λ y. h y && a y) xs → filter_once h (put_if b x (filter_once a xs)) ≡ put_if (h x && b) x (filter_once (λ y. h y && a y) xs)
       by true e = λ i. put_if (sym (and-true (h x)) i) x (e i)
-      by false e = e ∙ ap (λ b. put_if b x (filter_once (λ y. h y && a y) xs)) (sym (and-false (h x)))
+      by false e = e ∙ ap (λ b. put_if b x (filter_once (λ y. h y && a y) xs)) (sym (and-false _))
 
 module _ {X : Type 0} (a : X → Bool) where
   all_those : (xs : List X) → list_all a xs ≡ true → filter_once a xs ≡ xs
@@ -90,8 +90,8 @@ module _ {X : Type 0} (h a : X → Bool) where
         by : (p q : Bool) → c x ≡ cond q (g x) (f x) → (l r : List Fault) → flat_map f (unlike xs) ≡ l → flat_map g (alike xs) ≡ r → l ++ r ∼ flat_map c (filter_once h xs)
             → flat_map f (put_if (p && not q) x (unlike xs)) ++ flat_map g (put_if (p && q) x (alike xs)) ∼ flat_map c (put_if p x (filter_once h xs))
         by true true e l r el er k = subst₂ (λ y z. y ∼ z ++ flat_map c (filter_once h xs)) (λ i. sym el i ++ (g x ++ sym er i)) (sym e)
-            (like_through (subst₂ (λ y z. y ∼ z) (append_assoc l (g x) r) (append_assoc (g x) l r) (∼_behind r (∼_swap l (g x)))) (∼_before (g x) k))
-        by true false e l r el er k = subst₂ (λ y z. y ∼ z ++ flat_map c (filter_once h xs)) (sym (append_assoc (f x) l r) ∙ (λ i. (f x ++ sym el i) ++ sym er i)) (sym e) (∼_before (f x) k)
+            (like_through (subst₂ (λ y z. y ∼ z) (append_assoc l _ r) (append_assoc _ l r) (∼_behind r (∼_swap l (g x)))) (∼_before _ k))
+        by true false e l r el er k = subst₂ (λ y z. y ∼ z ++ flat_map c (filter_once h xs)) (sym (append_assoc _ l r) ∙ (λ i. (f x ++ sym el i) ++ sym er i)) (sym e) (∼_before (f x) k)
         by false q e l r el er k = subst (λ y. y ∼ flat_map c (filter_once h xs)) (λ i. sym el i ++ sym er i) k
 
 -- ---- lists of names, and the entries that are due
@@ -182,22 +182,22 @@ module _ (W : World) (ms : Members) (d : Data) (u : Bool) (v : Data) where
       && list_all (λ e. is_empty (missing e.1 v)) (lists_due (meaning_step W u) d v i))
       ∙ (λ i. at_whole_accept (meaning_step W u) (codes "dependencies") v (filter_once (λ e. has e.0 v && not (is_array e.1)) (members d)) i
       && list_all-map (λ (e : Name × List Name). is_empty (missing e.1 v)) (λ e. (e.0, texts e.1)) (filter_once (λ e. has e.0 v && is_array e.1) (members d)) i)
-      ∙ all_parted (λ e. has e.0 v) (λ e. is_array e.1) (λ e. accepts W u e.1 v) (λ e. is_empty (missing (texts e.1) v)) (λ e. dependency_accepts W u e v) (λ e. refl) (members d)
+      ∙ all_parted (λ e. has e.0 v) (λ e. is_array e.1) (λ e. accepts W u e.1 v) (λ e. is_empty _) (λ e. dependency_accepts W u e v) (λ e. refl) (members d)
 
   pub dependencies_asks : member_asks W ms (codes "dependencies", d) dependencies u v ≡ sum_by (λ e. dependency_asks W u e v) (due_entries d v)
   unfolding meaning
   dependencies_asks =
       nothing_last _
       ∙ ap (λ es. sum_by (λ a. a.sub.answer.asks a.value) (asked_whole (codes "dependencies") v es)) (schemas_due (meaning_step W u) d v)
-      ∙ at_whole_ask (meaning_step W u) (codes "dependencies") v (filter_once (λ e. has e.0 v && not (is_array e.1)) (members d))
+      ∙ at_whole_ask (meaning_step W u) (codes "dependencies") v (filter_once (λ e. has e.0 v && not _) (members d))
       ∙ sum_parted (λ e. has e.0 v) (λ e. is_array e.1) (λ e. asks W u e.1 v) (λ e. dependency_asks W u e v) (λ e. refl) (members d)
 
   -- the lists' faults stand behind those of the schemas
   pub dependencies_report : (P Q : Path) → member_report W ms (codes "dependencies", d) dependencies u v P Q ∼ flat_map (λ e. dependency_report W u e v (P // codes "dependencies") Q) (due_entries d v)
   unfolding meaning
   dependencies_report P Q = subst (λ fs. fs ∼ flat_map (λ e. dependency_report W u e v (P // codes "dependencies") Q) (due_entries d v)) (sym parted)
-      (found_parted (λ e. has e.0 v) (λ e. is_array e.1) (λ e. report W u e.1 v (P // codes "dependencies" // e.0) Q)
-      (λ e. required_faults (texts e.1) v (P // codes "dependencies") Q) (λ e. dependency_report W u e v (P // codes "dependencies") Q) (λ e. refl) (members d))
+      (found_parted (λ e. has e.0 v) (λ e. is_array e.1) (λ e. report W u e.1 v _ Q)
+      (λ e. required_faults _ v _ Q) (λ e. dependency_report W u e v _ Q) (λ e. refl) (members d))
     where
       parted : member_report W ms (codes "dependencies", d) dependencies u v P Q
           ≡ flat_map (λ e. report W u e.1 v (P // codes "dependencies" // e.0) Q) (filter_once (λ e. has e.0 v && not (is_array e.1)) (members d))
@@ -213,9 +213,9 @@ module _ (W : World) (ms : Members) (d : Data) (u : Bool) (v : Data) where
       (map (λ e. dependency_shown W u e v (P // codes "dependencies") Q) (due_entries d v)) ∷ []
   unfolding meaning
   dependencies_child P Q = ap (λ ts. plain (P // codes "dependencies") Q ts ∷ [])
-      (ap (map (λ e. cond (is_array e.1.schema) (erring (P // codes "dependencies") Q (required_faults (texts e.1.schema) v (P // codes "dependencies") Q))
-      (e.1.answer.tree v (P // codes "dependencies" // e.0) Q))) (entries_due (meaning_step W u) d v)
-      ∙ map-map (λ e. cond (is_array e.1.schema) (erring (P // codes "dependencies") Q (required_faults (texts e.1.schema) v (P // codes "dependencies") Q)) (e.1.answer.tree v (P // codes "dependencies" // e.0) Q)) (λ e. dependency_shown W u e v (P // codes "dependencies") Q) (entry (meaning_step W u)) (λ e. refl) (due_entries d v))
+      (ap (map (λ e. cond (is_array e.1.schema) (erring _ Q _)
+      (e.1.answer.tree v _ Q))) (entries_due (meaning_step W u) d v)
+      ∙ map-map (λ e. cond (is_array e.1.schema) (erring (P // codes "dependencies") Q (required_faults _ v _ Q)) (e.1.answer.tree v (P // codes "dependencies" // e.0) Q)) (λ e. dependency_shown W u e v _ Q) (entry (meaning_step W u)) (λ e. refl) (due_entries d v))
 
 -- ---- what is wrong with them, and the places that they read
 

@@ -42,8 +42,8 @@ module _ {X Y : Type 0} where
   pub sums_exchanged : (f : X → Y → ℕ) (xs : List X) (ys : List Y) → sum_by (λ x. sum_by (λ y. f x y) ys) xs ≡ sum_by (λ y. sum_by (λ x. f x y) xs) ys
   sums_exchanged f [] ys = sym (sum_of_none ys)
   sums_exchanged f (x ∷ xs) ys =
-      sum_by-cons (λ x. sum_by (λ y. f x y) ys) x xs ∙ ap (λ n. sum_by (λ y. f x y) ys + n) (sums_exchanged f xs ys)
-      ∙ sym (sum_of_both (λ y. f x y) (λ y. sum_by (λ x. f x y) xs) ys)
+      sum_by-cons (λ x. sum_by _ ys) x xs ∙ ap (λ n. sum_by (λ y. f x y) ys + n) (sums_exchanged f xs ys)
+      ∙ sym (sum_of_both _ _ ys)
       ∙ (λ i. sum_by (λ y. sym (sum_by-cons (λ z. f z y) x xs) i) ys)
 
 -- ---- those of which a test holds

@@ -53,10 +53,10 @@ pub numbered_values : {X : Type 0} (xs : List X) → xs ≡ map {A = Name × X} 
 numbered_values xs = values_from 0 xs
 
 pub branch_entries : {X : Type 0} (step : Schema X → X) (ds : Items) → branches (read step (array ds)) ≡ map (entry step) (numbered (items_list ds))
-branch_entries step ds = branches_read step (array ds) ∙ numbered-map (place step) (items_list ds)
+branch_entries step ds = branches_read step (array ds) ∙ numbered-map (place step) _
 
 pub item_entries : {X : Type 0} (step : Schema X → X) (ds : Items) → (read step (array ds)).items ≡ map {A = Name × Sub X} (λ e. e.1) (map (entry step) (numbered (items_list ds)))
-item_entries {X} step ds = items_read step (array ds) ∙ numbered_values (map (place step) (items_list ds)) ∙ ap (map {A = Name × Sub X} (λ e. e.1)) (numbered-map (place step) (items_list ds))
+item_entries {X} step ds = items_read step (array ds) ∙ numbered_values (map _ _) ∙ ap (map {A = Name × Sub X} _) (numbered-map _ _)
 
 pub nothing_first : (n : ℕ) → 0 + n ≡ n
 nothing_first n = omega arith
@@ -128,8 +128,8 @@ module _ (W : World) (k : Name) (ds : Items) (u : Bool) (v : Data) (P Q : Path) 
   pub branches_report : map (λ b. b.1.answer.report v (P // k // b.0) Q) (branches (read (meaning_step W u) (array ds))) ≡ map (λ e. report W u e.1 v (P // k // e.0) Q) (numbered (items_list ds))
   unfolding meaning
   branches_report =
-      ap (map (λ b. b.1.answer.report v (P // k // b.0) Q)) (branch_entries (meaning_step W u) ds)
-      ∙ map-map (λ b. b.1.answer.report v (P // k // b.0) Q) (λ e. report W u e.1 v (P // k // e.0) Q) (entry (meaning_step W u)) (λ e. refl) (numbered (items_list ds))
+      ap (map (λ b. b.1.answer.report v _ Q)) (branch_entries (meaning_step W u) ds)
+      ∙ map-map (λ b. b.1.answer.report v (P // k // b.0) Q) (λ e. report W u e.1 v _ Q) (entry (meaning_step W u)) (λ e. refl) _
 
 module _ (W : World) (ms : Members) where
   -- ---- properties
@@ -141,7 +141,7 @@ module _ (W : World) (ms : Members) where
       declared_accept =
           and-true _
           ∙ ap (λ es. list_all (λ a. a.sub.answer.accepts a.value) (at_members (meaning_step W u) (codes "properties") v es)) (entries_read (meaning_step W u) d)
-          ∙ at_members_accept (meaning_step W u) (codes "properties") v (members d)
+          ∙ at_members_accept (meaning_step W u) (codes "properties") v _
 
       pub declared_ask : member_asks W ms (codes "properties", d) properties u v ≡ sum_by (λ e. sum_by (asks W u e.1) (at e.0 v)) (members d)
       unfolding meaning
@@ -157,7 +157,7 @@ module _ (W : World) (ms : Members) where
           append-nil _
           ∙ ap (λ es. flat_map (λ a. a.sub.answer.report a.value (down P a.in_schema) (down Q a.in_instance)) (at_members (meaning_step W u) (codes "properties") v es))
           (entries_read (meaning_step W u) d)
-          ∙ at_members_find (meaning_step W u) (codes "properties") v P Q (members d)
+          ∙ at_members_find (meaning_step W u) (codes "properties") v P Q _
 
   module _ (fs : Members) where
     module _ (u : Bool) (v : Data) where

@@ -15,13 +15,13 @@ module _ {X : Type 0} where
   -- two tests of which no item passes both
   pub those_split : (p q : X → Bool) → ((x : X) → p x ≡ true → q x ≡ false) → (xs : List X) → IsPermutation (filter_once p xs ++ filter_once q xs) (filter_once (λ x. p x || q x) xs)
   those_split p q h [] = IsPermutation-refl []
-  those_split p q h (x ∷ xs) = by (p x) (q x) (h x) (those_split p q h xs)
+  those_split p q h (x ∷ xs) = by (p x) _ (h x) (those_split p q h xs)
     where
       by : (a b : Bool) → (a ≡ true → b ≡ false) → IsPermutation (filter_once p xs ++ filter_once q xs) (filter_once (λ x. p x || q x) xs)
           → IsPermutation (put_if a x (filter_once p xs) ++ put_if b x (filter_once q xs)) (put_if (a || b) x (filter_once (λ x. p x || q x) xs))
       by true true d g = absurd (true≢false (d refl))
       by true false d g = IsPermutation-cons x _ _ g
-      by false true d g = IsPermutation-trans _ _ _ (IsPermutation-middle (filter_once p xs) x (filter_once q xs)) (IsPermutation-cons x _ _ g)
+      by false true d g = IsPermutation-trans _ _ _ (IsPermutation-middle _ x _) (IsPermutation-cons x _ _ g)
       by false false d g = g
 
   pub those_none : (xs : List X) → filter_once (λ x. false) xs ≡ []
@@ -52,4 +52,4 @@ module _ (heads : Name → Name) where
 
   -- where no name stands twice, and the head of each member is there
   pub claims_are_all : (es : List (Name × Data)) → has_repeat (names_of es) ≡ false → Each (λ x. is_among (heads x.0) (names_of es) ≡ true) es → IsPermutation (flat_map (claims heads es) es) es
-  claims_are_all es d h = subst (IsPermutation (flat_map (claims heads es) es)) (those_each (λ x. is_among (heads x.0) (names_of es)) es h) (grouped es es d)
+  claims_are_all es d h = subst (IsPermutation _) (those_each _ es h) (grouped es es d)

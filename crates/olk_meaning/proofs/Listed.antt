@@ -46,8 +46,8 @@ named_once k d (m ∷ es) h e = by (slice_cmp nat_cmp k m.0) (is_eq-slice_cmp k 
 module _ (ms : Members) (distinct : has_repeat (names_of (listed ms)) ≡ false) where
   -- the members of a name are what a look-up finds
   pub members_found : (k : Name) (o : Option Data) → lookup_name k (listed ms) ≡ o → members_named k (listed ms) ≡ map (λ d. (k, d)) (option_to_list o)
-  members_found k (Some d) e = named_once k d (listed ms) (Distinct-from (listed ms) distinct) e
-  members_found k None e = none_found (listed ms) e
+  members_found k (Some d) e = named_once k d _ (Distinct-from _ distinct) e
+  members_found k None e = none_found _ e
     where
       none_found : (es : List (Name × Data)) → lookup_name k es ≡ None → members_named k es ≡ []
       none_found [] e = refl
@@ -94,7 +94,7 @@ one_of P (y ∷ xs) x ys h = one_of P xs x ys h.1
 pub found_each : (ms : Members) → has_repeat (map (λ m. m.0) (listed ms)) ≡ false → (done : List (Name × Data)) (m : Name × Data) (rest : List (Name × Data))
     → done ++ m ∷ rest ≡ listed ms → lookup_name m.0 (listed ms) ≡ Some m.1
 found_each ms h done m rest e =
-    one_of (λ x. lookup_name x.0 (listed ms) ≡ Some x.1) done m rest (subst (λ l. Each (λ x. lookup_name x.0 (listed ms) ≡ Some x.1) l) (sym e) (Each-found (listed ms) (Distinct-from (listed ms) h)))
+    one_of (λ x. lookup_name x.0 (listed ms) ≡ Some x.1) done m rest (subst (λ l. Each (λ x. lookup_name x.0 (listed ms) ≡ Some x.1) l) (sym e) (Each-found _ (Distinct-from _ h)))
 
 -- a look-up finds something at each member's name
 pub present_each : (es done : List (Name × Data)) (m : Name × Data) (rest : List (Name × Data)) → done ++ m ∷ rest ≡ es → is_some (lookup_name m.0 es) ≡ true
@@ -109,5 +109,5 @@ present_each es done m rest e = ap (λ l. is_some (lookup_name m.0 l)) (sym e) �
     past _ d x q = q
 
     along : (done : List (Name × Data)) → is_some (lookup_name m.0 (done ++ m ∷ rest)) ≡ true
-    along [] = found (slice_cmp nat_cmp m.0 m.0) m.1 (lookup_name m.0 rest) (is_eq-slice_cmp m.0 m.0 ∙ bytes_eq-itself m.0)
-    along (x ∷ done) = past (slice_cmp nat_cmp m.0 x.0) x.1 (lookup_name m.0 (done ++ m ∷ rest)) (along done)
+    along [] = found (slice_cmp nat_cmp m.0 m.0) m.1 _ (is_eq-slice_cmp m.0 m.0 ∙ bytes_eq-itself m.0)
+    along (x ∷ done) = past (slice_cmp nat_cmp m.0 x.0) x.1 _ (along done)

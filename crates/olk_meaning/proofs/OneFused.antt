@@ -57,7 +57,7 @@ module _ {X : Type 0} (step : Schema X → X) (ms : Members) where
   pub one_fused : (L : Path) → ListsTexts L (lookup_name (codes "required") (listed ms)) → fuses_one (read_members step ms) ≡ is_some (fused_one ms)
   one_fused L h =
       fuses_one_read ∙ by (is_some (lookup_name (codes "properties") (listed ms))) (refuses_others (lookup_name (codes "additionalProperties") (listed ms)))
-      (lookup_name (codes "patternProperties") (listed ms)) (lookup_name (codes "required") (listed ms)) h
+      (lookup_name (codes "patternProperties") (listed ms)) _ h
     where
       one : (o : Option Data) → ListsTexts L o → nat_eq (length (flat_map texts (option_to_list o))) 1 ≡ is_some (one_name o)
       one None k = refl

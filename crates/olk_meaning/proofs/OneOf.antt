@@ -41,7 +41,7 @@ module _ (W : World) (u : Bool) (v : Data) where
     unfolding meaning
     counted =
         ap (count_by (λ s. s.answer.accepts v)) (item_entries (meaning_step W u) ds)
-        ∙ sum_by_under (λ e. e.1) (λ s. cond (s.answer.accepts v) 1 0) (map (entry (meaning_step W u)) given)
+        ∙ sum_by_under (λ e. e.1) (λ s. cond (s.answer.accepts v) 1 0) (map _ given)
         ∙ sum_by_under (entry (meaning_step W u)) (λ e. cond (e.1.answer.accepts v) 1 0) given
 
     pub one_of_accepts : member_accepts W ms (codes "oneOf", array ds) one_of u v ≡ (accepting_count given == 1)
@@ -52,7 +52,7 @@ module _ (W : World) (u : Bool) (v : Data) where
     one_of_asks =
         nothing_first _
         ∙ ap (sum_by (λ s. s.answer.asks v)) (item_entries (meaning_step W u) ds)
-        ∙ sum_by_under (λ e. e.1) (λ s. s.answer.asks v) (map (entry (meaning_step W u)) given)
+        ∙ sum_by_under (λ e. e.1) (λ s. s.answer.asks v) (map _ given)
         ∙ sum_by_under (entry (meaning_step W u)) (λ e. e.1.answer.asks v) given
 
     pub one_of_report : (P Q : Path) → member_report W ms (codes "oneOf", array ds) one_of u v P Q ≡ one_of_faults (accepting_count given) (P // codes "oneOf") Q given

@@ -97,7 +97,7 @@ module _ (W : World) where
       by false = omega arith
 
   names_of_entries : {X : Type 0} (step : Schema X → X) (es : List (Name × Data)) → map {A = Name × Sub X} (λ e. e.0) (map (entry step) es) ≡ map {A = Name × Data} (λ e. e.0) es
-  names_of_entries step es = map-map (λ e. e.0) (λ e. e.0) (entry step) (λ e. refl) es
+  names_of_entries step es = map-map _ _ _ (λ e. refl) es
 
   pub open_read : {X : Type 0} (step : Schema X → X) (d : Data) → open_patterns W (read step d) ≡ open_names W d
   open_read {X} step d = ap (λ es. filter_once (is_open W) (map {A = Name × Sub X} (λ e. e.0) es)) (entries_read step d) ∙ ap (filter_once (is_open W)) (names_of_entries step (members d))
@@ -111,7 +111,7 @@ module _ (W : World) (ms : Members) (d : Data) (u : Bool) (v : Data) where
   pattern_properties_accepts =
       and-true _
       ∙ ap (λ es. list_all (λ a. a.sub.answer.accepts a.value) (flat_map (asked_in W u (meaning_step W u) (codes "patternProperties") v) es)) (entries_read (meaning_step W u) d)
-      ∙ at_matched_accept W u (meaning_step W u) (codes "patternProperties") v (members d)
+      ∙ at_matched_accept W u (meaning_step W u) (codes "patternProperties") v _
 
   pub pattern_properties_report : (P Q : Path) → member_report W ms (codes "patternProperties", d) pattern_properties u v P Q ≡ flat_map
       (λ e. flat_map (λ x. report W u e.1 x.1 (P // codes "patternProperties" // e.0) (Q // x.0)) (matched_members W u e.0 v)) (members d)
@@ -120,7 +120,7 @@ module _ (W : World) (ms : Members) (d : Data) (u : Bool) (v : Data) where
       append-nil _
       ∙ ap (λ es. flat_map (λ a. a.sub.answer.report a.value (down P a.in_schema) (down Q a.in_instance)) (flat_map (asked_in W u (meaning_step W u) (codes "patternProperties") v) es))
       (entries_read (meaning_step W u) d)
-      ∙ at_matched_find W u (meaning_step W u) (codes "patternProperties") v P Q (members d)
+      ∙ at_matched_find W u (meaning_step W u) (codes "patternProperties") v P Q _
 
   -- ---- where it has a validator of its own
 
@@ -186,7 +186,7 @@ module _ (W : World) (ms : Members) (d : Data) (u : Bool) (v : Data) where
         ∙ ap (λ n. n + sum_by (λ x. patterns_asked W (declared_beside ms) (members d) x.0) (members v))
         (at_matched_ask W u (meaning_step W u) (codes "patternProperties") v (members d)
         ∙ sum_by-exchanged (λ e x. matches W u e.0 x.0) (λ e x. asks W u e.1 x.1) (members d) (members v))
-        ∙ sym (sum_of_both (matching_asks W u (declared_beside ms) (members d)) (λ x. patterns_asked W (declared_beside ms) (members d) x.0) (members v))
+        ∙ sym (sum_of_both (matching_asks W u (declared_beside ms) _) (λ x. patterns_asked W _ _ x.0) (members v))
 
 -- ---- what is wrong with it, and the places that it reads
 
@@ -225,7 +225,7 @@ module _ (W : World) (ms : Members) (d : Data) where
         table_asks = cond b
             (length (entries_at (read_members (cost_step W) ms) (codes "properties")) * length (open_patterns W (read (cost_step W) d))) 0;
       }) free
-      ∙ sum_last (matchers_made W d)
+      ∙ sum_last _
 
   -- each of its matchers is asked for each declared name
   pub pattern_properties_table_cost : restricts (read_members (cost_step W) ms) ≡ true → own_cost W (read_members (cost_step W) ms) (read (cost_step W) d) pattern_properties
@@ -243,7 +243,7 @@ module _ (W : World) (ms : Members) (d : Data) where
           (cond b (declared_beside ms) []) d
       by true e = pattern_properties_table_cost (restricted_read (cost_step W) ms ∙ e)
       by false e =
-          pattern_properties_free_cost (restricted_read (cost_step W) ms ∙ e) ∙ sym (sum_last (matchers_made W d)) ∙ ap (λ n. matchers_made W d ⊕ record no_cost { table_asks = n }) of_no_names
+          pattern_properties_free_cost (restricted_read (cost_step W) ms ∙ e) ∙ sym (sum_last _) ∙ ap (λ n. matchers_made W d ⊕ record no_cost { table_asks = n }) of_no_names
         where
           of_no_names : 0 ≡ 0 * length (open_names W d)
           of_no_names = omega arith

@@ -98,16 +98,16 @@ module _ (W : World) (ms : Members) (d : Data) (u : Bool) (v : Data) where
   unfolding meaning
   property_dependencies_accepts =
       and-true _
-      ∙ ap (list_all (λ a. a.sub.answer.accepts a.value)) chosen_asked
-      ∙ list_all-flat_map (λ a. a.sub.answer.accepts a.value) (λ e. map (asked_here e.0) (chosen v e)) (members d)
+      ∙ ap (list_all _) chosen_asked
+      ∙ list_all-flat_map (λ a. a.sub.answer.accepts a.value) (λ e. map _ _) (members d)
       ∙ (λ i. list_all (λ e. list_all-map (λ a. a.sub.answer.accepts a.value) (asked_here e.0) (chosen v e) i) (members d))
 
   pub property_dependencies_asks : member_asks W ms (codes "propertyDependencies", d) property_dependencies u v ≡ sum_by (λ e. sum_by (λ c. asks W u c.1 v) (chosen v e)) (members d)
   unfolding meaning
   property_dependencies_asks =
       nothing_last _
-      ∙ ap (sum_by (λ a. a.sub.answer.asks a.value)) chosen_asked
-      ∙ sum_by-flat_map (λ e. map (asked_here e.0) (chosen v e)) (λ a. a.sub.answer.asks a.value) (members d)
+      ∙ ap (sum_by _) chosen_asked
+      ∙ sum_by-flat_map (λ e. map _ _) (λ a. a.sub.answer.asks a.value) (members d)
       ∙ (λ i. sum_by (λ e. sum_by_under (asked_here e.0) (λ a. a.sub.answer.asks a.value) (chosen v e) i) (members d))
 
   module _ (P Q : Path) where
@@ -116,18 +116,18 @@ module _ (W : World) (ms : Members) (d : Data) (u : Bool) (v : Data) where
     unfolding meaning
     property_dependencies_report =
         append-nil _
-        ∙ ap (flat_map (λ a. a.sub.answer.report a.value (down P a.in_schema) (down Q a.in_instance))) chosen_asked
-        ∙ flat_map-flat_map (λ e. map (asked_here e.0) (chosen v e)) (λ a. a.sub.answer.report a.value (down P a.in_schema) (down Q a.in_instance)) (members d)
+        ∙ ap (flat_map _) chosen_asked
+        ∙ flat_map-flat_map (λ e. map _ _) (λ a. a.sub.answer.report a.value _ _) (members d)
         ∙ (λ i. flat_map (λ e. flat_map-map (λ a. a.sub.answer.report a.value (down P a.in_schema) (down Q a.in_instance))
-        (λ c. report W u c.1 v (P // codes "propertyDependencies" // e.0 // c.0) Q) (asked_here e.0) (λ c. refl) (chosen v e) i) (members d))
+        (λ c. report W u c.1 v _ Q) (asked_here e.0) (λ c. refl) (chosen v e) i) (members d))
 
     pub property_dependencies_child : member_child W ms (codes "propertyDependencies", d) property_dependencies u v P Q ≡ plain (P // codes "propertyDependencies") Q
         (flat_map (λ e. map (λ c. tree W u c.1 v (P // codes "propertyDependencies" // e.0 // c.0) Q) (chosen v e)) (members d)) ∷ []
     unfolding meaning
     property_dependencies_child = ap (λ ts. plain (P // codes "propertyDependencies") Q ts ∷ [])
-        (ap (map (λ a. a.sub.answer.tree a.value (down P a.in_schema) (down Q a.in_instance))) chosen_asked
-        ∙ map-flat_map (λ e. map (asked_here e.0) (chosen v e)) (λ a. a.sub.answer.tree a.value (down P a.in_schema) (down Q a.in_instance)) (members d)
-        ∙ (λ i. flat_map (λ e. map-map (λ a. a.sub.answer.tree a.value (down P a.in_schema) (down Q a.in_instance)) (λ c. tree W u c.1 v (P // codes "propertyDependencies" // e.0 // c.0) Q) (asked_here e.0) (λ c. refl) (chosen v e) i) (members d)))
+        (ap (map _) chosen_asked
+        ∙ map-flat_map (λ e. map _ _) (λ a. a.sub.answer.tree a.value _ _) (members d)
+        ∙ (λ i. flat_map (λ e. map-map (λ a. a.sub.answer.tree a.value (down P a.in_schema) (down Q a.in_instance)) (λ c. tree W u c.1 v _ Q) (asked_here e.0) (λ c. refl) (chosen v e) i) (members d)))
 
 -- ---- what is wrong with it, and the places that it reads
 
@@ -143,22 +143,22 @@ module _ {X : Type 0} (step : Schema X → X) (d : Data) (k : Name) where
 
   pub property_dependencies_places : (S : Keywords X) → read_places k S (read step d) property_dependencies ≡ inner_places
   property_dependencies_places S =
-      ap (flat_map (λ e. map (λ i. (i.1, k ∷ e.0 ∷ i.0 ∷ [])) e.1)) (inner_read step d)
-      ∙ flat_map-map (λ e. map (λ i. (i.1, k ∷ e.0 ∷ i.0 ∷ [])) e.1) (λ e. map (λ c. (place step c.1, k ∷ e.0 ∷ c.0 ∷ [])) (members e.1)) (inner_entry step)
-      (λ e. map-map (λ i. (i.1, k ∷ e.0 ∷ i.0 ∷ [])) (λ c. (place step c.1, k ∷ e.0 ∷ c.0 ∷ [])) (entry step) (λ c. refl) (members e.1)) (members d)
+      ap (flat_map _) (inner_read step d)
+      ∙ flat_map-map (λ e. map _ e.1) (λ e. map _ _) (inner_entry step)
+      (λ e. map-map _ _ _ (λ c. refl) _) (members d)
 
 module _ (W : World) (d : Data) (k : Name) where
   pub inner_malformations : (P : Path) → flat_map (λ r. r.0.answer (down P r.1)) (inner_places (malformations_step W) d k) ≡ flat_map
       (λ e. flat_map (λ c. malformations_at W c.1 (P // k // e.0 // c.0)) (members e.1)) (members d)
   unfolding malformations_at
   inner_malformations P =
-      flat_map-flat_map (λ e. map (λ c. (place (malformations_step W) c.1, k ∷ e.0 ∷ c.0 ∷ [])) (members e.1)) (λ r. r.0.answer (down P r.1)) (members d)
+      flat_map-flat_map (λ e. map _ _) (λ r. r.0.answer _) (members d)
       ∙ (λ i. flat_map (λ e. flat_map-map (λ (r : Sub (Path → List Fault) × List Name). r.0.answer (down P r.1)) (λ c. malformations_at W c.1 (P // k // e.0 // c.0))
       (λ c. (place (malformations_step W) c.1, k ∷ e.0 ∷ c.0 ∷ [])) (λ c. refl) (members e.1) i) (members d))
 
   pub inner_costs : total_cost (λ r. r.0.answer) (inner_places (cost_step W) d k) ≡ total_cost (λ e. total_cost (λ c. cost W c.1) (members e.1)) (members d)
   unfolding cost
   inner_costs =
-      total_cost-flat_map (λ e. map (λ c. (place (cost_step W) c.1, k ∷ e.0 ∷ c.0 ∷ [])) (members e.1)) (λ r. r.0.answer) (members d)
+      total_cost-flat_map (λ e. map _ _) (λ r. r.0.answer) (members d)
       ∙ (λ i. total_cost (λ e. total_cost-map (λ (r : Sub Cost × List Name). r.0.answer) (λ c. cost W c.1) (λ c. (place (cost_step W) c.1, k ∷ e.0 ∷ c.0 ∷ []))
       (λ c. refl) (members e.1) i) (members d))

@@ -143,7 +143,7 @@ module _ (W : World) (ms : Members) (d : Data) where
     pub property_names_malformations : is_object d ≡ true → member_malformations W ms (codes "propertyNames", d) property_names P ≡ malformations_at W d (P // codes "propertyNames")
     unfolding malformations_at
     property_names_malformations e =
-        ap (flat_map (λ r. r.0.answer (down P r.1))) (property_names_places (malformations_step W) d (codes "propertyNames") (read_members (malformations_step W) ms) e) ∙ append-nil _
+        ap (flat_map (λ r. r.0.answer _)) (property_names_places (malformations_step W) d (codes "propertyNames") (read_members (malformations_step W) ms) e) ∙ append-nil _
 
   pub property_names_cost : is_object d ≡ true → member_cost W ms (codes "propertyNames", d) property_names ≡ cost W d
   unfolding cost

@@ -45,9 +45,9 @@ in_order _ _ _ c = refl
 found_in_order : (r o a b c : List Fault) → (r ++ o) ++ (a ++ (b ++ c)) ∼ ((a ++ (b ++ r)) ++ o) ++ c
 found_in_order r o a b c =
     like_through (∼_swap (r ++ o) (a ++ (b ++ c)))
-    (like_through (∼_same (append_assoc a (b ++ c) (r ++ o) ∙ ap (λ l. a ++ l) (append_assoc b c (r ++ o))))
-    (like_through (∼_before a (∼_before b (∼_swap c (r ++ o))))
-    (∼_same (ap (λ l. a ++ (b ++ l)) (append_assoc r o c) ∙ ap (λ l. a ++ l) (sym (append_assoc b r (o ++ c))) ∙ sym (append_assoc a (b ++ r) (o ++ c)) ∙ sym (append_assoc (a ++ (b ++ r)) o c)))))
+    (like_through (∼_same (append_assoc a (b ++ c) (r ++ o) ∙ ap (λ l. a ++ l) (append_assoc b c _)))
+    (like_through (∼_before a (∼_before b (∼_swap c _)))
+    (∼_same (ap (λ l. a ++ (b ++ l)) (append_assoc r o c) ∙ ap (λ l. a ++ l) (sym (append_assoc b r _)) ∙ sym (append_assoc a _ _) ∙ sym (append_assoc _ o c)))))
 
 module _ (W : World) (ms : Members) (d : Data) (distinct : has_repeat (names_of (listed ms)) ≡ false) (there : lookup_name (codes "additionalProperties") (listed ms) ≡ Some d)
     (restricted : is_restricted ms ≡ true) (u : Bool) (v : Data) where
@@ -74,7 +74,7 @@ module _ (W : World) (ms : Members) (d : Data) (distinct : has_repeat (names_of 
       by (Some d) = and-true _ ∙ declared_accept W ms d u v
 
   pattern_rows_accept : list_all row_accepts (rows_at (codes "patternProperties") ms) ≡ list_all (matching_accept W u fs es) (members v)
-  pattern_rows_accept = by (lookup_name (codes "patternProperties") (listed ms)) ∙ list_all-exchanged (λ e x. matches W u e.0 x.0) (λ e x. accepts W u e.1 x.1) es (members v)
+  pattern_rows_accept = by (lookup_name (codes "patternProperties") (listed ms)) ∙ list_all-exchanged _ _ es _
     where
       by : (o : Option Data) → list_all row_accepts (map (λ d. (codes "patternProperties", d)) (option_to_list o)) ≡ list_all
           (λ e. list_all (λ x. accepts W u e.1 x.1) (matched_members W u e.0 v)) (entries_in o)
@@ -139,7 +139,7 @@ module _ (W : World) (ms : Members) (d : Data) (distinct : has_repeat (names_of 
     pattern_rows_find : flat_map row_report (rows_at (codes "patternProperties") ms) ∼ flat_map (matching_report W u fs es P Q) (members v)
     pattern_rows_find =
         like_through (∼_same (by (lookup_name (codes "patternProperties") (listed ms))))
-        (∼_exchanged (λ e x. matches W u e.0 x.0) (λ e x. report W u e.1 x.1 (P // codes "patternProperties" // e.0) (Q // x.0)) es (members v))
+        (∼_exchanged _ _ es _)
       where
         by : (o : Option Data) → flat_map row_report (map (λ d. (codes "patternProperties", d)) (option_to_list o)) ≡ flat_map
             (λ e. flat_map (λ x. report W u e.1 x.1 (P // codes "patternProperties" // e.0) (Q // x.0)) (matched_members W u e.0 v)) (entries_in o)
@@ -167,7 +167,7 @@ module _ (W : World) (ms : Members) (d : Data) (distinct : has_repeat (names_of 
     claims_find =
         like_through (∼_sym (∼_permuted row_report _ claimed (claims_restriction ms restricted distinct d there)))
         (like_through rows_find
-        (like_through (found_in_order (flat_map (rest_report W u fs es P Q d) (members v)) others_found declared_found (flat_map (matching_report W u fs es P Q) (members v)) required_found)
+        (like_through (found_in_order _ others_found declared_found _ required_found)
         (∼_behind required_found (∼_behind others_found (∼_before declared_found (∼_sym (∼_parts (matching_report W u fs es P Q) (rest_report W u fs es P Q d) (members v))))))))
 
     module _ (declared_once : has_repeat (names_of fs) ≡ false) (members_once : has_repeat (names_of (members v)) ≡ false) where
@@ -179,7 +179,7 @@ module _ (W : World) (ms : Members) (d : Data) (distinct : has_repeat (names_of 
         where
           together : declared_found ++ flat_map (λ x. matching_report W u fs es P Q x ++ rest_report W u fs es P Q d x) (members v) ∼ flat_map (each_report W u fs es P Q d) (members v)
           together = like_through (∼_behind _ found_by_member)
-              (like_through (∼_sym (∼_parts (declared_report W u fs es P Q) (λ x. matching_report W u fs es P Q x ++ rest_report W u fs es P Q d x) (members v)))
+              (like_through (∼_sym (∼_parts (declared_report W u fs es P Q) _ (members v)))
               (∼_same (λ i. flat_map (λ x. sym (append_assoc (declared_report W u fs es P Q x) (matching_report W u fs es P Q x) (rest_report W u fs es P Q d x)) i) (members v))))
 
   -- ---- how many matchers are asked

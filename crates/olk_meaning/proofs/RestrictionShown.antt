@@ -54,16 +54,16 @@ module _ (W : World) (ms : Members) (u : Bool) (v : Data) (P Q : Path) where
   declared_trees_read : (x : Name × Data) → declared_trees W u S v P Q x ≡ declared_shown W u fs es P Q x
   declared_trees_read x =
       ap (λ l. map (λ s. s.answer.tree x.1 (P // codes "properties" // x.0) (Q // x.0)) (option_to_list (lookup_name x.0 l))) (entries_beside (meaning_step W u) ms (codes "properties"))
-      ∙ entry_shown W u v (P // codes "properties") Q x fs
+      ∙ entry_shown W u v _ Q x fs
 
   pattern_trees_read : (x : Name × Data) → pattern_trees W u S v P Q x ≡ matching_shown W u fs es P Q x
   unfolding meaning
-  pattern_trees_read x = ap (map (λ (e : Name × Subschema). e.1.answer.tree x.1 (P // codes "patternProperties" // e.0) (Q // x.0))) (matching_read (meaning_step W u) ms W u x.0)
-      ∙ map-map (λ e. e.1.answer.tree x.1 (P // codes "patternProperties" // e.0) (Q // x.0)) (λ e. tree W u e.1 x.1 (P // codes "patternProperties" // e.0) (Q // x.0))
-      (entry (meaning_step W u)) (λ e. refl) (matching_at W u es x.0)
+  pattern_trees_read x = ap (map (λ (e : Name × Subschema). e.1.answer.tree x.1 _ _)) (matching_read (meaning_step W u) ms W u x.0)
+      ∙ map-map (λ e. e.1.answer.tree x.1 (P // codes "patternProperties" // e.0) (Q // x.0)) (λ e. tree W u e.1 x.1 _ _)
+      (entry (meaning_step W u)) (λ e. refl) _
 
   other_names_read : additional_names W u S v P Q ≡ other_names W u fs es v
-  other_names_read = ap (map (λ x. x.0)) (additional_read (meaning_step W u) ms W u v)
+  other_names_read = ap (map _) (additional_read (meaning_step W u) ms W u v)
 
   names_matched_read : matched_names W u S v P Q ≡ names_matched W u fs es v
   names_matched_read =
@@ -72,9 +72,9 @@ module _ (W : World) (ms : Members) (u : Bool) (v : Data) (P Q : Path) where
 
   -- a member is among the others if it is one
   others_there : Each (λ x. is_among x.0 (other_names W u fs es v) ≡ is_other W u fs es x.0) (members v)
-  others_there = Each-implies (λ x. is_among x.0 (map (λ e. e.0) (members v)) ≡ true) (λ x. is_among x.0 (other_names W u fs es v) ≡ is_other W u fs es x.0)
+  others_there = Each-implies (λ x. is_among x.0 _ ≡ true) _
       (λ x h. is_among-filter_once (is_other W u fs es) x.0 (members v) ∙ ap (λ b. is_other W u fs es x.0 && b) h ∙ and-true _)
-      (members v) (Each-among (members v))
+      _ (Each-among _)
 
   -- ---- `required` inside
 
@@ -98,9 +98,9 @@ module _ (W : World) (ms : Members) (u : Bool) (v : Data) (P Q : Path) where
         ((whole_read (meaning_step W u) d i).answer.tree m.1 (P // codes "additionalProperties") (Q // m.0)) []) (members v))
         ∙ each_flat (λ m. declared_shown W u fs es P Q m ++ matching_shown W u fs es P Q m ++ put_if (is_object d && is_among m.0 (other_names W u fs es v))
         (tree W u d m.1 (P // codes "additionalProperties") (Q // m.0)) []) (each_shown W u fs es P Q d) (members v)
-        (Each-implies (λ x. is_among x.0 (other_names W u fs es v) ≡ is_other W u fs es x.0) _
+        (Each-implies _ _
         (λ m h. ap (λ b. declared_shown W u fs es P Q m ++ matching_shown W u fs es P Q m ++ put_if (is_object d && b)
-        (tree W u d m.1 (P // codes "additionalProperties") (Q // m.0)) []) h) (members v) others_there)
+        (tree W u d m.1 (P // codes "additionalProperties") (Q // m.0)) []) h) _ others_there)
 
     pub additional_shows : is_restricted ms ≡ true → fuses_one S ≡ is_some (fused_one ms) → member_child W ms
         (codes "additionalProperties", d) additional_properties u v P Q ≡ restriction_shown W u ms v d P Q ∷ []

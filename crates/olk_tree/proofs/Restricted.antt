@@ -50,7 +50,7 @@ module _ {K R N : Type 0} (o : Kit K R) (m : N → Data → Question) (r : N →
           (λ i. list_all (λ (s : Data × Path). accepts o.world u s.0 v) (put_if (false_is_no_object d g i && true) (d, P // codes "additionalProperties") []) && false)
           ∙ sym (false_refuses o.world u d v g)
       by None g false = λ i. list_all (λ (s : Data × Path). accepts o.world u s.0 v) (put_if (false_is_no_object d g i && false) (d, P // codes "additionalProperties") []) && true
-      by (Some x) g true = (λ i. list_all (λ (s : Data × Path). accepts o.world u s.0 v) (put_if (g.0 i && true) (d, P // codes "additionalProperties") []) && true) ∙ alone (accepts o.world u d v)
+      by (Some x) g true = (λ i. list_all (λ (s : Data × Path). accepts o.world u s.0 v) (put_if (g.0 i && true) (d, P // codes "additionalProperties") []) && true) ∙ alone _
         where
           alone : (a : Bool) → ((a && true) && true) ≡ a
           alone true = refl
@@ -79,7 +79,7 @@ module _ {K R N : Type 0} (o : Kit K R) (m : N → Data → Question) (r : N →
 
   -- it accepts where each member is accepted
   pub restricted_accepts : (v : Data) → (means_in_turn o.answers o.costs m S v).accepts u ≡ list_all (each_accepts o.world u fs es d) (members v)
-  restricted_accepts v = along (members v)
+  restricted_accepts v = along _
     where
       along : (xs : List (Name × Data)) → (every (λ x. member_means o.answers o.costs m S x.0 x.1) xs).accepts u ≡ list_all (each_accepts o.world u fs es d) xs
       along [] = refl
@@ -135,11 +135,11 @@ module _ {K R N : Type 0} (o : Kit K R) (m : N → Data → Question) (r : N →
 
     found_by_part : flat_map finds (declared_schemas o m r t h x.0 u ++ (matching_schemas o m r t h x.0 u ++ rest_schemas o m r t h x.0 u)) ≡ each_report o.world u fs es P Q d x
     found_by_part = flat_map-append finds (declared_schemas o m r t h x.0 u) (matching_schemas o m r t h x.0 u ++ rest_schemas o m r t h x.0 u)
-        ∙ (λ i. flat_map-map finds (λ s. finds (s, P // codes "properties" // x.0)) (λ s. (s, P // codes "properties" // x.0)) (λ s. refl) (declared_at fs x.0) i ++ found_by_others i)
+        ∙ (λ i. flat_map-map finds (λ s. finds _) (λ s. (s, P // codes "properties" // x.0)) (λ s. refl) (declared_at fs x.0) i ++ found_by_others i)
         ∙ sym (append_assoc (declared_report o.world u fs es P Q x) (matching_report o.world u fs es P Q x) (rest_report o.world u fs es P Q d x))
 
     found_each : (v : Data) → member_report o.answers S u v Q r x ∼ each_report o.world u fs es P Q d x
-    found_each v = like_through (all_find o m r t u x.1 (Q // x.0) _ _ (asked_answer o m r t h x.0 u)) (∼_same found_by_part)
+    found_each v = like_through (all_find o m r t u x.1 _ _ _ (asked_answer o m r t h x.0 u)) (∼_same found_by_part)
 
   -- it finds what is found in each member, and the members that are not expected
   pub restricted_finds : (named : Bool) (v : Data) (Q : Path) → report_in_turn o.answers S u v Q named (P // codes "additionalProperties") r ∼ flat_map
@@ -166,7 +166,7 @@ module _ {K R N : Type 0} (o : Kit K R) (m : N → Data → Question) (r : N →
         of_rest false = refl
 
     shown_each : map (λ n. t n u x.1 (Q // x.0)) (nodes_asked o.answers S u x.0) ≡ each_shown o.world u fs es P Q d x
-    shown_each = all_show o m r t u x.1 (Q // x.0) _ _ (asked_answer o m r t h x.0 u) ∙ shown_by_part
+    shown_each = all_show o m r t u x.1 _ _ _ (asked_answer o m r t h x.0 u) ∙ shown_by_part
 
   pub restricted_children : (v : Data) (Q : Path) → flat_map (λ x. map (λ n. t n u x.1 (Q // x.0)) (nodes_asked o.answers S u x.0)) (members v) ≡ flat_map
       (each_shown o.world u fs es P Q d) (members v)

@@ -51,7 +51,7 @@ module _ {R N : Type 0} (answers : R → Name → Says) (costs : R → Bool) (S 
     patterns_ask spoken i (p ∷ ps) =
         ap {B = ℕ} (λ b. matcher_asked i p.0 + cond b ((m p.1 x).asks u + (patterns_mean_from answers costs m S a n x true (i + 1) ps).asks u)
         ((patterns_mean_from answers costs m S a n x spoken (i + 1) ps).asks u)) (match_is_said u (pattern_costs costs p.0) (known_at S a i) (pattern_answers answers p.0 n))
-        ∙ by spoken (is_matched_by answers S a n u i p.0) (matcher_asked i p.0) (patterns_ask true (i + 1) ps) (patterns_ask spoken (i + 1) ps)
+        ∙ by spoken _ _ (patterns_ask true _ ps) (patterns_ask spoken _ ps)
       where
         by : (spoken b : Bool) (c : ℕ) → (patterns_mean_from answers costs m S a n x true (i + 1) ps).asks u ≡ nodes_ask false (matching_from answers S a n u (i + 1) ps) + matchers_asked (i + 1) ps
             → (patterns_mean_from answers costs m S a n x spoken (i + 1) ps).asks u ≡ nodes_ask (not spoken && is_empty (matching_from answers S a n u (i + 1) ps))
@@ -78,12 +78,12 @@ module _ {R N : Type 0} (answers : R → Name → Says) (costs : R → Bool) (m 
 -- where what a text says is known, its matcher is asked if it left the name unfinished
 asked_if_unfinished : (W : World) (u : Bool) (text : Text) (n : Name) → (known_or_asked (pattern_says W text n) (said_to (is_open W text) (pattern_says W text n))).asks u ≡ cond
     (is_open W text) (cond (is_unfinished (W.says text n)) 1 0) 0
-asked_if_unfinished W u text n = by (literal text) (W.says text n)
+asked_if_unfinished W u text n = by (literal text) _
   where
     by : (l : Option Literal) (s : Says) → (known_or_asked (option_map_or (λ l. literal_says W l n) l s)
         (said_to (is_none l) (option_map_or (λ l. literal_says W l n) l s))).asks u ≡ cond (is_none l) (cond (is_unfinished s) 1 0) 0
     by None matched = refl
-    by (Some l) s = test (passes l n)
+    by (Some l) s = test _
       where
         test : (b : Bool) → (known_or_asked (cond b matched unmatched) (said_to false (cond b matched unmatched))).asks u ≡ 0
         test true = refl
@@ -92,11 +92,11 @@ asked_if_unfinished W u text n = by (literal text) (W.says text n)
 
 -- a test is never left unfinished, so that it counts exactly where its matcher is asked
 pub open_counts : (W : World) (text : Text) (n : Name) → cond {A = ℕ} (is_open W text || is_unfinished (pattern_says W text n)) 1 0 ≡ cond (is_open W text) 1 0
-open_counts W text n = by (literal text) (W.says text n)
+open_counts W text n = by (literal text) _
   where
     by : (l : Option Literal) (s : Says) → cond {A = ℕ} (is_none l || is_unfinished (option_map_or (λ l. literal_says W l n) l s)) 1 0 ≡ cond (is_none l) 1 0
     by None s = refl
-    by (Some l) s = test (passes l n)
+    by (Some l) s = test _
       where
         test : (b : Bool) → cond {A = ℕ} (false || is_unfinished (cond b matched unmatched)) 1 0 ≡ 0
         test true = refl

@@ -93,10 +93,10 @@ module _ {K R N : Type 0} (o : Kit K R) (m : N → Data → Question) (r : N →
       ∼ flat_map (λ e. flat_map (λ x. report o.world u e.1 x (P // codes "properties" // e.0) (Q // e.0)) (at e.0 v)) fs
       ++ flat_map (λ x. matching_report o.world u fs es P Q x ++ rest_report o.world u fs es P Q d x) (members v) ++ others_report o.world u fs es P Q named d v
   named_finds named v Q = like_through
-      (∼_append (like_through (∼_same (ap (flat_map (λ e. flat_map (λ w. r e.1.1 u w (Q // e.0)) (at e.0 v))) h.placed_zip))
-      (declared_find o m r t (P // codes "properties") u v Q 0 h.nodes fs h.declared))
+      (∼_append (like_through (∼_same (ap (flat_map _) h.placed_zip))
+      (declared_find o m r t _ u v Q 0 h.nodes fs h.declared))
       (∼_append (∼_flat_map_any (others_found o.answers S u v Q r) (λ x. matching_report o.world u fs es P Q x ++ rest_report o.world u fs es P Q d x) (others_find v Q) (members v)) (∼_same (faults_of_others o m r t h u named v Q))))
-      (∼_same (sym (append_assoc (flat_map (λ e. flat_map (λ x. report o.world u e.1 x (P // codes "properties" // e.0) (Q // e.0)) (at e.0 v)) fs)
+      (∼_same (sym (append_assoc (flat_map _ fs)
       (flat_map (λ x. matching_report o.world u fs es P Q x ++ rest_report o.world u fs es P Q d x) (members v)) (others_report o.world u fs es P Q named d v))))
 
   -- ---- how many matchers are asked
