@@ -14,6 +14,8 @@ use Rattle.olk_spec.proofs.Each.{Each, Each-implies, Each-any}
 use Rattle.olk_spec.proofs.Applied.{GoodAsked, applied_good}
 use Rattle.olk_spec.proofs.Induction.{good_answer, schema_read, GoodSchema, GoodSub, GoodPart}
 use Rattle.olk_spec.proofs.Passing.{no_members}
+use Rattle.olk_meaning.proofs.Facts.{asks_it}
+use Rattle.olk_meaning.proofs.Rows.{Rows}
 
 nothing_summed : {A : Type 0} (f : A → ℕ) (xs : List A) → Each (λ x. f x ≡ 0) xs → sum_by f xs ≡ 0
 nothing_summed f [] h = refl
@@ -28,12 +30,12 @@ AsksNothing d m = (v : Data) → IsNoObject v → m.asks v ≡ 0
 
 module _ (W : World) (u : Bool) (v : Data) (none : IsNoObject v) where
   module _ (S : Keywords Meaning) (k : Name) (p : Part Meaning) (good : GoodPart AsksNothing p) where
-    applied_nothing : (w : Keyword) → sum_by (λ a. a.sub.answer.asks a.value) (applied W u S k p v w) ≡ 0
-    applied_nothing w = nothing_summed (λ a. a.sub.answer.asks a.value) (applied W u S k p v w)
+    applied_nothing : (w : Keyword) → sum_by asks_it (applied W u S k p v w) ≡ 0
+    applied_nothing w = nothing_summed asks_it (applied W u S k p v w)
         (Each-implies (GoodAsked AsksNothing IsNoObject) (λ a. a.sub.answer.asks a.value ≡ 0) (λ a g. g.0 a.value g.1) (applied W u S k p v w)
         (applied_good AsksNothing IsNoObject W u S k p good v none (fines (members v) (no_members v none)) w))
       where
-        fines : (xs : List (Name × Data)) → xs ≡ [] → Each (λ m. IsNoObject m.1) xs
+        fines : (xs : Rows) → xs ≡ [] → Each (λ m. IsNoObject m.1) xs
         fines [] e = tt
         fines (x ∷ xs) e = absurd (grind (arith, e))
 
@@ -69,5 +71,5 @@ module _ (W : World) (u : Bool) where
   pub name_asks_nothing : (d : Data) (n : Name) → asks W u d (string n) ≡ 0
   name_asks_nothing d n = asks_nothing d _ refl
 
-  pub names_ask_nothing : (d : Data) (es : List (Name × Data)) → sum_by (λ m. asks W u d (string m.0)) es ≡ 0
+  pub names_ask_nothing : (d : Data) (es : Rows) → sum_by (λ m. asks W u d (string m.0)) es ≡ 0
   names_ask_nothing d es = nothing_summed _ es (Each-any _ (λ m. name_asks_nothing d m.0) es)

@@ -20,6 +20,7 @@ use Rattle.olk_meaning.specs.Fused.{declares_few, allows_others, two_names, fuse
 pub use Rattle.olk_meaning.proofs.Listed.{members_named, members_found, named_once, found_each, present_each}
 use Rattle.olk_meaning.proofs.Listed.{lookup_among}
 use Rattle.olk_meaning.proofs.TakenOver.{IsNotTaken, past_taken, required_not_taken, taken_named, restriction_there, fused_is_restricted, fusing_is_free, free_fuses_none, absent_if}
+use Rattle.olk_meaning.proofs.Rows.{Rows}
 
 -- ---- lists in another order
 
@@ -162,7 +163,7 @@ head_of_none t c n = by (bytes_eq (codes "required") n) refl
 names_differ : (n : Name) → bytes_eq (codes "properties") n ≡ true → bytes_eq (codes "required") n ≡ false
 names_differ n e = ap (bytes_eq (codes "required")) (sym (same_name (codes "properties") n e))
 
-pub claims_nothing : (t : Name × Name) (c : Bool) (es : List (Name × Data)) (d : Data) → claims (head (fusing t c)) es (codes "required", d) ≡ []
+pub claims_nothing : (t : Name × Name) (c : Bool) (es : Rows) (d : Data) → claims (head (fusing t c)) es (codes "required", d) ≡ []
 claims_nothing t c es d = filter_once-same _ (λ x. false) (λ x. head_of_none t c x.0) es ∙ those_none es
 
 -- `if` that is read is the head of `then` and `else` too, and these of none
@@ -206,7 +207,7 @@ case_heads_none p e k h n =
     over true = no_other _ refl
     over false = by (is_some p.fused_pair && bytes_eq (codes "required") n) _ refl
 
-pub claims_no_case : (p : Planned) → p.condition ≡ true → (es : List (Name × Data)) (m : Name × Data) → is_case m.0 ≡ true → claims (head p) es m ≡ []
+pub claims_no_case : (p : Planned) → p.condition ≡ true → (es : Rows) (m : Name × Data) → is_case m.0 ≡ true → claims (head p) es m ≡ []
 claims_no_case p e es m h = filter_once-same _ (λ x. false) (λ x. case_heads_none p e m.0 h x.0) es ∙ those_none es
 
 -- `if` is there where it is read
@@ -281,6 +282,6 @@ module _ (ms : Members) (distinct : has_repeat (names_of (listed ms)) ≡ false)
   pub heads_there : (p : Planned) → p ≡ plan_of ms → Each (λ x. is_among (head p x.0) (names_of (listed ms)) ≡ true) (listed ms)
   heads_there p e = along _ (Each-found _ (Distinct-from _ distinct))
     where
-      along : (es : List (Name × Data)) → Each (λ x. lookup_name x.0 (listed ms) ≡ Some x.1) es → Each (λ x. is_among (head p x.0) (names_of (listed ms)) ≡ true) es
+      along : (es : Rows) → Each (λ x. lookup_name x.0 (listed ms) ≡ Some x.1) es → Each (λ x. is_among (head p x.0) (names_of (listed ms)) ≡ true) es
       along [] h = tt
       along (x ∷ es) h = (head_there p e x h.0, along es h.1)

@@ -13,7 +13,7 @@ use Rattle.olk_spec.specs.World.{World}
 use Rattle.olk_spec.specs.Vocabulary.{dependent_required, dependent_schemas, dependencies}
 use Rattle.olk_spec.specs.Faults.{Fault, ◌∼◌, like_empty, like_through}
 use Rattle.olk_spec.specs.Schemas.{Schema, Keywords, read, members, has, texts, is_array}
-use Rattle.olk_spec.specs.Meanings.{asked_whole}
+use Rattle.olk_spec.specs.Meanings.{Meaning, asked_whole}
 use Rattle.olk_spec.specs.Meaning.{accepts, asks, report, tree, meaning, meaning_step}
 use Rattle.olk_spec.specs.Accepts.{missing, due}
 use Rattle.olk_spec.specs.Reports.{required_faults}
@@ -25,7 +25,7 @@ use Rattle.olk_spec.proofs.Maps.{flat_map-map, map-map, filter_once-map}
 use Rattle.olk_spec.proofs.Reading.{entry, entries_read, schema_of_read}
 use Rattle.olk_meaning.specs.Members.{member_accepts, member_asks, member_report, member_child}
 use Rattle.olk_meaning.specs.Dependencies.{due_entries, list_entries, schema_entries, are_lists, dependency_accepts, dependency_asks, dependency_report, dependency_shown}
-use Rattle.olk_meaning.proofs.Facts.{at_whole_accept, at_whole_ask, at_whole_find, nothing_first, nothing_last}
+use Rattle.olk_meaning.proofs.Facts.{accepts_it, asks_it, finds_it, shows_it, at_whole_accept, at_whole_ask, at_whole_find, nothing_first, nothing_last}
 use Rattle.olk_meaning.proofs.Children.{whole_shown}
 
 -- ---- those of a list, in two parts
@@ -119,24 +119,28 @@ module _ {X : Type 0} (step : Schema X → X) (d v : Data) where
   lists_due = due_read ∙ ap (map {A = Name × Data} (λ e. (e.0, texts e.1))) (filter_once-filter_once (λ e. has e.0 v) (λ e. is_array e.1) (members d))
 
 module _ (W : World) (ms : Members) (d : Data) (u : Bool) (v : Data) where
+  -- a schema, with its parts' meanings, to its own
+  abbrev to_meaning : Schema Meaning → Meaning
+  to_meaning = meaning_step W u
+
   -- ---- dependentRequired
 
   module _ (lists : are_lists d ≡ true) where
     pub dependent_required_accepts : member_accepts W ms (codes "dependentRequired", d) dependent_required u v ≡ list_all (λ e. is_empty (missing (texts e.1) v)) (due_entries d v)
     dependent_required_accepts =
-        ap (list_all (λ e. is_empty (missing e.1 v))) (due_lists (meaning_step W u) d v lists) ∙ list_all-map (λ e. is_empty (missing e.1 v)) (λ e. (e.0, texts e.1)) (due_entries d v)
+        ap (list_all (λ e. is_empty (missing e.1 v))) (due_lists to_meaning d v lists) ∙ list_all-map (λ e. is_empty (missing e.1 v)) (λ e. (e.0, texts e.1)) (due_entries d v)
 
     pub dependent_required_report : (P Q : Path) → member_report W ms (codes "dependentRequired", d) dependent_required u v P Q ≡ flat_map
         (λ e. required_faults (texts e.1) v (P // codes "dependentRequired") Q) (due_entries d v)
     dependent_required_report P Q =
-        ap (flat_map (λ e. required_faults e.1 v (P // codes "dependentRequired") Q)) (due_lists (meaning_step W u) d v lists)
+        ap (flat_map (λ e. required_faults e.1 v (P // codes "dependentRequired") Q)) (due_lists to_meaning d v lists)
         ∙ flat_map-map (λ e. required_faults e.1 v (P // codes "dependentRequired") Q) (λ e. required_faults (texts e.1) v (P // codes "dependentRequired") Q)
         (λ e. (e.0, texts e.1)) (λ e. refl) (due_entries d v)
 
     pub dependent_required_child : (P Q : Path) → member_child W ms (codes "dependentRequired", d) dependent_required u v P Q
         ≡ plain (P // codes "dependentRequired") Q (map (λ e. erring (P // codes "dependentRequired") Q (required_faults (texts e.1) v (P // codes "dependentRequired") Q)) (due_entries d v)) ∷ []
     dependent_required_child P Q = ap (λ ts. plain (P // codes "dependentRequired") Q ts ∷ [])
-        (ap (map (λ e. erring (P // codes "dependentRequired") Q (required_faults e.1 v (P // codes "dependentRequired") Q))) (due_lists (meaning_step W u) d v lists)
+        (ap (map (λ e. erring (P // codes "dependentRequired") Q (required_faults e.1 v (P // codes "dependentRequired") Q))) (due_lists to_meaning d v lists)
         ∙ map-map (λ e. erring (P // codes "dependentRequired") Q (required_faults e.1 v (P // codes "dependentRequired") Q)) (λ e. erring (P // codes "dependentRequired") Q (required_faults (texts e.1) v (P // codes "dependentRequired") Q)) (λ e. (e.0, texts e.1)) (λ e. refl) (due_entries d v))
 
   pub dependent_required_asks : member_asks W ms (codes "dependentRequired", d) dependent_required u v ≡ 0
@@ -148,39 +152,39 @@ module _ (W : World) (ms : Members) (d : Data) (u : Bool) (v : Data) where
   unfolding meaning
   dependent_schemas_accepts =
       and-true _
-      ∙ ap (λ es. list_all (λ a. a.sub.answer.accepts a.value) (asked_whole (codes "dependentSchemas") v es)) (entries_due (meaning_step W u) d v)
-      ∙ at_whole_accept (meaning_step W u) (codes "dependentSchemas") v (due_entries d v)
+      ∙ ap (λ es. list_all accepts_it (asked_whole (codes "dependentSchemas") v es)) (entries_due to_meaning d v)
+      ∙ at_whole_accept to_meaning (codes "dependentSchemas") v (due_entries d v)
 
   pub dependent_schemas_asks : member_asks W ms (codes "dependentSchemas", d) dependent_schemas u v ≡ sum_by (λ e. asks W u e.1 v) (due_entries d v)
   unfolding meaning
   dependent_schemas_asks =
       nothing_last _
-      ∙ ap (λ es. sum_by (λ a. a.sub.answer.asks a.value) (asked_whole (codes "dependentSchemas") v es)) (entries_due (meaning_step W u) d v)
-      ∙ at_whole_ask (meaning_step W u) (codes "dependentSchemas") v (due_entries d v)
+      ∙ ap (λ es. sum_by asks_it (asked_whole (codes "dependentSchemas") v es)) (entries_due to_meaning d v)
+      ∙ at_whole_ask to_meaning (codes "dependentSchemas") v (due_entries d v)
 
   pub dependent_schemas_report : (P Q : Path) → member_report W ms (codes "dependentSchemas", d) dependent_schemas u v P Q ≡ flat_map
       (λ e. report W u e.1 v (P // codes "dependentSchemas" // e.0) Q) (due_entries d v)
   unfolding meaning
   dependent_schemas_report P Q =
       append-nil _
-      ∙ ap (λ es. flat_map (λ a. a.sub.answer.report a.value (down P a.in_schema) (down Q a.in_instance)) (asked_whole (codes "dependentSchemas") v es)) (entries_due (meaning_step W u) d v)
-      ∙ at_whole_find (meaning_step W u) (codes "dependentSchemas") v P Q (due_entries d v)
+      ∙ ap (λ es. flat_map (finds_it P Q) (asked_whole (codes "dependentSchemas") v es)) (entries_due to_meaning d v)
+      ∙ at_whole_find to_meaning (codes "dependentSchemas") v P Q (due_entries d v)
 
   pub dependent_schemas_child : (P Q : Path) → member_child W ms (codes "dependentSchemas", d) dependent_schemas u v P Q ≡ plain (P // codes "dependentSchemas") Q
       (map (λ e. tree W u e.1 v (P // codes "dependentSchemas" // e.0) Q) (due_entries d v)) ∷ []
   unfolding meaning
   dependent_schemas_child P Q = ap (λ ts. plain (P // codes "dependentSchemas") Q ts ∷ [])
-      (ap (λ es. map (λ a. a.sub.answer.tree a.value (down P a.in_schema) (down Q a.in_instance)) (asked_whole (codes "dependentSchemas") v es)) (entries_due (meaning_step W u) d v)
-      ∙ whole_shown W u v (meaning_step W u) (codes "dependentSchemas") P Q (due_entries d v))
+      (ap (λ es. map (shows_it P Q) (asked_whole (codes "dependentSchemas") v es)) (entries_due to_meaning d v)
+      ∙ whole_shown W u v to_meaning (codes "dependentSchemas") P Q (due_entries d v))
 
   -- ---- dependencies
 
   pub dependencies_accepts : member_accepts W ms (codes "dependencies", d) dependencies u v ≡ list_all (λ e. dependency_accepts W u e v) (due_entries d v)
   unfolding meaning
   dependencies_accepts =
-      (λ i. list_all (λ a. a.sub.answer.accepts a.value) (asked_whole (codes "dependencies") v (schemas_due (meaning_step W u) d v i))
-      && list_all (λ e. is_empty (missing e.1 v)) (lists_due (meaning_step W u) d v i))
-      ∙ (λ i. at_whole_accept (meaning_step W u) (codes "dependencies") v (filter_once (λ e. has e.0 v && not (is_array e.1)) (members d)) i
+      (λ i. list_all accepts_it (asked_whole (codes "dependencies") v (schemas_due to_meaning d v i))
+      && list_all (λ e. is_empty (missing e.1 v)) (lists_due to_meaning d v i))
+      ∙ (λ i. at_whole_accept to_meaning (codes "dependencies") v (filter_once (λ e. has e.0 v && not (is_array e.1)) (members d)) i
       && list_all-map (λ (e : Name × List Name). is_empty (missing e.1 v)) (λ e. (e.0, texts e.1)) (filter_once (λ e. has e.0 v && is_array e.1) (members d)) i)
       ∙ all_parted (λ e. has e.0 v) (λ e. is_array e.1) (λ e. accepts W u e.1 v) (λ e. is_empty _) (λ e. dependency_accepts W u e v) (λ e. refl) (members d)
 
@@ -188,8 +192,8 @@ module _ (W : World) (ms : Members) (d : Data) (u : Bool) (v : Data) where
   unfolding meaning
   dependencies_asks =
       nothing_last _
-      ∙ ap (λ es. sum_by (λ a. a.sub.answer.asks a.value) (asked_whole (codes "dependencies") v es)) (schemas_due (meaning_step W u) d v)
-      ∙ at_whole_ask (meaning_step W u) (codes "dependencies") v (filter_once (λ e. has e.0 v && not _) (members d))
+      ∙ ap (λ es. sum_by asks_it (asked_whole (codes "dependencies") v es)) (schemas_due to_meaning d v)
+      ∙ at_whole_ask to_meaning (codes "dependencies") v (filter_once (λ e. has e.0 v && not _) (members d))
       ∙ sum_parted (λ e. has e.0 v) (λ e. is_array e.1) (λ e. asks W u e.1 v) (λ e. dependency_asks W u e v) (λ e. refl) (members d)
 
   -- the lists' faults stand behind those of the schemas
@@ -203,9 +207,9 @@ module _ (W : World) (ms : Members) (d : Data) (u : Bool) (v : Data) where
           ≡ flat_map (λ e. report W u e.1 v (P // codes "dependencies" // e.0) Q) (filter_once (λ e. has e.0 v && not (is_array e.1)) (members d))
           ++ flat_map (λ e. required_faults (texts e.1) v (P // codes "dependencies") Q) (filter_once (λ e. has e.0 v && is_array e.1) (members d))
       parted =
-          (λ i. flat_map (λ a. a.sub.answer.report a.value (down P a.in_schema) (down Q a.in_instance)) (asked_whole (codes "dependencies") v (schemas_due (meaning_step W u) d v i))
-          ++ flat_map (λ e. required_faults e.1 v (P // codes "dependencies") Q) (lists_due (meaning_step W u) d v i))
-          ∙ (λ i. at_whole_find (meaning_step W u) (codes "dependencies") v P Q (filter_once (λ e. has e.0 v && not (is_array e.1)) (members d)) i
+          (λ i. flat_map (finds_it P Q) (asked_whole (codes "dependencies") v (schemas_due to_meaning d v i))
+          ++ flat_map (λ e. required_faults e.1 v (P // codes "dependencies") Q) (lists_due to_meaning d v i))
+          ∙ (λ i. at_whole_find to_meaning (codes "dependencies") v P Q (filter_once (λ e. has e.0 v && not (is_array e.1)) (members d)) i
           ++ flat_map-map (λ (e : Name × List Name). required_faults e.1 v (P // codes "dependencies") Q) (λ e. required_faults (texts e.1) v (P // codes "dependencies") Q)
           (λ e. (e.0, texts e.1)) (λ e. refl) (filter_once (λ e. has e.0 v && is_array e.1) (members d)) i)
 
@@ -214,8 +218,8 @@ module _ (W : World) (ms : Members) (d : Data) (u : Bool) (v : Data) where
   unfolding meaning
   dependencies_child P Q = ap (λ ts. plain (P // codes "dependencies") Q ts ∷ [])
       (ap (map (λ e. cond (is_array e.1.schema) (erring _ Q _)
-      (e.1.answer.tree v _ Q))) (entries_due (meaning_step W u) d v)
-      ∙ map-map (λ e. cond (is_array e.1.schema) (erring (P // codes "dependencies") Q (required_faults _ v _ Q)) (e.1.answer.tree v (P // codes "dependencies" // e.0) Q)) (λ e. dependency_shown W u e v _ Q) (entry (meaning_step W u)) (λ e. refl) (due_entries d v))
+      (e.1.answer.tree v _ Q))) (entries_due to_meaning d v)
+      ∙ map-map (λ e. cond (is_array e.1.schema) (erring (P // codes "dependencies") Q (required_faults _ v _ Q)) (e.1.answer.tree v (P // codes "dependencies" // e.0) Q)) (λ e. dependency_shown W u e v _ Q) (entry to_meaning) (λ e. refl) (due_entries d v))
 
 -- ---- what is wrong with them, and the places that they read
 

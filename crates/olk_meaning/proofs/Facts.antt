@@ -12,7 +12,7 @@ use Rattle.serde_json.specs.Data.{Data, object, array, Members, Items}
 use Rattle.olk_spec.specs.Names.{Name, Path, ◌//◌, down, is_empty}
 use Rattle.olk_spec.specs.World.{World}
 use Rattle.olk_spec.specs.Vocabulary.{properties, required, all_of, any_of, not_keyword, leaf, unread}
-use Rattle.olk_spec.specs.Faults.{AnyOf, Not, Leaf, SingleType, object_type, fault, context}
+use Rattle.olk_spec.specs.Faults.{Fault, AnyOf, Not, Leaf, SingleType, object_type, fault, context}
 use Rattle.olk_spec.specs.Schemas.{Sub, Schema, read, answer_for, listed, numbered, at, members, texts, branches, is_object}
 use Rattle.olk_spec.specs.Malformed.{items_list, unless_array, not_a_text, each, malformations_step, malformations_at}
 use Rattle.olk_spec.specs.Meanings.{Meaning, Subschema, Asked, asked, asked_whole}
@@ -23,6 +23,22 @@ use Rattle.olk_spec.specs.Costs.{cost, cost_step, ◌⊕◌, total_cost}
 use Rattle.olk_spec.proofs.Reading.{entry, place, entries_read, items_read, branches_read, schema_of_read}
 use Rattle.olk_meaning.specs.Members.{member_accepts, member_asks, member_report, member_malformations}
 use Rattle.olk_spec.proofs.Maps.{flat_map-map, map-map}
+use Rattle.olk_spec.specs.Tree.{Tree}
+use Rattle.olk_meaning.proofs.Rows.{Rows}
+
+-- ---- what an asked subschema answers about its value
+
+abbrev pub accepts_it : Asked → Bool
+accepts_it a = a.sub.answer.accepts a.value
+
+abbrev pub asks_it : Asked → ℕ
+asks_it a = a.sub.answer.asks a.value
+
+abbrev pub finds_it : Path → Path → Asked → List Fault
+finds_it P Q a = a.sub.answer.report a.value (down P a.in_schema) (down Q a.in_instance)
+
+abbrev pub shows_it : Path → Path → Asked → Tree
+shows_it P Q a = a.sub.answer.tree a.value (down P a.in_schema) (down Q a.in_instance)
 
 -- ---- walks
 
@@ -67,13 +83,13 @@ nothing_last n = omega arith
 -- ---- the places that a keyword reads
 
 module _ (W : World) (k : Name) where
-  pub each_malformations : (P : Path) (es : List (Name × Data)) → flat_map (λ r. r.0.answer (down P r.1)) (each k (map (entry (malformations_step W)) es)) ≡ flat_map
+  pub each_malformations : (P : Path) (es : Rows) → flat_map (λ r. r.0.answer (down P r.1)) (each k (map (entry (malformations_step W)) es)) ≡ flat_map
       (λ e. malformations_at W e.1 (P // k // e.0)) es
   unfolding malformations_at
   each_malformations P [] = refl
   each_malformations P (e ∷ es) = ap (λ l. malformations_at W e.1 (P // k // e.0) ++ l) (each_malformations P es)
 
-  pub each_costs : (es : List (Name × Data)) → total_cost (λ r. r.0.answer) (each k (map (entry (cost_step W)) es)) ≡ total_cost (λ e. cost W e.1) es
+  pub each_costs : (es : Rows) → total_cost (λ r. r.0.answer) (each k (map (entry (cost_step W)) es)) ≡ total_cost (λ e. cost W e.1) es
   unfolding cost
   each_costs [] = refl
   each_costs (e ∷ es) = ap (λ c. cost W e.1 ⊕ c) (each_costs es)
@@ -84,40 +100,40 @@ module _ (step : Schema Meaning → Meaning) (k : Name) (v : Data) where
   abbrev at_members : List (Name × Subschema) → List Asked
   at_members es = flat_map (λ e. map (λ w. asked e.1 w (k ∷ e.0 ∷ []) (e.0 ∷ [])) (at e.0 v)) es
 
-  at_members_accept : (es : List (Name × Data)) → list_all (λ a. a.sub.answer.accepts a.value) (at_members (map (entry step) es)) ≡ list_all (λ e. list_all (answer_for step e.1).accepts (at e.0 v)) es
+  at_members_accept : (es : Rows) → list_all accepts_it (at_members (map (entry step) es)) ≡ list_all (λ e. list_all (answer_for step e.1).accepts (at e.0 v)) es
   at_members_accept [] = refl
   at_members_accept (e ∷ es) =
-      list_all-append (λ a. a.sub.answer.accepts a.value) (map (λ w. asked (place step e.1) w (k ∷ e.0 ∷ []) (e.0 ∷ [])) (at e.0 v)) (at_members (map (entry step) es))
-      ∙ (λ i. list_all-map (λ a. a.sub.answer.accepts a.value) (λ w. asked (place step e.1) w (k ∷ e.0 ∷ []) (e.0 ∷ [])) (at e.0 v) i && at_members_accept es i)
+      list_all-append accepts_it (map (λ w. asked (place step e.1) w (k ∷ e.0 ∷ []) (e.0 ∷ [])) (at e.0 v)) (at_members (map (entry step) es))
+      ∙ (λ i. list_all-map accepts_it (λ w. asked (place step e.1) w (k ∷ e.0 ∷ []) (e.0 ∷ [])) (at e.0 v) i && at_members_accept es i)
 
-  at_members_ask : (es : List (Name × Data)) → sum_by (λ a. a.sub.answer.asks a.value) (at_members (map (entry step) es)) ≡ sum_by (λ e. sum_by (answer_for step e.1).asks (at e.0 v)) es
+  at_members_ask : (es : Rows) → sum_by asks_it (at_members (map (entry step) es)) ≡ sum_by (λ e. sum_by (answer_for step e.1).asks (at e.0 v)) es
   at_members_ask [] = refl
   at_members_ask (e ∷ es) =
-      sum_by-append (λ a. a.sub.answer.asks a.value) (map (λ w. asked (place step e.1) w (k ∷ e.0 ∷ []) (e.0 ∷ [])) (at e.0 v)) (at_members (map (entry step) es))
-      ∙ (λ i. sum_by_under (λ w. asked (place step e.1) w (k ∷ e.0 ∷ []) (e.0 ∷ [])) (λ a. a.sub.answer.asks a.value) (at e.0 v) i + at_members_ask es i)
+      sum_by-append asks_it (map (λ w. asked (place step e.1) w (k ∷ e.0 ∷ []) (e.0 ∷ [])) (at e.0 v)) (at_members (map (entry step) es))
+      ∙ (λ i. sum_by_under (λ w. asked (place step e.1) w (k ∷ e.0 ∷ []) (e.0 ∷ [])) asks_it (at e.0 v) i + at_members_ask es i)
       ∙ sym (sum_by-cons (λ e. sum_by (answer_for step e.1).asks (at e.0 v)) e es)
 
-  at_members_find : (P Q : Path) (es : List (Name × Data)) → flat_map (λ a. a.sub.answer.report a.value (down P a.in_schema) (down Q a.in_instance))
+  at_members_find : (P Q : Path) (es : Rows) → flat_map (finds_it P Q)
       (at_members (map (entry step) es)) ≡ flat_map (λ e. flat_map (λ w. (answer_for step e.1).report w (P // k // e.0) (Q // e.0)) (at e.0 v)) es
   at_members_find P Q [] = refl
   at_members_find P Q (e ∷ es) =
-      flat_map-append (λ a. a.sub.answer.report a.value (down P a.in_schema) (down Q a.in_instance)) (map (λ w. asked (place step e.1) w (k ∷ e.0 ∷ []) (e.0 ∷ [])) (at e.0 v))
+      flat_map-append (finds_it P Q) (map (λ w. asked (place step e.1) w (k ∷ e.0 ∷ []) (e.0 ∷ [])) (at e.0 v))
       (at_members (map (entry step) es))
-      ∙ (λ i. flat_map-map (λ a. a.sub.answer.report a.value (down P a.in_schema) (down Q a.in_instance)) (λ w. (answer_for step e.1).report w (P // k // e.0) (Q // e.0))
+      ∙ (λ i. flat_map-map (finds_it P Q) (λ w. (answer_for step e.1).report w (P // k // e.0) (Q // e.0))
       (λ w. asked (place step e.1) w (k ∷ e.0 ∷ []) (e.0 ∷ [])) (λ w. refl) (at e.0 v) i ++ at_members_find P Q es i)
 
-  pub at_whole_accept : (es : List (Name × Data)) → list_all (λ a. a.sub.answer.accepts a.value) (asked_whole k v (map (entry step) es)) ≡ list_all (λ e. (answer_for step e.1).accepts v) es
+  pub at_whole_accept : (es : Rows) → list_all accepts_it (asked_whole k v (map (entry step) es)) ≡ list_all (λ e. (answer_for step e.1).accepts v) es
   at_whole_accept [] = refl
   at_whole_accept (e ∷ es) = ap (λ b. (answer_for step e.1).accepts v && b) (at_whole_accept es)
 
-  pub at_whole_ask : (es : List (Name × Data)) → sum_by (λ a. a.sub.answer.asks a.value) (asked_whole k v (map (entry step) es)) ≡ sum_by (λ e. (answer_for step e.1).asks v) es
+  pub at_whole_ask : (es : Rows) → sum_by asks_it (asked_whole k v (map (entry step) es)) ≡ sum_by (λ e. (answer_for step e.1).asks v) es
   at_whole_ask [] = refl
   at_whole_ask (e ∷ es) =
-      sum_by-cons (λ a. a.sub.answer.asks a.value) (asked (place step e.1) v (k ∷ e.0 ∷ []) []) (asked_whole k v (map (entry step) es))
+      sum_by-cons asks_it (asked (place step e.1) v (k ∷ e.0 ∷ []) []) (asked_whole k v (map (entry step) es))
       ∙ ap (λ n. (answer_for step e.1).asks v + n) (at_whole_ask es)
       ∙ sym (sum_by-cons (λ e. (answer_for step e.1).asks v) e es)
 
-  pub at_whole_find : (P Q : Path) (es : List (Name × Data)) → flat_map (λ a. a.sub.answer.report a.value (down P a.in_schema) (down Q a.in_instance))
+  pub at_whole_find : (P Q : Path) (es : Rows) → flat_map (finds_it P Q)
       (asked_whole k v (map (entry step) es)) ≡ flat_map (λ e. (answer_for step e.1).report v (P // k // e.0) Q) es
   at_whole_find P Q [] = refl
   at_whole_find P Q (e ∷ es) = ap (λ l. (answer_for step e.1).report v (P // k // e.0) Q ++ l) (at_whole_find P Q es)
@@ -140,14 +156,14 @@ module _ (W : World) (ms : Members) where
       unfolding meaning
       declared_accept =
           and-true _
-          ∙ ap (λ es. list_all (λ a. a.sub.answer.accepts a.value) (at_members (meaning_step W u) (codes "properties") v es)) (entries_read (meaning_step W u) d)
+          ∙ ap (λ es. list_all accepts_it (at_members (meaning_step W u) (codes "properties") v es)) (entries_read (meaning_step W u) d)
           ∙ at_members_accept (meaning_step W u) (codes "properties") v _
 
       pub declared_ask : member_asks W ms (codes "properties", d) properties u v ≡ sum_by (λ e. sum_by (asks W u e.1) (at e.0 v)) (members d)
       unfolding meaning
       declared_ask =
           nothing_last _
-          ∙ ap (λ es. sum_by (λ a. a.sub.answer.asks a.value) (at_members (meaning_step W u) (codes "properties") v es)) (entries_read (meaning_step W u) d)
+          ∙ ap (λ es. sum_by asks_it (at_members (meaning_step W u) (codes "properties") v es)) (entries_read (meaning_step W u) d)
           ∙ at_members_ask (meaning_step W u) (codes "properties") v (members d)
 
       pub declared_find : (P Q : Path) → member_report W ms (codes "properties", d) properties u v P Q ≡ flat_map
@@ -155,7 +171,7 @@ module _ (W : World) (ms : Members) where
       unfolding meaning
       declared_find P Q =
           append-nil _
-          ∙ ap (λ es. flat_map (λ a. a.sub.answer.report a.value (down P a.in_schema) (down Q a.in_instance)) (at_members (meaning_step W u) (codes "properties") v es))
+          ∙ ap (λ es. flat_map (finds_it P Q) (at_members (meaning_step W u) (codes "properties") v es))
           (entries_read (meaning_step W u) d)
           ∙ at_members_find (meaning_step W u) (codes "properties") v P Q _
 
@@ -179,21 +195,21 @@ module _ (W : World) (ms : Members) where
       unfolding meaning
       all_of_accepts =
           and-true _
-          ∙ ap (λ es. list_all (λ a. a.sub.answer.accepts a.value) (asked_whole (codes "allOf") v es)) (branch_entries (meaning_step W u) ds)
+          ∙ ap (λ es. list_all accepts_it (asked_whole (codes "allOf") v es)) (branch_entries (meaning_step W u) ds)
           ∙ at_whole_accept (meaning_step W u) (codes "allOf") v (numbered (items_list ds))
 
       pub all_of_asks : member_asks W ms (codes "allOf", array ds) all_of u v ≡ sum_by (λ e. asks W u e.1 v) (numbered (items_list ds))
       unfolding meaning
       all_of_asks =
           nothing_last _
-          ∙ ap (λ es. sum_by (λ a. a.sub.answer.asks a.value) (asked_whole (codes "allOf") v es)) (branch_entries (meaning_step W u) ds)
+          ∙ ap (λ es. sum_by asks_it (asked_whole (codes "allOf") v es)) (branch_entries (meaning_step W u) ds)
           ∙ at_whole_ask (meaning_step W u) (codes "allOf") v (numbered (items_list ds))
 
       pub all_of_report : (P Q : Path) → member_report W ms (codes "allOf", array ds) all_of u v P Q ≡ flat_map (λ e. report W u e.1 v (P // codes "allOf" // e.0) Q) (numbered (items_list ds))
       unfolding meaning
       all_of_report P Q =
           append-nil _
-          ∙ ap (λ es. flat_map (λ a. a.sub.answer.report a.value (down P a.in_schema) (down Q a.in_instance)) (asked_whole (codes "allOf") v es)) (branch_entries (meaning_step W u) ds)
+          ∙ ap (λ es. flat_map (finds_it P Q) (asked_whole (codes "allOf") v es)) (branch_entries (meaning_step W u) ds)
           ∙ at_whole_find (meaning_step W u) (codes "allOf") v P Q (numbered (items_list ds))
 
       pub any_of_accepts : member_accepts W ms (codes "anyOf", array ds) any_of u v ≡ list_any (λ e. accepts W u e.1 v) (numbered (items_list ds))

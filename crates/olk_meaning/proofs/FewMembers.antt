@@ -12,18 +12,19 @@ use Rattle.olk_meaning.specs.Fused.{declares_few, allows_others, two_names, fuse
 use Rattle.olk_meaning.specs.Plans.{Planned, plan_of}
 use Rattle.olk_meaning.proofs.Heads.{names_of}
 use Rattle.olk_meaning.proofs.Listed.{lookup_among}
+use Rattle.olk_meaning.proofs.Rows.{Rows}
 
 itself_alone : (j n : Name) → (bytes_eq j n || false) ≡ true → j ≡ n
 itself_alone j n e = same_name j n (sym (or-false _) ∙ e)
 
 -- two names among fewer than two are one
-one_name_there : (j k : Name) (es : List (Name × Data)) → length es < 2 → is_among j (names_of es) ≡ true → is_among k (names_of es) ≡ true → j ≡ k
+one_name_there : (j k : Name) (es : Rows) → length es < 2 → is_among j (names_of es) ≡ true → is_among k (names_of es) ≡ true → j ≡ k
 one_name_there j k [] few a b = absurd (true≢false (sym a))
 one_name_there j k (x ∷ []) few a b = itself_alone j x.0 a ∙ sym (itself_alone k x.0 b)
 one_name_there j k (x ∷ y ∷ es) few a b = absurd (omega (arith, few))
 
 -- of two names one is missing
-one_is_missing : (j k : Name) → bytes_eq j k ≡ false → (es : List (Name × Data)) → length es < 2 → (lookup_name j es ≡ None) ⊎ (lookup_name k es ≡ None)
+one_is_missing : (j k : Name) → bytes_eq j k ≡ false → (es : Rows) → length es < 2 → (lookup_name j es ≡ None) ⊎ (lookup_name k es ≡ None)
 one_is_missing j k apart es few = by (lookup_name j es) _ refl refl
   where
     by : (a b : Option Data) → lookup_name j es ≡ a → lookup_name k es ≡ b → (lookup_name j es ≡ None) ⊎ (lookup_name k es ≡ None)

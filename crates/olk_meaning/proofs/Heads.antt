@@ -10,6 +10,7 @@ use Rattle.olk_spec.specs.Malformed.{has_repeat}
 use Rattle.olk_spec.proofs.Each.{Each}
 use Rattle.olk_spec.proofs.Walks.{neither, same_name, bytes_eq-sym}
 use Rattle.olk_meaning.specs.Plans.{claims}
+use Rattle.olk_meaning.proofs.Rows.{Rows}
 
 module _ {X : Type 0} where
   -- two tests of which no item passes both
@@ -36,11 +37,11 @@ module _ {X : Type 0} where
   filter_once-same p q e [] = refl
   filter_once-same p q e (x ∷ xs) = λ i. put_if (e x i) x (filter_once-same p q e xs i)
 
-abbrev pub names_of : List (Name × Data) → List Name
+abbrev pub names_of : Rows → List Name
 names_of es = map (λ m. m.0) es
 
 module _ (heads : Name → Name) where
-  grouped : (es hs : List (Name × Data)) → has_repeat (names_of hs) ≡ false → IsPermutation (flat_map (claims heads es) hs) (filter_once (λ x. is_among (heads x.0) (names_of hs)) es)
+  grouped : (es hs : Rows) → has_repeat (names_of hs) ≡ false → IsPermutation (flat_map (claims heads es) hs) (filter_once (λ x. is_among (heads x.0) (names_of hs)) es)
   grouped es [] d = subst (λ l. IsPermutation [] l) (sym (those_none es)) (IsPermutation-refl [])
   grouped es (m ∷ hs) d =
       let h = neither (is_among m.0 (names_of hs)) (has_repeat (names_of hs)) d in
@@ -51,5 +52,5 @@ module _ (heads : Name → Name) where
       (λ x e. ap (λ k. is_among k (names_of hs)) (same_name (heads x.0) m.0 e) ∙ h.0) es))
 
   -- where no name stands twice, and the head of each member is there
-  pub claims_are_all : (es : List (Name × Data)) → has_repeat (names_of es) ≡ false → Each (λ x. is_among (heads x.0) (names_of es) ≡ true) es → IsPermutation (flat_map (claims heads es) es) es
+  pub claims_are_all : (es : Rows) → has_repeat (names_of es) ≡ false → Each (λ x. is_among (heads x.0) (names_of es) ≡ true) es → IsPermutation (flat_map (claims heads es) es) es
   claims_are_all es d h = subst (IsPermutation _) (those_each _ es h) (grouped es es d)

@@ -16,25 +16,26 @@ use Rattle.olk_spec.proofs.Reading.{entry}
 use Rattle.olk_meaning.specs.Members.{member_accepts, member_asks, member_report, member_child}
 use Rattle.olk_meaning.proofs.Facts.{sum_by_under, item_entries, branches_report, nothing_first}
 use Rattle.olk_meaning.proofs.Children.{branches_shown, accepting_branches, all_branches_shown, accepting_branches_shown}
+use Rattle.olk_meaning.proofs.Rows.{Rows}
 
 module _ (W : World) (u : Bool) (v : Data) where
   -- how many accept
-  abbrev pub accepting_count : List (Name × Data) → ℕ
+  abbrev pub accepting_count : Rows → ℕ
   accepting_count es = count_by (λ e. accepts W u e.1 v) es
 
   -- the faults where so many of the branches accept, at L
-  abbrev pub one_of_faults : ℕ → Path → Path → List (Name × Data) → List Fault
+  abbrev pub one_of_faults : ℕ → Path → Path → Rows → List Fault
   one_of_faults n L Q es =
       fault_if (n == 0) (OneOfNotValid (context (map (λ e. report W u e.1 v (L // e.0) Q) es))) v L Q
       ++ fault_if (nat_lt 1 n) (OneOfMultipleValid (context (map (λ e. report W u e.1 v (L // e.0) Q) es))) v L Q
 
-  abbrev pub one_shown : ℕ → Path → Path → List (Name × Data) → Tree
+  abbrev pub one_shown : ℕ → Path → Path → Rows → Tree
   one_shown n L Q es = cond (n == 0)
       (result L Q None true [] (branches_shown W u v L Q es))
       (result L Q None false (put_if (nat_lt 1 n) (codes "oneOf", codes "more than one subschema succeeded", false) []) (branches_shown W u v L Q (accepting_branches W u v es)))
 
   module _ (ms : Members) (ds : Items) where
-    abbrev given : List (Name × Data)
+    abbrev given : Rows
     given = numbered (items_list ds)
 
     counted : accepting (read (meaning_step W u) (array ds)) v ≡ accepting_count given

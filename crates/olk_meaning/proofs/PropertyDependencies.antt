@@ -27,7 +27,7 @@ use Rattle.olk_spec.proofs.Walks.{list_all-flat_map}
 use Rattle.olk_spec.proofs.Reading.{place, entry, inner_entry, inner_read, entries_read, schema_of_read}
 use Rattle.olk_meaning.specs.Members.{member_accepts, member_asks, member_report, member_child}
 use Rattle.olk_meaning.specs.PropertyDependencies.{chosen}
-use Rattle.olk_meaning.proofs.Facts.{sum_by_under, nothing_last}
+use Rattle.olk_meaning.proofs.Facts.{accepts_it, asks_it, finds_it, shows_it, sum_by_under, nothing_last}
 use Rattle.olk_meaning.proofs.Exchanged.{sum_by-flat_map}
 
 -- ---- walks over lists of lists
@@ -99,16 +99,16 @@ module _ (W : World) (ms : Members) (d : Data) (u : Bool) (v : Data) where
   property_dependencies_accepts =
       and-true _
       ∙ ap (list_all _) chosen_asked
-      ∙ list_all-flat_map (λ a. a.sub.answer.accepts a.value) (λ e. map _ _) (members d)
-      ∙ (λ i. list_all (λ e. list_all-map (λ a. a.sub.answer.accepts a.value) (asked_here e.0) (chosen v e) i) (members d))
+      ∙ list_all-flat_map accepts_it (λ e. map _ _) (members d)
+      ∙ (λ i. list_all (λ e. list_all-map accepts_it (asked_here e.0) (chosen v e) i) (members d))
 
   pub property_dependencies_asks : member_asks W ms (codes "propertyDependencies", d) property_dependencies u v ≡ sum_by (λ e. sum_by (λ c. asks W u c.1 v) (chosen v e)) (members d)
   unfolding meaning
   property_dependencies_asks =
       nothing_last _
       ∙ ap (sum_by _) chosen_asked
-      ∙ sum_by-flat_map (λ e. map _ _) (λ a. a.sub.answer.asks a.value) (members d)
-      ∙ (λ i. sum_by (λ e. sum_by_under (asked_here e.0) (λ a. a.sub.answer.asks a.value) (chosen v e) i) (members d))
+      ∙ sum_by-flat_map (λ e. map _ _) asks_it (members d)
+      ∙ (λ i. sum_by (λ e. sum_by_under (asked_here e.0) asks_it (chosen v e) i) (members d))
 
   module _ (P Q : Path) where
     pub property_dependencies_report : member_report W ms (codes "propertyDependencies", d) property_dependencies u v P Q ≡ flat_map
@@ -118,7 +118,7 @@ module _ (W : World) (ms : Members) (d : Data) (u : Bool) (v : Data) where
         append-nil _
         ∙ ap (flat_map _) chosen_asked
         ∙ flat_map-flat_map (λ e. map _ _) (λ a. a.sub.answer.report a.value _ _) (members d)
-        ∙ (λ i. flat_map (λ e. flat_map-map (λ a. a.sub.answer.report a.value (down P a.in_schema) (down Q a.in_instance))
+        ∙ (λ i. flat_map (λ e. flat_map-map (finds_it P Q)
         (λ c. report W u c.1 v _ Q) (asked_here e.0) (λ c. refl) (chosen v e) i) (members d))
 
     pub property_dependencies_child : member_child W ms (codes "propertyDependencies", d) property_dependencies u v P Q ≡ plain (P // codes "propertyDependencies") Q
@@ -127,7 +127,7 @@ module _ (W : World) (ms : Members) (d : Data) (u : Bool) (v : Data) where
     property_dependencies_child = ap (λ ts. plain (P // codes "propertyDependencies") Q ts ∷ [])
         (ap (map _) chosen_asked
         ∙ map-flat_map (λ e. map _ _) (λ a. a.sub.answer.tree a.value _ _) (members d)
-        ∙ (λ i. flat_map (λ e. map-map (λ a. a.sub.answer.tree a.value (down P a.in_schema) (down Q a.in_instance)) (λ c. tree W u c.1 v _ Q) (asked_here e.0) (λ c. refl) (chosen v e) i) (members d)))
+        ∙ (λ i. flat_map (λ e. map-map (shows_it P Q) (λ c. tree W u c.1 v _ Q) (asked_here e.0) (λ c. refl) (chosen v e) i) (members d)))
 
 -- ---- what is wrong with it, and the places that it reads
 

@@ -16,6 +16,7 @@ use Rattle.olk_meaning.specs.AdditionalProperties.{rows_at, fused_rows}
 use Rattle.olk_meaning.proofs.Heads.{those_split, those_none, filter_once-same, names_of}
 use Rattle.olk_meaning.proofs.Claims.{members_named, named_once, members_found, past_cases, or_true}
 use Rattle.olk_meaning.proofs.TakenOver.{restricted_fuses_none, fuses_one_name}
+use Rattle.olk_meaning.proofs.Rows.{Rows}
 
 -- the keyword is one that the head of a restriction stands for
 abbrev pub is_below : Planned → Name → Bool
@@ -60,7 +61,7 @@ module _ (ms : Members) (restricted : is_restricted ms ≡ true) where
   pub unfused : is_some plan.fused_pair ≡ false
   unfused = restricted_fuses_none ms restricted
 
-  module _ (es : List (Name × Data)) (d : Data) where
+  module _ (es : Rows) (d : Data) where
     pub claims_no_properties : claims (head (plan_of ms)) es (codes "properties", d) ≡ []
     claims_no_properties =
         filter_once-same (λ (x : Name × Data). bytes_eq (codes "properties") (head plan x.0)) (λ x. false)
@@ -99,7 +100,7 @@ module _ (ms : Members) (restricted : is_restricted ms ≡ true) where
         (one_more (codes "properties") (λ n. bytes_eq (codes "patternProperties") n || fused_here n) (and-false (is_some _))
         (one_more (codes "patternProperties") fused_here (and-false _) (IsPermutation-refl _)))
       where
-        one_more : (k : Name) (test : Name → Bool) {xs : List (Name × Data)} → test k ≡ false → IsPermutation xs (filter_once (λ x. test x.0) (listed ms))
+        one_more : (k : Name) (test : Name → Bool) {xs : Rows} → test k ≡ false → IsPermutation xs (filter_once (λ x. test x.0) (listed ms))
             → IsPermutation (members_named k (listed ms) ++ xs) (filter_once (λ x. bytes_eq k x.0 || test x.0) (listed ms))
         one_more k test {xs} e h =
             IsPermutation-trans _ _ _ (IsPermutation-append _ _ _ _ (IsPermutation-refl _) h)

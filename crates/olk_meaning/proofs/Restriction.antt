@@ -35,6 +35,7 @@ use Rattle.olk_meaning.proofs.Heads.{names_of}
 use Rattle.olk_meaning.proofs.PatternProperties.{pattern_properties_accepts, pattern_properties_report, pattern_properties_asks_beside}
 use Rattle.olk_meaning.proofs.Conditions.{restricted_read}
 use Rattle.olk_meaning.proofs.RestrictedClaims.{claims_restriction}
+use Rattle.olk_meaning.proofs.Rows.{Rows}
 
 -- the rest and three others in the order in which they are wanted
 in_order : (r a b c : Bool) → (r && (a && (b && c))) ≡ ((a && (b && r)) && c)
@@ -51,14 +52,14 @@ found_in_order r o a b c =
 
 module _ (W : World) (ms : Members) (d : Data) (distinct : has_repeat (names_of (listed ms)) ≡ false) (there : lookup_name (codes "additionalProperties") (listed ms) ≡ Some d)
     (restricted : is_restricted ms ≡ true) (u : Bool) (v : Data) where
-  abbrev fs : List (Name × Data)
+  abbrev fs : Rows
   fs = declared_beside ms
 
-  abbrev es : List (Name × Data)
+  abbrev es : Rows
   es = patterns_beside ms
 
   -- what the validator stands for
-  abbrev claimed : List (Name × Data)
+  abbrev claimed : Rows
   claimed = claims (head (plan_of ms)) (listed ms) (codes "additionalProperties", d)
 
   -- ---- the verdict
