@@ -32,7 +32,7 @@ module _ {X Y : Type 0} (h : X → Y) where
 
   sum_of_each : (f : Y → ℕ) (xs : List X) → sum_by f (flat_map (λ x. h x ∷ []) xs) ≡ sum_by (λ x. f (h x)) xs
   sum_of_each f [] = refl
-  sum_of_each f (x ∷ xs) = sum_by-cons f (h x) (flat_map (λ x. h x ∷ []) xs) ∙ ap (λ n. f (h x) + n) (sum_of_each f xs) ∙ sym (sum_by-cons (λ x. f (h x)) x xs)
+  sum_of_each f (x ∷ xs) = sum_by-cons f (h x) (flat_map (λ x. h x ∷ []) xs) ∙ ap (λ n. f (h x) + n) (sum_of_each f xs) ∙ sym (sum_by-cons _ x xs)
 
   found_of_each : (f : Y → List Fault) (xs : List X) → flat_map f (flat_map (λ x. h x ∷ []) xs) ≡ flat_map (λ x. f (h x)) xs
   found_of_each f [] = refl
@@ -112,7 +112,7 @@ module _ (W : World) (ms : Members) (d : Data) (u : Bool) (v : Data) where
       nothing_last _
       ∙ (λ i. sum_by asks_it (asked_by (whole_read to_meaning d i) (additional_read to_meaning ms W u v i)))
       ∙ by d
-      ∙ sym (sum_of_those (λ x. is_other W u fs es x.0) (λ x. asks W u d x.1) (members v))
+      ∙ sym (sum_of_those _ _ (members v))
     where
       nothing : sum_by asks_it (flat_map (λ x. []) others) ≡ sum_by (λ x. 0) others
       nothing = ap (sum_by asks_it) (nothing_of_each others) ∙ sym (sum_of_none others)
@@ -141,9 +141,9 @@ module _ (W : World) (ms : Members) (d : Data) (u : Bool) (v : Data) where
       (λ i. flat_map (finds_it P Q)
       (asked_by (whole_read to_meaning d i) (additional_read to_meaning ms W u v i)) ++ own_others P Q i)
       ∙ ap (λ l. l ++ others_report W u fs es P Q (has_beside ms) d v)
-      (by (is_object d) ∙ flat_map-filter_once (λ x. is_other W u fs es x.0) (λ x. cond (is_object d) (report W u d x.1 _ _) []) (members v))
+      (by (is_object d) ∙ flat_map-filter_once _ _ (members v))
     where
       by : (b : Bool) → flat_map (λ (a : Asked). a.sub.answer.report a.value (down P a.in_schema) (down Q a.in_instance)) (flat_map (λ x. put_if b (asked_of (place to_meaning d) x) []) others)
           ≡ flat_map (λ x. cond b (report W u d x.1 (P // codes "additionalProperties") (Q // x.0)) []) others
       by true = found_of_each _ _ others
-      by false = ap (flat_map (λ (a : Asked). a.sub.answer.report a.value (down P a.in_schema) (down Q a.in_instance))) (nothing_of_each others) ∙ sym (nothing_of_each others)
+      by false = ap (flat_map _) (nothing_of_each others) ∙ sym (nothing_of_each others)

@@ -32,7 +32,7 @@ module _ (W : World) (u : Bool) (v : Data) (none : IsNoObject v) where
   module _ (S : Keywords Meaning) (k : Name) (p : Part Meaning) (good : GoodPart AsksNothing p) where
     applied_nothing : (w : Keyword) → sum_by asks_it (applied W u S k p v w) ≡ 0
     applied_nothing w = nothing_summed asks_it (applied W u S k p v w)
-        (Each-implies (GoodAsked AsksNothing IsNoObject) (λ a. a.sub.answer.asks a.value ≡ 0) (λ a g. g.0 a.value g.1) (applied W u S k p v w)
+        (Each-implies (GoodAsked AsksNothing IsNoObject) _ (λ a g. g.0 a.value g.1) _
         (applied_good AsksNothing IsNoObject W u S k p good v none (fines (members v) (no_members v none)) w))
       where
         fines : (xs : Rows) → xs ≡ [] → Each (λ m. IsNoObject m.1) xs
@@ -61,7 +61,7 @@ module _ (W : World) (u : Bool) (v : Data) (none : IsNoObject v) where
 
 module _ (W : World) (u : Bool) where
   step_asks_nothing : (S : Schema Meaning) → GoodSchema AsksNothing S → (v : Data) → IsNoObject v → (meaning_step W u S).asks v ≡ 0
-  step_asks_nothing (keywords S) g v none = nothing_summed (λ m. keyword_asks W u S m.0 m.1 v (keyword_named W m.0)) S (keywords_nothing W u v none S S g)
+  step_asks_nothing (keywords S) g v none = nothing_summed _ S (keywords_nothing W u v none S S g)
   step_asks_nothing _ g v none = refl
 
   pub asks_nothing : (d v : Data) → is_object v ≡ false → asks W u d v ≡ 0

@@ -65,7 +65,7 @@ module _ (W : World) (u : Bool) (v : Data) where
         (option_to_list (lookup_name m.0 (map (entry to_meaning) es))) ≡ shown_at es m
     unfolding meaning
     entry_shown m [] = refl
-    entry_shown m (e ∷ es) = by (slice_cmp nat_cmp m.0 e.0) (entry_shown m es)
+    entry_shown m (e ∷ es) = by _ (entry_shown m es)
       where
         by : (o : Ordering) → map (λ s. s.answer.tree m.1 (L // m.0) (Q // m.0)) (option_to_list (lookup_name m.0 (map (entry to_meaning) es))) ≡ shown_at es m
             → map (λ s. s.answer.tree m.1 (L // m.0) (Q // m.0)) (option_to_list
@@ -103,14 +103,14 @@ module _ (W : World) (u : Bool) (v : Data) where
     unfolding meaning
     all_branches_shown = ap (λ bs. map (λ b. b.1.answer.tree v (P // k // b.0) Q) (filter_once (λ b. true) bs)) (branch_entries to_meaning ds)
         ∙ ap (map _) (all_those _)
-        ∙ map-map (λ b. b.1.answer.tree v (P // k // b.0) Q) (λ e. tree W u e.1 v (P // k // e.0) Q) (entry to_meaning) (λ e. refl) _
+        ∙ map-map _ _ (entry to_meaning) (λ e. refl) _
 
     pub accepting_branches_shown : map (λ b. b.1.answer.tree v (P // k // b.0) Q) (filter_once (λ b. holds b.1 v) (branches (read to_meaning (array ds)))) ≡ branches_shown
         (P // k) Q (accepting_branches (numbered (items_list ds)))
     unfolding meaning
     accepting_branches_shown = ap (λ bs. map (λ b. b.1.answer.tree v (P // k // b.0) Q) (filter_once (λ b. holds b.1 v) bs)) (branch_entries to_meaning ds)
-        ∙ ap (map (λ b. b.1.answer.tree v (P // k // b.0) Q)) (filter_once-map (λ b. holds b.1 v) (λ e. accepts W u e.1 v) (entry to_meaning) (λ e. refl) (numbered (items_list ds)))
-        ∙ map-map (λ b. b.1.answer.tree v (P // k // b.0) Q) (λ e. tree W u e.1 v (P // k // e.0) Q) (entry to_meaning) (λ e. refl) _
+        ∙ ap (map (λ b. b.1.answer.tree v (P // k // b.0) Q)) (filter_once-map (λ b. holds b.1 v) _ (entry to_meaning) (λ e. refl) (numbered (items_list ds)))
+        ∙ map-map _ _ (entry to_meaning) (λ e. refl) _
 
   module _ (ms : Members) (P Q : Path) where
     pub properties_child : (fs : Members) → lookup_name (codes "properties") (listed ms) ≡ Some (object fs) → restricts (read_members to_meaning ms) ≡ false

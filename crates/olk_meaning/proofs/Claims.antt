@@ -76,7 +76,7 @@ are_fused : (ms : Members) (o : Option (Name × Name)) → Distinct (listed ms) 
 are_fused ms None h e = tt
 are_fused ms (Some t) h e =
     let es = listed ms in
-    let w = where_few _ _ (allows_others (lookup_name (codes "additionalProperties") es)) (two_names (lookup_name (codes "required") es)) t (sym e) in
+    let w = where_few _ _ _ _ t (sym e) in
     let d = declared_value _ w.0 in
     let r = listed_names _ t w.1 in
     record {
@@ -115,12 +115,16 @@ past_cases true k n h = by (is_case n) refl
 
 -- ---- what a validator stands for by the object's plan
 
+-- the head of a name that is not taken over: whether it is fused, whether `if` is read, and whether the name is a case of it
+abbrev head_where : Bool → Bool → Bool → Name → Name
+head_where fused condition case n = cond fused (codes "properties") (cond (condition && case) (codes "if") n)
+
 -- a keyword that no other stands for is its own head, and that of no other
 pub head_itself : (p : Planned) (k : Name) → (is_some p.fused_pair ≡ true → (bytes_eq (codes "properties") k ≡ false) × (bytes_eq (codes "required") k ≡ false))
     → IsNoCase p.condition k → IsNotTaken p k → (n : Name) → bytes_eq k (head p n) ≡ bytes_eq k n
 head_itself p k apart h free n = past_taken p k n _ free (by (is_some p.fused_pair) _ refl refl)
   where
-    by : (a b : Bool) → is_some p.fused_pair ≡ a → bytes_eq (codes "required") n ≡ b → bytes_eq k (cond (a && b) (codes "properties") (cond (p.condition && is_case n) (codes "if") n)) ≡ bytes_eq k n
+    by : (a b : Bool) → is_some p.fused_pair ≡ a → bytes_eq (codes "required") n ≡ b → bytes_eq k (head_where (a && b) p.condition (is_case n) n) ≡ bytes_eq k n
     by true true f q = bytes_eq-sym k _ ∙ (apart f).0 ∙ sym (apart f).1 ∙ bytes_eq-sym (codes "required") k ∙ ap (bytes_eq k) (same_name _ n q)
     by _ _ f q = past_cases p.condition k n h
 
@@ -147,16 +151,16 @@ or_true false = refl
 
 -- `properties` that fuses is the head of both, and `required` of none
 head_of_both : (t : Name × Name) (c : Bool) (n : Name) → bytes_eq (codes "properties") (head (fusing t c) n) ≡ (bytes_eq (codes "properties") n || bytes_eq (codes "required") n)
-head_of_both t c n = by (bytes_eq (codes "required") n)
+head_of_both t c n = by _
   where
-    by : (b : Bool) → bytes_eq (codes "properties") (cond b (codes "properties") (cond (c && is_case n) (codes "if") n)) ≡ (bytes_eq (codes "properties") n || b)
+    by : (b : Bool) → bytes_eq (codes "properties") (head_where b c (is_case n) n) ≡ (bytes_eq (codes "properties") n || b)
     by true = or_true _
     by false = past_cases c (codes "properties") n (λ e. (refl, refl)) ∙ sym (or-false _)
 
 head_of_none : (t : Name × Name) (c : Bool) (n : Name) → bytes_eq (codes "required") (head (fusing t c) n) ≡ false
-head_of_none t c n = by (bytes_eq (codes "required") n) refl
+head_of_none t c n = by _ refl
   where
-    by : (b : Bool) → bytes_eq (codes "required") n ≡ b → bytes_eq (codes "required") (cond b (codes "properties") (cond (c && is_case n) (codes "if") n)) ≡ false
+    by : (b : Bool) → bytes_eq (codes "required") n ≡ b → bytes_eq (codes "required") (head_where b c (is_case n) n) ≡ false
     by true q = refl
     by false q = past_cases c (codes "required") n (λ e. (refl, refl)) ∙ q
 
@@ -174,7 +178,7 @@ head_of_if p e n = over _ refl
     beside true = or_true _
     beside false = sym (or-false _)
 
-    by : (a b : Bool) → bytes_eq (codes "required") n ≡ b → bytes_eq (codes "if") (cond (a && b) (codes "properties") (cond (is_case n) (codes "if") n)) ≡ (bytes_eq (codes "if") n || is_case n)
+    by : (a b : Bool) → bytes_eq (codes "required") n ≡ b → bytes_eq (codes "if") (head_where (a && b) true (is_case n) n) ≡ (bytes_eq (codes "if") n || is_case n)
     by true true q = ap (λ x. bytes_eq (codes "if") x || is_case x) (same_name (codes "required") n q)
     by _ _ q = beside _
 
@@ -184,16 +188,16 @@ head_of_if p e n = over _ refl
     taken (inr (inr q)) = ap (λ x. bytes_eq (codes "if") x || is_case x) (sym q)
 
     over : (b : Bool) → is_taken_over p n ≡ b → bytes_eq (codes "if") (cond b (codes "additionalProperties")
-        (cond (is_some p.fused_pair && bytes_eq (codes "required") n) (codes "properties") (cond (p.condition && is_case n) (codes "if") n))) ≡ (bytes_eq (codes "if") n || is_case n)
+        (head_where (is_some p.fused_pair && bytes_eq (codes "required") n) p.condition (is_case n) n)) ≡ (bytes_eq (codes "if") n || is_case n)
     over true q = taken (taken_named p n q)
     over false q =
-        ap (λ c. bytes_eq (codes "if") (cond (is_some p.fused_pair && bytes_eq (codes "required") n) (codes "properties") (cond (c && is_case n) (codes "if") n))) e
+        ap (λ c. bytes_eq (codes "if") (head_where (is_some p.fused_pair && bytes_eq (codes "required") n) c (is_case n) n)) e
         ∙ by (is_some p.fused_pair) _ refl
 
 case_heads_none : (p : Planned) → p.condition ≡ true → (k : Name) → is_case k ≡ true → (n : Name) → bytes_eq k (head p n) ≡ false
 case_heads_none p e k h n =
     ap (λ c. bytes_eq k (cond (is_taken_over p n) (codes "additionalProperties")
-    (cond (is_some p.fused_pair && bytes_eq (codes "required") n) (codes "properties") (cond (c && is_case n) (codes "if") n)))) e ∙ over (is_taken_over p n)
+    (head_where (is_some p.fused_pair && bytes_eq (codes "required") n) c (is_case n) n))) e ∙ over (is_taken_over p n)
   where
     no_other : (x : Name) → is_case x ≡ false → bytes_eq k x ≡ false
     no_other x f = bytes_eq-sym k x ∙ cases_apart x k h f
@@ -203,16 +207,16 @@ case_heads_none p e k h n =
     by false true q = no_other _ refl
     by false false q = no_other n q
 
-    over : (t : Bool) → bytes_eq k (cond t (codes "additionalProperties") (cond (is_some p.fused_pair && bytes_eq (codes "required") n) (codes "properties") (cond (is_case n) (codes "if") n))) ≡ false
+    over : (t : Bool) → bytes_eq k (cond t (codes "additionalProperties") (head_where (is_some p.fused_pair && bytes_eq (codes "required") n) true (is_case n) n)) ≡ false
     over true = no_other _ refl
-    over false = by (is_some p.fused_pair && bytes_eq (codes "required") n) _ refl
+    over false = by _ _ refl
 
 pub claims_no_case : (p : Planned) → p.condition ≡ true → (es : Rows) (m : Name × Data) → is_case m.0 ≡ true → claims (head p) es m ≡ []
 claims_no_case p e es m h = filter_once-same _ (λ x. false) (λ x. case_heads_none p e m.0 h x.0) es ∙ those_none es
 
 -- `if` is there where it is read
 condition_there : (ms : Members) → is_condition ms ≡ true → (d : Data) × (lookup_name (codes "if") (listed ms) ≡ Some d)
-condition_there ms e = by (lookup_name (codes "if") (listed ms)) refl e
+condition_there ms e = by _ refl e
   where
     by : (o : Option Data) → lookup_name (codes "if") (listed ms) ≡ o →
         (is_some o && (is_some (lookup_name (codes "then") (listed ms)) || is_some (lookup_name (codes "else") (listed ms)))) ≡ true → (d : Data) × (lookup_name (codes "if") (listed ms) ≡ Some d)
@@ -223,15 +227,15 @@ module _ (ms : Members) (distinct : has_repeat (names_of (listed ms)) ≡ false)
   -- a keyword that is its own head and that of no other claims its own member
   pub claims_itself : (heads : Name → Name) (m : Name × Data) → ((n : Name) → bytes_eq m.0 (heads n) ≡ bytes_eq m.0 n) → lookup_name m.0 (listed ms) ≡ Some m.1 → claims heads (listed ms) m ≡ m ∷ []
   claims_itself heads m same there =
-      filter_once-same (λ (x : Name × Data). bytes_eq m.0 _) (λ x. bytes_eq m.0 x.0) (λ x. same x.0) (listed ms) ∙ named_once m.0 m.1 _ (Distinct-from _ distinct) there
+      filter_once-same _ _ (λ x. same x.0) (listed ms) ∙ named_once m.0 m.1 _ (Distinct-from _ distinct) there
 
   pub claims_both : (t : Name × Name) (c : Bool) (d : Data) → lookup_name (codes "properties") (listed ms) ≡ Some d → Some t ≡ fused_pair ms
       → IsPermutation ((codes "properties", d) ∷ (codes "required", listing t) ∷ []) (claims (head (fusing t c)) (listed ms) (codes "properties", d))
   claims_both t c d there e = subst₂ IsPermutation
       (λ i. named_once (codes "properties") d (listed ms) (Distinct-from _ distinct) there i ++ (fuses ms distinct t e).required i)
-      (filter_once-same (λ (x : Name × Data). bytes_eq (codes "properties") x.0 || bytes_eq (codes "required") x.0) (λ x. bytes_eq (codes "properties") (head (fusing t c) x.0))
+      (filter_once-same _ _
       (λ x. sym (head_of_both t c x.0)) (listed ms))
-      (those_split (λ x. bytes_eq (codes "properties") x.0) (λ x. bytes_eq (codes "required") x.0) (λ x. names_differ x.0) (listed ms))
+      (those_split _ _ (λ x. names_differ x.0) (listed ms))
 
   -- `if` that is read stands for itself, `then` and `else`
   pub claims_condition : (p : Planned) → p.condition ≡ true → (d : Data) → lookup_name (codes "if") (listed ms) ≡ Some d
@@ -241,7 +245,7 @@ module _ (ms : Members) (distinct : has_repeat (names_of (listed ms)) ≡ false)
       (filter_once-same (λ (x : Name × Data). bytes_eq (codes "if") x.0 || is_case x.0) (λ x. bytes_eq (codes "if") (head p x.0)) (λ x. sym (head_of_if p e x.0)) (listed ms))
       (IsPermutation-trans _ _ _
       (IsPermutation-append _ _ _ _ (IsPermutation-refl _) cases)
-      (those_split (λ x. bytes_eq (codes "if") x.0) (λ x. is_case x.0) (λ x q. ap is_case (sym (same_name (codes "if") x.0 q))) (listed ms)))
+      (those_split _ _ (λ x q. ap is_case (sym (same_name (codes "if") x.0 q))) (listed ms)))
     where
       cases : IsPermutation (members_named (codes "then") (listed ms) ++ members_named (codes "else") (listed ms)) (filter_once (λ x. is_case x.0) (listed ms))
       cases = subst (λ l. IsPermutation (members_named (codes "then") (listed ms) ++ members_named (codes "else") (listed ms)) l)
@@ -261,11 +265,11 @@ module _ (ms : Members) (distinct : has_repeat (names_of (listed ms)) ≡ false)
       past _ f _ = there_itself
 
       by : (o : Option (Name × Name)) → o ≡ fused_pair ms → (b c : Bool) → c ≡ is_condition ms → (k : Bool)
-          → is_among (cond (is_some o && b) (codes "properties") (cond (c && k) (codes "if") x.0)) (names_of (listed ms)) ≡ true
+          → is_among (head_where (is_some o && b) c k x.0) (names_of (listed ms)) ≡ true
       by (Some t) f true c g k = lookup_among (codes "properties") (fuses ms distinct t f).value (listed ms) (fuses ms distinct t f).declared
       by _ f _ c g k = past c g k
 
-      not_taken : is_among (cond (is_some p.fused_pair && bytes_eq (codes "required") x.0) (codes "properties") (cond (p.condition && is_case x.0) (codes "if") x.0)) (names_of (listed ms)) ≡ true
+      not_taken : is_among (head_where (is_some p.fused_pair && bytes_eq (codes "required") x.0) p.condition (is_case x.0) x.0) (names_of (listed ms)) ≡ true
       not_taken = by p.fused_pair (ap (λ q. q.fused_pair) e) _ (p.condition) (ap (λ q. q.condition) e) _
 
       at_restriction : is_restricted ms ≡ true → is_among (codes "additionalProperties") (names_of (listed ms)) ≡ true
@@ -273,7 +277,7 @@ module _ (ms : Members) (distinct : has_repeat (names_of (listed ms)) ≡ false)
 
       over : (r : Bool) → r ≡ is_restricted ms → (o : Option Name) → o ≡ fused_one ms → (a b : Bool)
           → is_among (cond ((r && a) || (is_some o && b)) (codes "additionalProperties")
-          (cond (is_some p.fused_pair && bytes_eq (codes "required") x.0) (codes "properties") (cond (p.condition && is_case x.0) (codes "if") x.0))) (names_of (listed ms)) ≡ true
+          (head_where (is_some p.fused_pair && bytes_eq (codes "required") x.0) p.condition (is_case x.0) x.0)) (names_of (listed ms)) ≡ true
       over true f o g true b = at_restriction (sym f)
       over true f (Some n) g false true = at_restriction (sym f)
       over false f (Some n) g a true = at_restriction (fused_is_restricted ms n (sym g))

@@ -61,7 +61,7 @@ are_two_names L (Some d) h = absurd (true≢false (sym (ap is_empty h)))
 
 module _ {X : Type 0} (step : Schema X → X) where
   entry_count : (fs : Members) → length (flat_map (λ d. map (entry step) (members d)) (object fs ∷ [])) ≡ length (listed fs)
-  entry_count fs = ap length (append-nil (map (entry step) (listed fs))) ∙ length-map (listed fs) (entry step)
+  entry_count fs = ap length (append-nil _) ∙ length-map (listed fs) (entry step)
 
   -- t is what stands at `patternProperties`, and c says whether other members are free
   are_fused_names : (L : Path) (p r t : Option Data) (c : Bool) → IsObject p → ListsTexts L r
@@ -69,7 +69,7 @@ module _ {X : Type 0} (step : Schema X → X) where
       && are_two (flat_map texts (option_to_list r))) ≡ is_some (cond (declares_few p && is_none t && c) (two_names r) None)
   are_fused_names L None r t c h k = refl
   are_fused_names L (Some (object fs)) r None true h k =
-      ap (λ n. nat_lt n HASHMAP_THRESHOLD && are_two (flat_map texts (option_to_list r))) (entry_count fs) ∙ by (nat_lt (length _) HASHMAP_THRESHOLD)
+      ap (λ n. nat_lt n HASHMAP_THRESHOLD && are_two (flat_map texts (option_to_list r))) (entry_count fs) ∙ by _
     where
       by : (b : Bool) → (b && are_two (flat_map texts (option_to_list r))) ≡ is_some (cond (b && true && true) (two_names r) None)
       by true = are_two_names L r k
@@ -96,8 +96,8 @@ module _ (W : World) (ms : Members) (P : Path) where
       → lookup_name k es ≡ Some d → member_malformations W ms (k, d) (keyword_named W k) P ≡ []
   clean_among [] e k d f = absurd (true≢false (sym (ap is_some f)))
   clean_among (m ∷ es) e k d f =
-      let h = nothing_in (member_malformations W ms m (keyword_named W m.0) P) (flat_map (λ x. member_malformations W ms x (keyword_named W x.0) P) es) e in
-      by (slice_cmp nat_cmp k m.0) (is_eq-slice_cmp k m.0) f h.0 (clean_among es h.1 k d)
+      let h = nothing_in _ _ e in
+      by _ (is_eq-slice_cmp k m.0) f h.0 (clean_among es h.1 k d)
     where
       by : (o : Ordering) → is_eq o ≡ bytes_eq k m.0 → first_if_equal o m.1 (lookup_name k es) ≡ Some d → member_malformations W ms m (keyword_named W m.0) P ≡ []
           → (lookup_name k es ≡ Some d → member_malformations W ms (k, d) (keyword_named W k) P ≡ []) → member_malformations W ms (k, d) (keyword_named W k) P ≡ []

@@ -178,10 +178,10 @@ module _ (W : World) (ms : Members) (u : Bool) (v : Data) where
       found_where false k P Q = refl
 
       pub then_accepts_beside : member_accepts W ms (codes "then", e) then_keyword u v ≡ cond (accepts W u d v) (accepts W u e v) true
-      then_accepts_beside = ap (λ b. list_all accepts_it (asked_where b (codes "then")) && true) if_holds ∙ accepted_where (accepts W u d v) (codes "then")
+      then_accepts_beside = ap (λ b. list_all accepts_it (asked_where b (codes "then")) && true) if_holds ∙ accepted_where _ (codes "then")
 
       pub then_asks_beside : member_asks W ms (codes "then", e) then_keyword u v ≡ cond (accepts W u d v) (asks W u e v) 0
-      then_asks_beside = ap (λ b. sum_by asks_it (asked_where b (codes "then")) + 0) if_holds ∙ asks_where (accepts W u d v) (codes "then")
+      then_asks_beside = ap (λ b. sum_by asks_it (asked_where b (codes "then")) + 0) if_holds ∙ asks_where _ (codes "then")
 
       pub then_report_beside : (P Q : Path) → member_report W ms (codes "then", e) then_keyword u v P Q ≡ cond (accepts W u d v) (report W u e v (P // codes "then") Q) []
       then_report_beside P Q =
@@ -203,7 +203,7 @@ module _ (W : World) (ms : Members) (u : Bool) (v : Data) where
   case_read : (d : Data) (b : Bool) (k : Name) (P Q : Path) → case_trees W u neighbours v P Q (codes "if") (read to_meaning d) b k ≡ case_shown W u v b (P // k) Q (lookup_name k (listed ms))
   unfolding meaning
   case_read d b k P Q =
-      ap (flat_map (λ s. put_if b (s.answer.tree v _ Q) [])) (wholes_at_read to_meaning ms k ∙ ap (λ o. map (place to_meaning) (option_to_list o))
+      ap (flat_map (λ s. put_if b _ [])) (wholes_at_read to_meaning ms k ∙ ap (λ o. map (place to_meaning) (option_to_list o))
       (sym (lookup_listed k ms))) ∙ by (lookup_name k (listed ms))
     where
       by : (o : Option Data) → flat_map (λ s. put_if b (s.answer.tree v (P // k) Q) []) (map (place to_meaning) (option_to_list o)) ≡ case_shown W u v b (P // k) Q o

@@ -47,7 +47,7 @@ module _ (heads : Name → Name) where
       let h = neither (is_among m.0 (names_of hs)) (has_repeat (names_of hs)) d in
       subst (λ l. IsPermutation (l ++ flat_map (claims heads es) hs) (filter_once (λ x. bytes_eq (heads x.0) m.0 || is_among (heads x.0) (names_of hs)) es))
       (filter_once-same (λ (x : Name × Data). bytes_eq (heads x.0) m.0) (λ x. bytes_eq m.0 (heads x.0)) (λ x. bytes_eq-sym (heads x.0) m.0) es)
-      (IsPermutation-trans _ _ _ (IsPermutation-append _ _ _ _ (IsPermutation-refl (filter_once (λ x. bytes_eq (heads x.0) m.0) es)) (grouped es hs h.1))
+      (IsPermutation-trans _ _ _ (IsPermutation-append _ _ _ _ (IsPermutation-refl _) (grouped es hs h.1))
       (those_split (λ x. bytes_eq (heads x.0) m.0) (λ x. is_among (heads x.0) (names_of hs))
       (λ x e. ap (λ k. is_among k (names_of hs)) (same_name (heads x.0) m.0 e) ∙ h.0) es))
 

@@ -32,7 +32,7 @@ none_named k (m ∷ es) h = ap (λ b. put_if b m (members_named k es)) h.0 ∙ n
 -- the member that a look-up finds is the only one of its name
 pub named_once : (k : Name) (d : Data) (es : Rows) → Distinct es → lookup_name k es ≡ Some d → members_named k es ≡ (k, d) ∷ []
 named_once k d [] h e = absurd (true≢false (sym (ap is_some e)))
-named_once k d (m ∷ es) h e = by (slice_cmp nat_cmp k m.0) (is_eq-slice_cmp k m.0) e (named_once k d es h.1)
+named_once k d (m ∷ es) h e = by _ (is_eq-slice_cmp k m.0) e (named_once k d es h.1)
   where
     by : (o : Ordering) → is_eq o ≡ bytes_eq k m.0 → first_if_equal o m.1 (lookup_name k es) ≡ Some d → (lookup_name k es ≡ Some d → members_named k es ≡ (k, d) ∷ [])
         → members_named k (m ∷ es) ≡ (k, d) ∷ []
@@ -52,7 +52,7 @@ module _ (ms : Members) (distinct : has_repeat (names_of (listed ms)) ≡ false)
     where
       none_found : (es : Rows) → lookup_name k es ≡ None → members_named k es ≡ []
       none_found [] e = refl
-      none_found (m ∷ es) e = by (slice_cmp nat_cmp k m.0) (is_eq-slice_cmp k m.0) e (none_found es)
+      none_found (m ∷ es) e = by _ (is_eq-slice_cmp k m.0) e (none_found es)
         where
           by : (o : Ordering) → is_eq o ≡ bytes_eq k m.0 → first_if_equal o m.1 (lookup_name k es) ≡ None → (lookup_name k es ≡ None → members_named k es ≡ []) → members_named k (m ∷ es) ≡ []
           by Less q f g = ap (λ b. put_if b m (members_named k es)) (sym q) ∙ g f
@@ -62,7 +62,7 @@ module _ (ms : Members) (distinct : has_repeat (names_of (listed ms)) ≡ false)
 -- a member that is found is there
 pub lookup_among : (k : Name) (d : Data) (es : Rows) → lookup_name k es ≡ Some d → is_among k (names_of es) ≡ true
 lookup_among k d [] e = absurd (true≢false (sym (ap is_some e)))
-lookup_among k d (m ∷ es) e = by (slice_cmp nat_cmp k m.0) (is_eq-slice_cmp k m.0) e (lookup_among k d es)
+lookup_among k d (m ∷ es) e = by _ (is_eq-slice_cmp k m.0) e (lookup_among k d es)
   where
     by : (o : Ordering) → is_eq o ≡ bytes_eq k m.0 → first_if_equal o m.1 (lookup_name k es) ≡ Some d → (lookup_name k es ≡ Some d → is_among k (names_of es) ≡ true)
         → is_among k (names_of (m ∷ es)) ≡ true
@@ -111,4 +111,4 @@ present_each es done m rest e = ap (λ l. is_some (lookup_name m.0 l)) (sym e) �
 
     along : (done : Rows) → is_some (lookup_name m.0 (done ++ m ∷ rest)) ≡ true
     along [] = found (slice_cmp nat_cmp m.0 m.0) m.1 _ (is_eq-slice_cmp m.0 m.0 ∙ bytes_eq-itself m.0)
-    along (x ∷ done) = past (slice_cmp nat_cmp m.0 x.0) x.1 _ (along done)
+    along (x ∷ done) = past _ x.1 _ (along done)

@@ -56,7 +56,7 @@ module _ (W : World) (u : Bool) (step : Schema Meaning → Meaning) (k : Name) (
   at_matched_ask (e ∷ es) =
       sum_by-append asks_it (asked_in (entry step e)) (at_matched es)
       ∙ (λ i. sum_by_under (asked_of (entry step e)) asks_it (matched_members W u e.0 v) i + at_matched_ask es i)
-      ∙ sym (sum_by-cons (λ e. sum_by (λ x. (answer_for step e.1).asks x.1) (matched_members W u e.0 v)) e es)
+      ∙ sym (sum_by-cons _ e es)
 
   module _ (P Q : Path) where
     found_in : (e : Name × Data) (xs : Rows) → flat_map (finds_it P Q)
@@ -76,7 +76,7 @@ module _ (W : World) (u : Bool) (step : Schema Meaning → Meaning) (k : Name) (
     at_matched_show [] = refl
     at_matched_show (e ∷ es) =
         map-append (shows_it P Q) (asked_in (entry step e)) (at_matched es)
-        ∙ (λ i. map-map (shows_it P Q) (λ x. (answer_for step e.1).tree x.1 (P // k // e.0) (Q // x.0))
+        ∙ (λ i. map-map (shows_it P Q) _
         (asked_of (entry step e)) (λ x. refl) (matched_members W u e.0 v) i ++ at_matched_show es i)
 
   named_by_entries : (es : Rows) → flat_map (λ e. map (λ x. x.0) (matched_members W u e.0 v)) (map (entry step) es) ≡ flat_map (λ e. map (λ x. x.0) (matched_members W u e.0 v)) es
@@ -91,7 +91,7 @@ other_way a b = omega arith
 module _ (W : World) where
   open_counted : {X : Type 0} (es : List (Name × X)) → length (filter_once (is_open W) (map (λ e. e.0) es)) ≡ sum_by (λ e. pattern_asks W e.0) es
   open_counted [] = refl
-  open_counted {X} (e ∷ es) = by (is_open W e.0) ∙ ap (λ n. pattern_asks W e.0 + n) (open_counted es) ∙ sym (sum_by-cons (λ (e : Name × X). pattern_asks W e.0) e es)
+  open_counted {X} (e ∷ es) = by (is_open W e.0) ∙ ap (λ n. pattern_asks W e.0 + n) (open_counted es) ∙ sym (sum_by-cons _ e es)
     where
       by : (b : Bool) → length (put_if b e.0 (filter_once (is_open W) (map (λ e. e.0) es))) ≡ cond b 1 0 + length (filter_once (is_open W) (map (λ e. e.0) es))
       by true = omega arith
@@ -110,12 +110,15 @@ module _ (W : World) (ms : Members) (d : Data) (u : Bool) (v : Data) where
   abbrev to_meaning : Schema Meaning → Meaning
   to_meaning = meaning_step W u
 
+  abbrev asked_by : List (Name × Subschema) → List Asked
+  asked_by es = flat_map (asked_in W u to_meaning (codes "patternProperties") v) es
+
   pub pattern_properties_accepts : member_accepts W ms (codes "patternProperties", d) pattern_properties u v ≡ list_all
       (λ e. list_all (λ x. accepts W u e.1 x.1) (matched_members W u e.0 v)) (members d)
   unfolding meaning
   pattern_properties_accepts =
       and-true _
-      ∙ ap (λ es. list_all accepts_it (flat_map (asked_in W u to_meaning (codes "patternProperties") v) es)) (entries_read to_meaning d)
+      ∙ ap (λ es. list_all accepts_it (asked_by es)) (entries_read to_meaning d)
       ∙ at_matched_accept W u to_meaning (codes "patternProperties") v _
 
   pub pattern_properties_report : (P Q : Path) → member_report W ms (codes "patternProperties", d) pattern_properties u v P Q ≡ flat_map
@@ -123,7 +126,7 @@ module _ (W : World) (ms : Members) (d : Data) (u : Bool) (v : Data) where
   unfolding meaning
   pattern_properties_report P Q =
       append-nil _
-      ∙ ap (λ es. flat_map (finds_it P Q) (flat_map (asked_in W u to_meaning (codes "patternProperties") v) es))
+      ∙ ap (λ es. flat_map (finds_it P Q) (asked_by es))
       (entries_read to_meaning d)
       ∙ at_matched_find W u to_meaning (codes "patternProperties") v P Q _
 
@@ -140,14 +143,14 @@ module _ (W : World) (ms : Members) (d : Data) (u : Bool) (v : Data) where
     asked_together : (e : Name × Data) → sum_by (λ x. pattern_asks W e.0 + cond (matches W u e.0 x.0) (asks W u e.1 x.1) 0) (members v) ≡ sum_by
         (λ x. pattern_asks W e.0) (members v) + sum_by (λ x. asks W u e.1 x.1) (matched_members W u e.0 v)
     asked_together e = sum_of_both (λ x. pattern_asks W e.0) (λ x. cond (matches W u e.0 x.0) (asks W u e.1 x.1) 0) (members v)
-        ∙ ap (λ n. sum_by (λ x. pattern_asks W e.0) (members v) + n) (sum_of_those (λ x. matches W u e.0 x.0) (λ x. asks W u e.1 x.1) (members v))
+        ∙ ap (λ n. sum_by (λ x. pattern_asks W e.0) (members v) + n) (sum_of_those _ _ (members v))
 
     -- each matcher is asked each member's name, and where the pattern matches, its schema is asked
     pub pattern_properties_asks : member_asks W ms (codes "patternProperties", d) pattern_properties u v ≡ sum_by
         (λ e. sum_by (λ x. pattern_asks W e.0 + cond (matches W u e.0 x.0) (asks W u e.1 x.1) 0) (members v)) (members d)
     unfolding meaning
     pattern_properties_asks =
-        (λ i. sum_by asks_it (flat_map (asked_in W u to_meaning (codes "patternProperties") v) (entries_read to_meaning d i)) + own_asked i)
+        (λ i. sum_by asks_it (asked_by (entries_read to_meaning d i)) + own_asked i)
         ∙ ap (λ n. n + sum_by (λ e. sum_by (λ x. pattern_asks W e.0) (members v)) (members d)) (at_matched_ask W u to_meaning (codes "patternProperties") v (members d))
         ∙ other_way (sum_by (λ e. sum_by (λ x. asks W u e.1 x.1) (matched_members W u e.0 v)) (members d)) (sum_by (λ e. sum_by (λ x. pattern_asks W e.0) (members v)) (members d))
         ∙ sym (sum_of_both (λ e. sum_by (λ x. pattern_asks W e.0) (members v)) (λ e. sum_by (λ x. asks W u e.1 x.1) (matched_members W u e.0 v)) (members d))
@@ -163,14 +166,14 @@ module _ (W : World) (ms : Members) (d : Data) (u : Bool) (v : Data) where
         names : flat_map (λ e. map (λ m. m.0) (filter_once (λ m. matches W u e.0 m.0) (members v))) (read to_meaning d).entries ≡ flat_map
             (λ e. map (λ x. x.0) (matched_members W u e.0 v)) (members d)
         names =
-            ap (flat_map (λ (e : Name × Subschema). map (λ x. x.0) (matched_members W u e.0 v))) (entries_read to_meaning d)
+            ap (flat_map _) (entries_read to_meaning d)
             ∙ named_by_entries W u to_meaning (codes "patternProperties") v (members d)
 
         trees : map (shows_it P Q)
-            (flat_map (asked_in W u to_meaning (codes "patternProperties") v) (read to_meaning d).entries) ≡ flat_map
+            (asked_by (read to_meaning d).entries) ≡ flat_map
             (λ e. map (λ x. tree W u e.1 x.1 (P // codes "patternProperties" // e.0) (Q // x.0)) (matched_members W u e.0 v)) (members d)
         trees =
-            ap (λ es. map (shows_it P Q) (flat_map (asked_in W u to_meaning (codes "patternProperties") v) es))
+            ap (λ es. map (shows_it P Q) (asked_by es))
             (entries_read to_meaning d) ∙ at_matched_show W u to_meaning (codes "patternProperties") v P Q (members d)
 
   -- ---- where `additionalProperties` stands for it
@@ -187,7 +190,7 @@ module _ (W : World) (ms : Members) (d : Data) (u : Bool) (v : Data) where
         (λ x. matching_asks W u (declared_beside ms) (members d) x + patterns_asked W (declared_beside ms) (members d) x.0) (members v)
     unfolding meaning
     pattern_properties_asks_beside =
-        (λ i. sum_by asks_it (flat_map (asked_in W u to_meaning (codes "patternProperties") v) (entries_read to_meaning d i)) + table_asked i)
+        (λ i. sum_by asks_it (asked_by (entries_read to_meaning d i)) + table_asked i)
         ∙ ap (λ n. n + sum_by (λ x. patterns_asked W (declared_beside ms) (members d) x.0) (members v))
         (at_matched_ask W u to_meaning (codes "patternProperties") v (members d)
         ∙ sum_by-exchanged (λ e x. matches W u e.0 x.0) (λ e x. asks W u e.1 x.1) (members d) (members v))

@@ -64,22 +64,22 @@ module _ (ms : Members) (restricted : is_restricted ms ≡ true) where
   module _ (es : Rows) (d : Data) where
     pub claims_no_properties : claims (head (plan_of ms)) es (codes "properties", d) ≡ []
     claims_no_properties =
-        filter_once-same (λ (x : Name × Data). bytes_eq (codes "properties") (head plan x.0)) (λ x. false)
+        filter_once-same _ (λ x. false)
         (λ x. taken_heads_none plan restricted unfused (codes "properties") (ap (λ b. (b && true) || (is_some plan.fused_one && false)) restricted) refl refl refl x.0) es ∙ those_none es
 
     pub claims_no_patterns : claims (head (plan_of ms)) es (codes "patternProperties", d) ≡ []
     claims_no_patterns =
-        filter_once-same (λ (x : Name × Data). bytes_eq (codes "patternProperties") (head plan x.0)) (λ x. false)
+        filter_once-same _ (λ x. false)
         (λ x. taken_heads_none plan restricted unfused (codes "patternProperties") (ap (λ b. (b && true) || (is_some plan.fused_one && false)) restricted) refl refl refl x.0) es ∙ those_none es
 
     pub claims_no_fused : is_some (fused_one ms) ≡ true → claims (head (plan_of ms)) es (codes "required", d) ≡ []
     claims_no_fused f =
-        filter_once-same (λ (x : Name × Data). bytes_eq (codes "required") (head plan x.0)) (λ x. false)
+        filter_once-same _ (λ x. false)
         (λ x. taken_heads_none plan restricted unfused (codes "required") (λ i. (restricted i && false) || (f i && true)) refl refl refl x.0) es ∙ those_none es
 
   module _ (distinct : has_repeat (names_of (listed ms)) ≡ false) where
     rows_found : (k : Name) → members_named k (listed ms) ≡ rows_at k ms
-    rows_found k = members_found ms distinct k (lookup_name k (listed ms)) refl
+    rows_found k = members_found ms distinct k _ refl
 
     -- `required` of one name that is fused
     fused_found : (o : Option Name) → fused_one ms ≡ o → filter_once (λ x. is_some o && bytes_eq (codes "required") x.0) (listed ms) ≡ map
@@ -96,8 +96,8 @@ module _ (ms : Members) (restricted : is_restricted ms ≡ true) where
     tested : IsPermutation (members_named (codes "additionalProperties") (listed ms)
         ++ (members_named (codes "properties") (listed ms) ++ (members_named (codes "patternProperties") (listed ms) ++ filter_once (λ x. fused_here x.0) (listed ms))))
         (filter_once (λ x. is_below plan x.0) (listed ms))
-    tested = one_more (codes "additionalProperties") (λ n. bytes_eq (codes "properties") n || (bytes_eq (codes "patternProperties") n || fused_here n)) (and-false (is_some _))
-        (one_more (codes "properties") (λ n. bytes_eq (codes "patternProperties") n || fused_here n) (and-false (is_some _))
+    tested = one_more (codes "additionalProperties") _ (and-false (is_some _))
+        (one_more (codes "properties") _ (and-false (is_some _))
         (one_more (codes "patternProperties") fused_here (and-false _) (IsPermutation-refl _)))
       where
         one_more : (k : Name) (test : Name → Bool) {xs : Rows} → test k ≡ false → IsPermutation xs (filter_once (λ x. test x.0) (listed ms))
@@ -113,6 +113,6 @@ module _ (ms : Members) (restricted : is_restricted ms ≡ true) where
     claims_restriction d there = subst₂ IsPermutation
         (λ i. named_once (codes "additionalProperties") d (listed ms) (Distinct-from _ distinct) there i
         ++ (rows_found (codes "properties") i ++ (rows_found (codes "patternProperties") i ++ fused_found _ refl i)))
-        (filter_once-same (λ (x : Name × Data). is_below plan x.0) (λ x. bytes_eq (codes "additionalProperties") (head plan x.0))
+        (filter_once-same _ _
         (λ x. sym (head_of_restriction plan restricted unfused x.0)) (listed ms))
         tested

@@ -63,8 +63,8 @@ module _ (W : World) (ms : Members) (u : Bool) (v : Data) (P Q : Path) where
 
   pattern_trees_read : (x : Name × Data) → pattern_trees W u S v P Q x ≡ matching_shown W u fs es P Q x
   unfolding meaning
-  pattern_trees_read x = ap (map (λ (e : Name × Subschema). e.1.answer.tree x.1 _ _)) (matching_read to_meaning ms W u x.0)
-      ∙ map-map (λ e. e.1.answer.tree x.1 (P // codes "patternProperties" // e.0) (Q // x.0)) (λ e. tree W u e.1 x.1 _ _)
+  pattern_trees_read x = ap (map _) (matching_read to_meaning ms W u x.0)
+      ∙ map-map _ _
       (entry to_meaning) (λ e. refl) _
 
   other_names_read : additional_names W u S v P Q ≡ other_names W u fs es v
@@ -77,8 +77,8 @@ module _ (W : World) (ms : Members) (u : Bool) (v : Data) (P Q : Path) where
 
   -- a member is among the others if it is one
   others_there : Each (λ x. is_among x.0 (other_names W u fs es v) ≡ is_other W u fs es x.0) (members v)
-  others_there = Each-implies (λ x. is_among x.0 _ ≡ true) _
-      (λ x h. is_among-filter_once (is_other W u fs es) x.0 (members v) ∙ ap (λ b. is_other W u fs es x.0 && b) h ∙ and-true _)
+  others_there = Each-implies _ _
+      (λ x h. is_among-filter_once _ x.0 (members v) ∙ ap (λ b. is_other W u fs es x.0 && b) h ∙ and-true _)
       _ (Each-among _)
 
   -- ---- `required` inside
@@ -102,7 +102,7 @@ module _ (W : World) (ms : Members) (u : Bool) (v : Data) (P Q : Path) where
         (λ i. flat_map (λ m. declared_trees_read m i ++ pattern_trees_read m i ++ put_if (is_object (whole_read to_meaning d i).schema && is_among m.0 (other_names_read i))
         ((whole_read to_meaning d i).answer.tree m.1 (P // codes "additionalProperties") (Q // m.0)) []) (members v))
         ∙ each_flat (λ m. declared_shown W u fs es P Q m ++ matching_shown W u fs es P Q m ++ put_if (is_object d && is_among m.0 (other_names W u fs es v))
-        (tree W u d m.1 (P // codes "additionalProperties") (Q // m.0)) []) (each_shown W u fs es P Q d) (members v)
+        (tree W u d m.1 (P // codes "additionalProperties") (Q // m.0)) []) _ (members v)
         (Each-implies _ _
         (λ m h. ap (λ b. declared_shown W u fs es P Q m ++ matching_shown W u fs es P Q m ++ put_if (is_object d && b)
         (tree W u d m.1 (P // codes "additionalProperties") (Q // m.0)) []) h) _ others_there)

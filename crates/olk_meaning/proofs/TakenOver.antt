@@ -14,7 +14,7 @@ use Rattle.olk_meaning.specs.Plans.{Planned, plan_of, tells_members, is_taken_ov
 
 module _ (p : Planned) where
   pub taken_named : (n : Name) → is_taken_over p n ≡ true → (n ≡ codes "properties") ⊎ (n ≡ codes "patternProperties") ⊎ (n ≡ codes "required")
-  taken_named n e = by p.restricted (is_some p.fused_one) (bytes_eq n (codes "properties")) (bytes_eq n (codes "patternProperties")) (bytes_eq (codes "required") n) refl refl refl e
+  taken_named n e = by p.restricted (is_some p.fused_one) _ _ _ refl refl refl e
     where
       by : (r f a b c : Bool) → bytes_eq n (codes "properties") ≡ a → bytes_eq n (codes "patternProperties") ≡ b → bytes_eq (codes "required") n ≡ c
           → ((r && (a || (b || false))) || (f && c)) ≡ true → (n ≡ codes "properties") ⊎ (n ≡ codes "patternProperties") ⊎ (n ≡ codes "required")
@@ -49,7 +49,7 @@ module _ (p : Planned) where
 
   -- `required` is not, where no name of it is fused
   pub required_not_taken : is_some p.fused_one ≡ false → IsNotTaken (codes "required")
-  required_not_taken f n e = (refl, by (bytes_eq (codes "required") n) refl)
+  required_not_taken f n e = (refl, by _ refl)
     where
       never : (b : Bool) → ((b && false) || (false && true)) ≡ false
       never true = refl
