@@ -24,6 +24,7 @@ use Rattle.olk_meaning.specs.AdditionalProperties.{is_rule, declared_beside, pat
 use Rattle.olk_meaning.proofs.AdditionalProperties.{each_passes, nothing_of_each, additional_accepts, additional_report}
 use Rattle.olk_meaning.proofs.Conditions.{MeansNothing, restricted_read}
 use Rattle.olk_meaning.proofs.Exchanged.{sum_of_none}
+use Rattle.olk_meaning.proofs.Rows.{Rows}
 
 module _ {X : Type 0} (step : Schema X → X) (d : Data) (k : Name) where
   pub additional_refusals : (W : World) (L : Path) → own_refusals W k (read step d) L additional_properties ≡ unless_kind (is_rule d) MultipleTypes d L
@@ -63,10 +64,10 @@ no_other_truth false x = refl
 
 module _ (W : World) (ms : Members) (d : Data) (allows : is_restriction (Some d) ≡ false) where
   module _ (u : Bool) (v : Data) where
-    abbrev fs : List (Name × Data)
+    abbrev fs : Rows
     fs = declared_beside ms
 
-    abbrev es : List (Name × Data)
+    abbrev es : Rows
     es = patterns_beside ms
 
     allowed : list_all (rest_accepts W u fs es d) (members v) ≡ true
@@ -74,7 +75,7 @@ module _ (W : World) (ms : Members) (d : Data) (allows : is_restriction (Some d)
     allowed = by d allows
       where
         all : list_all (λ x. not (is_other W u fs es x.0) || true) (members v) ≡ true
-        all = sym (each_passes (λ x. is_other W u fs es x.0) (members v))
+        all = sym (each_passes _ (members v))
 
         by : (d : Data) → is_restriction (Some d) ≡ false → list_all (rest_accepts W u fs es d) (members v) ≡ true
         by (boolean false) e = absurd (true≢false e)

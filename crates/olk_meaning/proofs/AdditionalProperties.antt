@@ -10,7 +10,7 @@ use Rattle.olk_spec.specs.Names.{Name, Path, ◌//◌, down, filter_once, put_if
 use Rattle.olk_spec.specs.World.{World}
 use Rattle.olk_spec.specs.Vocabulary.{additional_properties}
 use Rattle.olk_spec.specs.Faults.{Fault}
-use Rattle.olk_spec.specs.Schemas.{Sub, read, read_members, members, is_object, is_truth}
+use Rattle.olk_spec.specs.Schemas.{Schema, Sub, read, read_members, members, is_object, is_truth}
 use Rattle.olk_spec.specs.Meanings.{Meaning, Asked, asked}
 use Rattle.olk_spec.specs.Meaning.{accepts, asks, report, meaning, meaning_step}
 use Rattle.olk_spec.specs.Reports.{unexpected_faults, own}
@@ -20,7 +20,8 @@ use Rattle.olk_meaning.specs.Members.{member_accepts, member_asks, member_report
 use Rattle.olk_meaning.specs.AdditionalProperties.{declared_beside, patterns_beside, has_beside, is_other, other_members, rest_accepts, rest_report, rest_asks, others_report}
 use Rattle.olk_meaning.proofs.Beside.{additional_read, neighbour_read}
 use Rattle.olk_meaning.proofs.Exchanged.{sum_of_none, sum_of_those, flat_map-filter_once}
-use Rattle.olk_meaning.proofs.Facts.{nothing_last}
+use Rattle.olk_meaning.proofs.Facts.{accepts_it, asks_it, finds_it, nothing_last}
+use Rattle.olk_meaning.proofs.Rows.{Rows}
 
 -- ---- walks over what is asked where a test holds
 
@@ -31,7 +32,7 @@ module _ {X Y : Type 0} (h : X → Y) where
 
   sum_of_each : (f : Y → ℕ) (xs : List X) → sum_by f (flat_map (λ x. h x ∷ []) xs) ≡ sum_by (λ x. f (h x)) xs
   sum_of_each f [] = refl
-  sum_of_each f (x ∷ xs) = sum_by-cons f (h x) (flat_map (λ x. h x ∷ []) xs) ∙ ap (λ n. f (h x) + n) (sum_of_each f xs) ∙ sym (sum_by-cons (λ x. f (h x)) x xs)
+  sum_of_each f (x ∷ xs) = sum_by-cons f (h x) (flat_map (λ x. h x ∷ []) xs) ∙ ap (λ n. f (h x) + n) (sum_of_each f xs) ∙ sym (sum_by-cons _ x xs)
 
   found_of_each : (f : Y → List Fault) (xs : List X) → flat_map f (flat_map (λ x. h x ∷ []) xs) ≡ flat_map (λ x. f (h x)) xs
   found_of_each f [] = refl
@@ -53,7 +54,7 @@ none_passes t (x ∷ xs) = by (t x) (none_passes t xs)
 -- each passes where nothing is refused
 pub each_passes : {X : Type 0} (t : X → Bool) (xs : List X) → true ≡ list_all (λ x. not (t x) || true) xs
 each_passes t [] = refl
-each_passes t (x ∷ xs) = each_passes t xs ∙ ap (λ b. b && list_all (λ y. not (t y) || true) xs) (sym (or-true (not (t x))))
+each_passes t (x ∷ xs) = each_passes t xs ∙ ap (λ b. b && list_all (λ y. not (t y) || true) xs) (sym (or-true _))
 
 -- false accepts nothing, and asks nothing
 pub false_accepts_none : (W : World) (u : Bool) (v : Data) → accepts W u (boolean false) v ≡ false
@@ -67,64 +68,68 @@ false_asks_nothing W u v = refl
 -- ---- the keyword itself
 
 module _ (W : World) (ms : Members) (d : Data) (u : Bool) (v : Data) where
-  abbrev fs : List (Name × Data)
+  -- a schema, with its parts' meanings, to its own
+  abbrev to_meaning : Schema Meaning → Meaning
+  to_meaning = meaning_step W u
+
+  abbrev fs : Rows
   fs = declared_beside ms
 
-  abbrev es : List (Name × Data)
+  abbrev es : Rows
   es = patterns_beside ms
 
-  abbrev others : List (Name × Data)
+  abbrev others : Rows
   others = other_members W u fs es v
 
   abbrev asked_of : Sub Meaning → Name × Data → Asked
   asked_of s x = asked s x.1 (codes "additionalProperties" ∷ []) (x.0 ∷ [])
 
   -- the members that it is asked about
-  abbrev asked_by : Sub Meaning → List (Name × Data) → List Asked
+  abbrev asked_by : Sub Meaning → Rows → List Asked
   asked_by s xs = flat_map (λ x. put_if (is_object s.schema) (asked_of s x) []) xs
 
   pub additional_accepts : member_accepts W ms (codes "additionalProperties", d) additional_properties u v ≡ list_all (rest_accepts W u fs es d) (members v)
   unfolding meaning
   additional_accepts =
-      (λ i. list_all (λ a. a.sub.answer.accepts a.value) (asked_by (whole_read (meaning_step W u) d i) (additional_read (meaning_step W u) ms W u v i))
-      && (not (is_truth false (whole_read (meaning_step W u) d i).schema) || is_empty (additional_read (meaning_step W u) ms W u v i)))
+      (λ i. list_all accepts_it (asked_by (whole_read to_meaning d i) (additional_read to_meaning ms W u v i))
+      && (not (is_truth false (whole_read to_meaning d i).schema) || is_empty (additional_read to_meaning ms W u v i)))
       ∙ by d
     where
-      allowing : list_all (λ (a : Asked). a.sub.answer.accepts a.value) (flat_map (λ x. []) others) && true ≡ list_all (λ x. not (is_other W u fs es x.0) || true) (members v)
-      allowing = ap (λ l. list_all (λ (a : Asked). a.sub.answer.accepts a.value) l && true) (nothing_of_each others) ∙ each_passes (λ x. is_other W u fs es x.0) (members v)
+      allowing : list_all accepts_it (flat_map (λ x. []) others) && true ≡ list_all (λ x. not (is_other W u fs es x.0) || true) (members v)
+      allowing = ap (λ l. list_all accepts_it l && true) (nothing_of_each others) ∙ each_passes _ (members v)
 
-      by : (d : Data) → (list_all (λ a. a.sub.answer.accepts a.value) (asked_by (place (meaning_step W u) d) others) && (not (is_truth false d) || is_empty others)) ≡ list_all
+      by : (d : Data) → (list_all accepts_it (asked_by (place to_meaning d) others) && (not (is_truth false d) || is_empty others)) ≡ list_all
           (rest_accepts W u fs es d) (members v)
-      by (boolean false) = ap (λ l. list_all (λ a. a.sub.answer.accepts a.value) l && is_empty others) (nothing_of_each others) ∙ none_passes (λ x. is_other W u fs es x.0) (members v)
+      by (boolean false) = ap (λ l. list_all accepts_it l && is_empty others) (nothing_of_each others) ∙ none_passes _ (members v)
       by (object gs) =
-          and-true _ ∙ all_of_each (asked_of (place (meaning_step W u) (object gs))) (λ a. a.sub.answer.accepts a.value) others ∙ list_all-filter_once
-          (λ x. accepts W u (object gs) x.1) (λ x. is_other W u fs es x.0) (members v)
+          and-true _ ∙ all_of_each _ _ others ∙ list_all-filter_once
+          _ _ (members v)
       by _ = allowing
 
   pub additional_asks : member_asks W ms (codes "additionalProperties", d) additional_properties u v ≡ sum_by (rest_asks W u fs es d) (members v)
   unfolding meaning
   additional_asks =
       nothing_last _
-      ∙ (λ i. sum_by (λ a. a.sub.answer.asks a.value) (asked_by (whole_read (meaning_step W u) d i) (additional_read (meaning_step W u) ms W u v i)))
+      ∙ (λ i. sum_by asks_it (asked_by (whole_read to_meaning d i) (additional_read to_meaning ms W u v i)))
       ∙ by d
-      ∙ sym (sum_of_those (λ x. is_other W u fs es x.0) (λ x. asks W u d x.1) (members v))
+      ∙ sym (sum_of_those _ _ (members v))
     where
-      nothing : sum_by (λ (a : Asked). a.sub.answer.asks a.value) (flat_map (λ x. []) others) ≡ sum_by (λ x. 0) others
-      nothing = ap (sum_by (λ (a : Asked). a.sub.answer.asks a.value)) (nothing_of_each others) ∙ sym (sum_of_none others)
+      nothing : sum_by asks_it (flat_map (λ x. []) others) ≡ sum_by (λ x. 0) others
+      nothing = ap (sum_by asks_it) (nothing_of_each others) ∙ sym (sum_of_none others)
 
-      by : (d : Data) → sum_by (λ a. a.sub.answer.asks a.value) (asked_by (place (meaning_step W u) d) others) ≡ sum_by (λ x. asks W u d x.1) others
-      by (object gs) = sum_of_each (asked_of (place (meaning_step W u) (object gs))) (λ a. a.sub.answer.asks a.value) others
+      by : (d : Data) → sum_by asks_it (asked_by (place to_meaning d) others) ≡ sum_by (λ x. asks W u d x.1) others
+      by (object gs) = sum_of_each _ _ others
       by (boolean true) = nothing
       by _ = nothing
 
-  pub own_others : (P Q : Path) → own W u (read_members (meaning_step W u) ms) (codes "additionalProperties")
-      (read (meaning_step W u) d) v P Q additional_properties ≡ others_report W u fs es P Q (has_beside ms) d v
+  pub own_others : (P Q : Path) → own W u (read_members to_meaning ms) (codes "additionalProperties")
+      (read to_meaning d) v P Q additional_properties ≡ others_report W u fs es P Q (has_beside ms) d v
   own_others P Q =
-      (λ i. flat_map (λ s. unexpected_faults (neighbour_read (meaning_step W u) ms i) (additional_read (meaning_step W u) ms W u v i) v (P // codes "additionalProperties") Q)
-      (put_if (is_truth false (whole_read (meaning_step W u) d i).schema) (whole_read (meaning_step W u) d i) []))
+      (λ i. flat_map (λ s. unexpected_faults (neighbour_read to_meaning ms i) (additional_read to_meaning ms W u v i) v (P // codes "additionalProperties") Q)
+      (put_if (is_truth false (whole_read to_meaning d i).schema) (whole_read to_meaning d i) []))
       ∙ by (is_truth false d)
     where
-      by : (b : Bool) → flat_map (λ s. unexpected_faults (has_beside ms) others v (P // codes "additionalProperties") Q) (put_if b (place (meaning_step W u) d) []) ≡ cond b
+      by : (b : Bool) → flat_map (λ s. unexpected_faults (has_beside ms) others v (P // codes "additionalProperties") Q) (put_if b (place to_meaning d) []) ≡ cond b
           (unexpected_faults (has_beside ms) others v (P // codes "additionalProperties") Q) []
       by true = append-nil _
       by false = refl
@@ -133,12 +138,12 @@ module _ (W : World) (ms : Members) (d : Data) (u : Bool) (v : Data) where
       ++ others_report W u fs es P Q (has_beside ms) d v
   unfolding meaning
   additional_report P Q =
-      (λ i. flat_map (λ a. a.sub.answer.report a.value (down P a.in_schema) (down Q a.in_instance))
-      (asked_by (whole_read (meaning_step W u) d i) (additional_read (meaning_step W u) ms W u v i)) ++ own_others P Q i)
+      (λ i. flat_map (finds_it P Q)
+      (asked_by (whole_read to_meaning d i) (additional_read to_meaning ms W u v i)) ++ own_others P Q i)
       ∙ ap (λ l. l ++ others_report W u fs es P Q (has_beside ms) d v)
-      (by (is_object d) ∙ flat_map-filter_once (λ x. is_other W u fs es x.0) (λ x. cond (is_object d) (report W u d x.1 (P // codes "additionalProperties") (Q // x.0)) []) (members v))
+      (by (is_object d) ∙ flat_map-filter_once _ _ (members v))
     where
-      by : (b : Bool) → flat_map (λ (a : Asked). a.sub.answer.report a.value (down P a.in_schema) (down Q a.in_instance)) (flat_map (λ x. put_if b (asked_of (place (meaning_step W u) d) x) []) others)
+      by : (b : Bool) → flat_map (λ (a : Asked). a.sub.answer.report a.value (down P a.in_schema) (down Q a.in_instance)) (flat_map (λ x. put_if b (asked_of (place to_meaning d) x) []) others)
           ≡ flat_map (λ x. cond b (report W u d x.1 (P // codes "additionalProperties") (Q // x.0)) []) others
-      by true = found_of_each (asked_of (place (meaning_step W u) d)) (λ a. a.sub.answer.report a.value (down P a.in_schema) (down Q a.in_instance)) others
-      by false = ap (flat_map (λ (a : Asked). a.sub.answer.report a.value (down P a.in_schema) (down Q a.in_instance))) (nothing_of_each others) ∙ sym (nothing_of_each others)
+      by true = found_of_each _ _ others
+      by false = ap (flat_map _) (nothing_of_each others) ∙ sym (nothing_of_each others)

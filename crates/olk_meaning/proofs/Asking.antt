@@ -14,6 +14,8 @@ use Rattle.olk_spec.proofs.Each.{Each, Each-implies, Each-any}
 use Rattle.olk_spec.proofs.Applied.{GoodAsked, applied_good}
 use Rattle.olk_spec.proofs.Induction.{good_answer, schema_read, GoodSchema, GoodSub, GoodPart}
 use Rattle.olk_spec.proofs.Passing.{no_members}
+use Rattle.olk_meaning.proofs.Facts.{asks_it}
+use Rattle.olk_meaning.proofs.Rows.{Rows}
 
 nothing_summed : {A : Type 0} (f : A → ℕ) (xs : List A) → Each (λ x. f x ≡ 0) xs → sum_by f xs ≡ 0
 nothing_summed f [] h = refl
@@ -28,46 +30,46 @@ AsksNothing d m = (v : Data) → IsNoObject v → m.asks v ≡ 0
 
 module _ (W : World) (u : Bool) (v : Data) (none : IsNoObject v) where
   module _ (S : Keywords Meaning) (k : Name) (p : Part Meaning) (good : GoodPart AsksNothing p) where
-    applied_nothing : (w : Keyword) → sum_by (λ a. a.sub.answer.asks a.value) (applied W u S k p v w) ≡ 0
-    applied_nothing w = nothing_summed (λ a. a.sub.answer.asks a.value) (applied W u S k p v w)
-        (Each-implies (GoodAsked AsksNothing IsNoObject) (λ a. a.sub.answer.asks a.value ≡ 0) (λ a g. g.0 a.value g.1) (applied W u S k p v w)
+    applied_nothing : (w : Keyword) → sum_by asks_it (applied W u S k p v w) ≡ 0
+    applied_nothing w = nothing_summed asks_it (applied W u S k p v w)
+        (Each-implies (GoodAsked AsksNothing IsNoObject) _ (λ a g. g.0 a.value g.1) _
         (applied_good AsksNothing IsNoObject W u S k p good v none (fines (members v) (no_members v none)) w))
       where
-        fines : (xs : List (Name × Data)) → xs ≡ [] → Each (λ m. IsNoObject m.1) xs
+        fines : (xs : Rows) → xs ≡ [] → Each (λ m. IsNoObject m.1) xs
         fines [] e = tt
         fines (x ∷ xs) e = absurd (grind (arith, e))
 
     items_nothing : sum_by (λ s. s.answer.asks v) p.items ≡ 0
-    items_nothing = nothing_summed (λ s. s.answer.asks v) p.items (Each-implies (GoodSub AsksNothing) (λ s. s.answer.asks v ≡ 0) (λ s g. g v none) p.items good.3)
+    items_nothing = nothing_summed _ p.items (Each-implies _ _ (λ s g. g v none) p.items good.3)
 
     where_nothing : (b : Bool) → cond b (p.whole.answer.asks v) 0 ≡ 0
     where_nothing true = good.0 v none
     where_nothing false = refl
 
     own_nothing : (w : Keyword) → own_asks W u S k p v w ≡ 0
-    own_nothing pattern_properties = ap (sum_by (λ m. asks_at W S p m.0)) (no_members v none)
+    own_nothing pattern_properties = ap (sum_by _) (no_members v none)
     own_nothing any_of = items_nothing
     own_nothing one_of = items_nothing
     own_nothing not_keyword = good.0 v none
-    own_nothing if_keyword = where_nothing (is_conditional S)
+    own_nothing if_keyword = where_nothing _
     own_nothing _ = refl
 
   keywords_nothing : (T S : Keywords Meaning) → Each (λ m. GoodPart AsksNothing m.1) S → Each (λ m. keyword_asks W u T m.0 m.1 v (keyword_named W m.0) ≡ 0) S
   keywords_nothing T S =
-      Each-implies (λ m. GoodPart AsksNothing m.1) (λ m. keyword_asks W u T m.0 m.1 v (keyword_named W m.0) ≡ 0)
+      Each-implies _ _
       (λ m g. (λ i. applied_nothing T m.0 m.1 g (keyword_named W m.0) i + own_nothing T m.0 m.1 g (keyword_named W m.0) i)) S
 
 module _ (W : World) (u : Bool) where
   step_asks_nothing : (S : Schema Meaning) → GoodSchema AsksNothing S → (v : Data) → IsNoObject v → (meaning_step W u S).asks v ≡ 0
-  step_asks_nothing (keywords S) g v none = nothing_summed (λ m. keyword_asks W u S m.0 m.1 v (keyword_named W m.0)) S (keywords_nothing W u v none S S g)
+  step_asks_nothing (keywords S) g v none = nothing_summed _ S (keywords_nothing W u v none S S g)
   step_asks_nothing _ g v none = refl
 
   pub asks_nothing : (d v : Data) → is_object v ≡ false → asks W u d v ≡ 0
   unfolding meaning
-  asks_nothing = good_answer AsksNothing (meaning_step W u) (λ d. step_asks_nothing (schema_read (meaning_step W u) d))
+  asks_nothing = good_answer AsksNothing (meaning_step W u) (λ d. step_asks_nothing _)
 
   pub name_asks_nothing : (d : Data) (n : Name) → asks W u d (string n) ≡ 0
-  name_asks_nothing d n = asks_nothing d (string n) refl
+  name_asks_nothing d n = asks_nothing d _ refl
 
-  pub names_ask_nothing : (d : Data) (es : List (Name × Data)) → sum_by (λ m. asks W u d (string m.0)) es ≡ 0
-  names_ask_nothing d es = nothing_summed (λ m. asks W u d (string m.0)) es (Each-any (λ m. asks W u d (string m.0) ≡ 0) (λ m. name_asks_nothing d m.0) es)
+  pub names_ask_nothing : (d : Data) (es : Rows) → sum_by (λ m. asks W u d (string m.0)) es ≡ 0
+  names_ask_nothing d es = nothing_summed _ es (Each-any _ (λ m. name_asks_nothing d m.0) es)

@@ -21,22 +21,22 @@ module _ {X : Type 0} (step : Schema X → X) (ms : Members) where
     where
       by : (o : Option Data) → flat_map (λ d. map (entry step) (members d)) (option_to_list o) ≡ map (entry step) (entries_in o)
       by None = refl
-      by (Some d) = append-nil (map (entry step) (members d))
+      by (Some d) = append-nil _
 
   pub neighbour_read : has_neighbour (read_members step ms) ≡ has_beside ms
   neighbour_read = λ i. present step ms (codes "properties") i || present step ms (codes "patternProperties") i
 
   pub declared_read : (n : Name) → is_declared (read_members step ms) n ≡ is_declared_in (declared_beside ms) n
   declared_read n = ap (λ es. is_among n (map {A = Name × Sub X} (λ e. e.0) es)) (entries_beside (codes "properties"))
-      ∙ ap (is_among n) (map-map {X = Name × Sub X} {Y = Name × Data} (λ e. e.0) (λ e. e.0) (entry step) (λ e. refl) (declared_beside ms))
+      ∙ ap (is_among n) (map-map {X = Name × Sub X} {Y = Name × Data} (λ e. e.0) _ (entry step) (λ e. refl) _)
 
   module _ (W : World) (u : Bool) where
     pub matching_read : (n : Name) → matching (read_members step ms) W u n ≡ map (entry step) (matching_at W u (patterns_beside ms) n)
-    matching_read n = ap (filter_once (λ e. matches W u e.0 n)) (entries_beside (codes "patternProperties"))
-        ∙ filter_once-map (λ e. matches W u e.0 n) (λ e. matches W u e.0 n) (entry step) (λ e. refl) (patterns_beside ms)
+    matching_read n = ap (filter_once _) (entries_beside (codes "patternProperties"))
+        ∙ filter_once-map _ _ (entry step) (λ e. refl) (patterns_beside ms)
 
     pub other_read : (n : Name) → (not (is_declared (read_members step ms) n) && is_empty (matching (read_members step ms) W u n)) ≡ is_other W u (declared_beside ms) (patterns_beside ms) n
-    other_read n = λ i. not (declared_read n i) && (ap is_empty (matching_read n) ∙ is_empty-map (entry step) (matching_at W u (patterns_beside ms) n)) i
+    other_read n = λ i. not (declared_read n i) && (ap is_empty (matching_read n) ∙ is_empty-map (entry step) _) i
 
     pub additional_read : (v : Data) → additional (read_members step ms) W u v ≡ other_members W u (declared_beside ms) (patterns_beside ms) v
     additional_read v = filter_once-same _ _ (λ m. other_read m.0) (members v)

@@ -23,8 +23,9 @@ use Rattle.olk_spec.specs.Tree.{Tree, leaf_node, result, plain, erring, describe
 use Rattle.olk_spec.specs.Trees.{fuses_one, fuses_two, missing_child}
 use Rattle.olk_spec.proofs.Reading.{entry, place, lookup_listed, schema_of_read, entries_there}
 use Rattle.olk_meaning.specs.Members.{member_child, StandsAlone}
-use Rattle.olk_meaning.proofs.Facts.{branch_entries, item_entries}
+use Rattle.olk_meaning.proofs.Facts.{shows_it, branch_entries, item_entries}
 use Rattle.olk_spec.proofs.Maps.{map-map, filter_once-map, is_empty-map}
+use Rattle.olk_meaning.proofs.Rows.{Rows}
 
 -- ---- counting, and those that there are
 
@@ -36,116 +37,120 @@ module _ {X : Type 0} (test : X → Bool) where
   -- none is counted where there is none
   none_counted : (xs : List X) → (count_by test xs == 0) ≡ is_empty (filter_once test xs)
   none_counted [] = refl
-  none_counted (x ∷ xs) = ap (λ n. n == 0) (sum_by-cons (λ y. cond (test y) 1 0) x xs) ∙ counted_none (test x) (count_by test xs) x (filter_once test xs) (none_counted xs)
+  none_counted (x ∷ xs) = ap (λ n. n == 0) (sum_by-cons _ x xs) ∙ counted_none (test x) (count_by test xs) x (filter_once test xs) (none_counted xs)
 
 all_those : {X : Type 0} (xs : List X) → filter_once (λ x. true) xs ≡ xs
 all_those [] = refl
 all_those (x ∷ xs) = ap (λ l. x ∷ l) (all_those xs)
 
 none_under : {X Y : Type 0} (p : X → Bool) (h : Y → X) (ys : List Y) → is_empty (filter_once p (map h ys)) ≡ is_empty (filter_once (λ y. p (h y)) ys)
-none_under p h ys = ap is_empty (filter_once-map p (λ y. p (h y)) h (λ y. refl) ys) ∙ is_empty-map h (filter_once (λ y. p (h y)) ys)
+none_under p h ys = ap is_empty (filter_once-map p _ h (λ y. refl) ys) ∙ is_empty-map h _
 
 module _ (W : World) (u : Bool) (v : Data) where
+  -- a schema, with its parts' meanings, to its own
+  abbrev to_meaning : Schema Meaning → Meaning
+  to_meaning = meaning_step W u
+
   -- ---- what the declared schemas show of the members
 
   module _ (L Q : Path) where
-    abbrev pub shown_at : List (Name × Data) → Name × Data → List Tree
+    abbrev pub shown_at : Rows → Name × Data → List Tree
     shown_at es m = map (λ d. tree W u d m.1 (L // m.0) (Q // m.0)) (option_to_list (lookup_name m.0 es))
 
-    abbrev pub shown_declared : List (Name × Data) → List Tree → Tree
+    abbrev pub shown_declared : Rows → List Tree → Tree
     shown_declared es more =
         result L Q (cond (is_object v) (Some (map (λ m. m.0) (filter_once (λ m. is_among m.0 (map (λ e. e.0) es)) (members v)))) None) false [] (flat_map (shown_at es) (members v) ++ more)
 
-    pub entry_shown : (m : Name × Data) (es : List (Name × Data)) → map (λ s. s.answer.tree m.1 (L // m.0) (Q // m.0))
-        (option_to_list (lookup_name m.0 (map (entry (meaning_step W u)) es))) ≡ shown_at es m
+    pub entry_shown : (m : Name × Data) (es : Rows) → map (λ s. s.answer.tree m.1 (L // m.0) (Q // m.0))
+        (option_to_list (lookup_name m.0 (map (entry to_meaning) es))) ≡ shown_at es m
     unfolding meaning
     entry_shown m [] = refl
-    entry_shown m (e ∷ es) = by (slice_cmp nat_cmp m.0 e.0) (entry_shown m es)
+    entry_shown m (e ∷ es) = by _ (entry_shown m es)
       where
-        by : (o : Ordering) → map (λ s. s.answer.tree m.1 (L // m.0) (Q // m.0)) (option_to_list (lookup_name m.0 (map (entry (meaning_step W u)) es))) ≡ shown_at es m
+        by : (o : Ordering) → map (λ s. s.answer.tree m.1 (L // m.0) (Q // m.0)) (option_to_list (lookup_name m.0 (map (entry to_meaning) es))) ≡ shown_at es m
             → map (λ s. s.answer.tree m.1 (L // m.0) (Q // m.0)) (option_to_list
-            (first_if_equal o (place (meaning_step W u) e.1) (lookup_name m.0 (map (entry (meaning_step W u)) es)))) ≡ map (λ d. tree W u d m.1 (L // m.0) (Q // m.0))
+            (first_if_equal o (place to_meaning e.1) (lookup_name m.0 (map (entry to_meaning) es)))) ≡ map (λ d. tree W u d m.1 (L // m.0) (Q // m.0))
             (option_to_list (first_if_equal o e.1 (lookup_name m.0 es)))
         by Less h = h
         by Equal h = refl
         by Greater h = h
 
-    entries_shown : (es ms : List (Name × Data)) → flat_map (λ m. map (λ s. s.answer.tree m.1 (L // m.0) (Q // m.0))
-        (option_to_list (lookup_name m.0 (map (entry (meaning_step W u)) es)))) ms ≡ flat_map (shown_at es) ms
+    entries_shown : (es ms : Rows) → flat_map (λ m. map (λ s. s.answer.tree m.1 (L // m.0) (Q // m.0))
+        (option_to_list (lookup_name m.0 (map (entry to_meaning) es)))) ms ≡ flat_map (shown_at es) ms
     entries_shown es [] = refl
     entries_shown es (m ∷ ms) = λ i. entry_shown m es i ++ entries_shown es ms i
 
   -- ---- branches
 
   module _ (step : Schema Meaning → Meaning) (k : Name) (P Q : Path) where
-    pub whole_shown : (es : List (Name × Data)) → map (λ a. a.sub.answer.tree a.value (down P a.in_schema) (down Q a.in_instance))
+    pub whole_shown : (es : Rows) → map (shows_it P Q)
         (asked_whole k v (map (entry step) es)) ≡ map (λ e. (answer_for step e.1).tree v (P // k // e.0) Q) es
     whole_shown [] = refl
     whole_shown (e ∷ es) = ap (λ l. (answer_for step e.1).tree v (P // k // e.0) Q ∷ l) (whole_shown es)
 
-  abbrev pub branches_shown : Path → Path → List (Name × Data) → List Tree
+  abbrev pub branches_shown : Path → Path → Rows → List Tree
   branches_shown L Q es = map (λ e. tree W u e.1 v (L // e.0) Q) es
 
-  abbrev pub accepting_branches : List (Name × Data) → List (Name × Data)
+  abbrev pub accepting_branches : Rows → Rows
   accepting_branches es = filter_once (λ e. accepts W u e.1 v) es
 
-  abbrev pub any_shown : Path → Path → List (Name × Data) → Tree
+  abbrev pub any_shown : Path → Path → Rows → Tree
   any_shown L Q es = cond (is_empty (accepting_branches es)) (result L Q None true [] (branches_shown L Q es)) (plain L Q (branches_shown L Q (accepting_branches es)))
 
   module _ (k : Name) (P Q : Path) (ds : Items) where
-    pub all_branches_shown : map (λ b. b.1.answer.tree v (P // k // b.0) Q) (filter_once (λ b. true) (branches (read (meaning_step W u) (array ds)))) ≡ branches_shown
+    pub all_branches_shown : map (λ b. b.1.answer.tree v (P // k // b.0) Q) (filter_once (λ b. true) (branches (read to_meaning (array ds)))) ≡ branches_shown
         (P // k) Q (numbered (items_list ds))
     unfolding meaning
-    all_branches_shown = ap (λ bs. map (λ b. b.1.answer.tree v (P // k // b.0) Q) (filter_once (λ b. true) bs)) (branch_entries (meaning_step W u) ds)
-        ∙ ap (map (λ b. b.1.answer.tree v (P // k // b.0) Q)) (all_those (map (entry (meaning_step W u)) (numbered (items_list ds))))
-        ∙ map-map (λ b. b.1.answer.tree v (P // k // b.0) Q) (λ e. tree W u e.1 v (P // k // e.0) Q) (entry (meaning_step W u)) (λ e. refl) (numbered (items_list ds))
+    all_branches_shown = ap (λ bs. map (λ b. b.1.answer.tree v (P // k // b.0) Q) (filter_once (λ b. true) bs)) (branch_entries to_meaning ds)
+        ∙ ap (map _) (all_those _)
+        ∙ map-map _ _ (entry to_meaning) (λ e. refl) _
 
-    pub accepting_branches_shown : map (λ b. b.1.answer.tree v (P // k // b.0) Q) (filter_once (λ b. holds b.1 v) (branches (read (meaning_step W u) (array ds)))) ≡ branches_shown
+    pub accepting_branches_shown : map (λ b. b.1.answer.tree v (P // k // b.0) Q) (filter_once (λ b. holds b.1 v) (branches (read to_meaning (array ds)))) ≡ branches_shown
         (P // k) Q (accepting_branches (numbered (items_list ds)))
     unfolding meaning
-    accepting_branches_shown = ap (λ bs. map (λ b. b.1.answer.tree v (P // k // b.0) Q) (filter_once (λ b. holds b.1 v) bs)) (branch_entries (meaning_step W u) ds)
-        ∙ ap (map (λ b. b.1.answer.tree v (P // k // b.0) Q)) (filter_once-map (λ b. holds b.1 v) (λ e. accepts W u e.1 v) (entry (meaning_step W u)) (λ e. refl) (numbered (items_list ds)))
-        ∙ map-map (λ b. b.1.answer.tree v (P // k // b.0) Q) (λ e. tree W u e.1 v (P // k // e.0) Q) (entry (meaning_step W u)) (λ e. refl) (accepting_branches (numbered (items_list ds)))
+    accepting_branches_shown = ap (λ bs. map (λ b. b.1.answer.tree v (P // k // b.0) Q) (filter_once (λ b. holds b.1 v) bs)) (branch_entries to_meaning ds)
+        ∙ ap (map (λ b. b.1.answer.tree v (P // k // b.0) Q)) (filter_once-map (λ b. holds b.1 v) _ (entry to_meaning) (λ e. refl) (numbered (items_list ds)))
+        ∙ map-map _ _ (entry to_meaning) (λ e. refl) _
 
   module _ (ms : Members) (P Q : Path) where
-    pub properties_child : (fs : Members) → lookup_name (codes "properties") (listed ms) ≡ Some (object fs) → restricts (read_members (meaning_step W u) ms) ≡ false
+    pub properties_child : (fs : Members) → lookup_name (codes "properties") (listed ms) ≡ Some (object fs) → restricts (read_members to_meaning ms) ≡ false
         → member_child W ms (codes "properties", object fs) properties u v P Q ≡ shown_declared (P // codes "properties") Q (listed fs)
-        (missing_child W u (read_members (meaning_step W u) ms) v P Q (fuses_two (read_members (meaning_step W u) ms))) ∷ []
+        (missing_child W u (read_members to_meaning ms) v P Q (fuses_two (read_members to_meaning ms))) ∷ []
     properties_child fs there free =
         λ i. put_if (not (free i)) (result (P // codes "properties") Q (cond (and-true (is_object v) i) (Some (met i)) None) false []
-        (shown i ++ missing_child W u (read_members (meaning_step W u) ms) v P Q (fuses_two (read_members (meaning_step W u) ms)))) []
+        (shown i ++ missing_child W u (read_members to_meaning ms) v P Q (fuses_two (read_members to_meaning ms)))) []
       where
-        here : entries_at (read_members (meaning_step W u) ms) (codes "properties") ≡ map (entry (meaning_step W u)) (listed fs)
-        here = entries_there (meaning_step W u) ms (codes "properties") (object fs) (sym (lookup_listed (codes "properties") ms) ∙ there)
+        here : entries_at (read_members to_meaning ms) (codes "properties") ≡ map (entry to_meaning) (listed fs)
+        here = entries_there to_meaning ms (codes "properties") (object fs) (sym (lookup_listed (codes "properties") ms) ∙ there)
 
-        met : map (λ m. m.0) (filter_once (λ m. is_among m.0 (map (λ e. e.0) (entries_at (read_members (meaning_step W u) ms) (codes "properties")))) (members v)) ≡ map
+        met : map (λ m. m.0) (filter_once (λ m. is_among m.0 (map (λ e. e.0) (entries_at (read_members to_meaning ms) (codes "properties")))) (members v)) ≡ map
             (λ m. m.0) (filter_once (λ m. is_among m.0 (map (λ e. e.0) (listed fs))) (members v))
         met =
             ap (λ ns. map (λ m. m.0) (filter_once (λ m. is_among m.0 ns) (members v)))
-            (ap (map {A = Name × Sub Meaning} (λ e. e.0)) here ∙ map-map {X = Name × Sub Meaning} {Y = Name × Data} (λ e. e.0) (λ e. e.0) (entry (meaning_step W u)) (λ e. refl) (listed fs))
+            (ap (map {A = Name × Sub Meaning} _) here ∙ map-map {X = Name × Sub Meaning} {Y = Name × Data} _ _ _ (λ e. refl) _)
 
         shown : flat_map (λ m. map (λ s. s.answer.tree m.1 (P // codes "properties" // m.0) (Q // m.0))
-            (option_to_list (lookup_name m.0 (entries_at (read_members (meaning_step W u) ms) (codes "properties"))))) (members v) ≡ flat_map
+            (option_to_list (lookup_name m.0 (entries_at (read_members to_meaning ms) (codes "properties"))))) (members v) ≡ flat_map
             (shown_at (P // codes "properties") Q (listed fs)) (members v)
         shown =
             ap (λ es. flat_map (λ m. map (λ s. s.answer.tree m.1 (P // codes "properties" // m.0) (Q // m.0)) (option_to_list (lookup_name m.0 es))) (members v)) here
-            ∙ entries_shown (P // codes "properties") Q (listed fs) (members v)
+            ∙ entries_shown _ Q _ (members v)
 
     pub required_child : (d : Data) → StandsAlone W u ms (codes "required", d) required → member_child W ms (codes "required", d) required u v P Q ≡ erring
         (P // codes "required") Q (required_faults (texts d) v (P // codes "required") Q) ∷ []
-    required_child d h = λ i. put_if (not (h.0 i) && not (h.1 i)) (erring (P // codes "required") Q (required_faults (texts (schema_of_read (meaning_step W u) d i)) v (P // codes "required") Q)) []
+    required_child d h = λ i. put_if (not (h.0 i) && not (h.1 i)) (erring (P // codes "required") Q (required_faults (texts (schema_of_read to_meaning d i)) v (P // codes "required") Q)) []
 
     -- it is shown elsewhere
-    pub no_required_child : (d : Data) → fuses_one (read_members (meaning_step W u) ms) ≡ false → fuses_two (read_members (meaning_step W u) ms) ≡ true
+    pub no_required_child : (d : Data) → fuses_one (read_members to_meaning ms) ≡ false → fuses_two (read_members to_meaning ms) ≡ true
         → member_child W ms (codes "required", d) required u v P Q ≡ []
-    no_required_child d e f = λ i. put_if (not (e i) && not (f i)) (erring (P // codes "required") Q (required_faults (texts (schema_of_read (meaning_step W u) d i)) v (P // codes "required") Q)) []
+    no_required_child d e f = λ i. put_if (not (e i) && not (f i)) (erring (P // codes "required") Q (required_faults (texts (schema_of_read to_meaning d i)) v (P // codes "required") Q)) []
 
     module _ (ds : Items) where
       pub all_of_child : member_child W ms (codes "allOf", array ds) all_of u v P Q ≡ plain (P // codes "allOf") Q (branches_shown (P // codes "allOf") Q (numbered (items_list ds))) ∷ []
       unfolding meaning
       all_of_child = ap (λ ts. plain (P // codes "allOf") Q ts ∷ [])
-          (ap (λ es. map (λ a. a.sub.answer.tree a.value (down P a.in_schema) (down Q a.in_instance)) (asked_whole (codes "allOf") v es)) (branch_entries (meaning_step W u) ds)
-          ∙ whole_shown (meaning_step W u) (codes "allOf") P Q (numbered (items_list ds)))
+          (ap (λ es. map (shows_it P Q) (asked_whole (codes "allOf") v es)) (branch_entries to_meaning ds)
+          ∙ whole_shown to_meaning (codes "allOf") P Q (numbered (items_list ds)))
 
       pub any_of_child : member_child W ms (codes "anyOf", array ds) any_of u v P Q ≡ any_shown (P // codes "anyOf") Q (numbered (items_list ds)) ∷ []
       unfolding meaning
@@ -153,16 +158,16 @@ module _ (W : World) (u : Bool) (v : Data) where
           λ i. cond (count i) (result (P // codes "anyOf") Q None true [] (all_branches_shown (codes "anyOf") P Q ds i))
           (plain (P // codes "anyOf") Q (accepting_branches_shown (codes "anyOf") P Q ds i)) ∷ []
         where
-          count : (accepting (read (meaning_step W u) (array ds)) v == 0) ≡ is_empty (accepting_branches (numbered (items_list ds)))
-          count = none_counted (λ s. holds s v) ((read (meaning_step W u) (array ds)).items)
-              ∙ ap (λ xs. is_empty (filter_once (λ s. holds s v) xs)) (item_entries (meaning_step W u) ds)
-              ∙ none_under (λ s. holds s v) (λ e. e.1) (map (entry (meaning_step W u)) (numbered (items_list ds)))
-              ∙ none_under (λ e. holds e.1 v) (entry (meaning_step W u)) (numbered (items_list ds))
+          count : (accepting (read to_meaning (array ds)) v == 0) ≡ is_empty (accepting_branches (numbered (items_list ds)))
+          count = none_counted _ ((read to_meaning (array ds)).items)
+              ∙ ap (λ xs. is_empty (filter_once (λ s. holds s v) xs)) (item_entries to_meaning ds)
+              ∙ none_under _ _ (map _ (numbered (items_list ds)))
+              ∙ none_under (λ e. holds e.1 v) (entry to_meaning) (numbered (items_list ds))
 
     module _ (d : Data) where
       pub not_child : member_child W ms (codes "not", d) not_keyword u v P Q ≡ erring (P // codes "not") Q (fault_if (accepts W u d v) (Not d) v (P // codes "not") Q) ∷ []
       unfolding meaning
-      not_child = ap (λ s. erring (P // codes "not") Q (fault_if (accepts W u d v) (Not s) v (P // codes "not") Q) ∷ []) (schema_of_read (meaning_step W u) d)
+      not_child = ap (λ s. erring (P // codes "not") Q (fault_if (accepts W u d v) (Not s) v (P // codes "not") Q) ∷ []) (schema_of_read to_meaning d)
 
       pub leaf_child : (k : Name) → member_child W ms (k, d) leaf u v P Q ≡ leaf_node (P // k) Q (described (map (λ t. fault (Leaf k t) v Q (P // k)) (W.faults k d v))) ∷ []
-      leaf_child k = ap (λ s. leaf_node (P // k) Q (described (map (λ t. fault (Leaf k t) v Q (P // k)) (W.faults k s v))) ∷ []) (schema_of_read (meaning_step W u) d)
+      leaf_child k = ap (λ s. leaf_node (P // k) Q (described (map (λ t. fault (Leaf k t) v Q (P // k)) (W.faults k s v))) ∷ []) (schema_of_read to_meaning d)

@@ -61,7 +61,7 @@ are_two_names L (Some d) h = absurd (true≢false (sym (ap is_empty h)))
 
 module _ {X : Type 0} (step : Schema X → X) where
   entry_count : (fs : Members) → length (flat_map (λ d. map (entry step) (members d)) (object fs ∷ [])) ≡ length (listed fs)
-  entry_count fs = ap length (append-nil (map (entry step) (listed fs))) ∙ length-map (listed fs) (entry step)
+  entry_count fs = ap length (append-nil _) ∙ length-map (listed fs) (entry step)
 
   -- t is what stands at `patternProperties`, and c says whether other members are free
   are_fused_names : (L : Path) (p r t : Option Data) (c : Bool) → IsObject p → ListsTexts L r
@@ -69,17 +69,17 @@ module _ {X : Type 0} (step : Schema X → X) where
       && are_two (flat_map texts (option_to_list r))) ≡ is_some (cond (declares_few p && is_none t && c) (two_names r) None)
   are_fused_names L None r t c h k = refl
   are_fused_names L (Some (object fs)) r None true h k =
-      ap (λ n. nat_lt n HASHMAP_THRESHOLD && are_two (flat_map texts (option_to_list r))) (entry_count fs) ∙ by (nat_lt (length (listed fs)) HASHMAP_THRESHOLD)
+      ap (λ n. nat_lt n HASHMAP_THRESHOLD && are_two (flat_map texts (option_to_list r))) (entry_count fs) ∙ by _
     where
       by : (b : Bool) → (b && are_two (flat_map texts (option_to_list r))) ≡ is_some (cond (b && true && true) (two_names r) None)
       by true = are_two_names L r k
       by false = refl
-  are_fused_names L (Some (object fs)) r None false h k = by (nat_lt (length (listed fs)) HASHMAP_THRESHOLD)
+  are_fused_names L (Some (object fs)) r None false h k = by (nat_lt _ HASHMAP_THRESHOLD)
     where
       by : (b : Bool) → false ≡ is_some (cond (b && true && false) (two_names r) None)
       by true = refl
       by false = refl
-  are_fused_names L (Some (object fs)) r (Some d) c h k = by (nat_lt (length (listed fs)) HASHMAP_THRESHOLD) c
+  are_fused_names L (Some (object fs)) r (Some d) c h k = by (nat_lt _ HASHMAP_THRESHOLD) c
     where
       by : (b c : Bool) → (c && false && nat_lt (length (flat_map (λ d. map (entry step) (members d)) (object fs ∷ []))) HASHMAP_THRESHOLD
           && are_two (flat_map texts (option_to_list r))) ≡ is_some (cond (b && false && c) (two_names r) None)
@@ -96,8 +96,8 @@ module _ (W : World) (ms : Members) (P : Path) where
       → lookup_name k es ≡ Some d → member_malformations W ms (k, d) (keyword_named W k) P ≡ []
   clean_among [] e k d f = absurd (true≢false (sym (ap is_some f)))
   clean_among (m ∷ es) e k d f =
-      let h = nothing_in (member_malformations W ms m (keyword_named W m.0) P) (flat_map (λ x. member_malformations W ms x (keyword_named W x.0) P) es) e in
-      by (slice_cmp nat_cmp k m.0) (is_eq-slice_cmp k m.0) f h.0 (clean_among es h.1 k d)
+      let h = nothing_in _ _ e in
+      by _ (is_eq-slice_cmp k m.0) f h.0 (clean_among es h.1 k d)
     where
       by : (o : Ordering) → is_eq o ≡ bytes_eq k m.0 → first_if_equal o m.1 (lookup_name k es) ≡ Some d → member_malformations W ms m (keyword_named W m.0) P ≡ []
           → (lookup_name k es ≡ Some d → member_malformations W ms (k, d) (keyword_named W k) P ≡ []) → member_malformations W ms (k, d) (keyword_named W k) P ≡ []
@@ -118,7 +118,7 @@ module _ (W : World) (ms : Members) (P : Path) (clean : flat_map (λ m. member_m
 
       by : (o : Option Data) → at_name (codes "properties") ≡ o → IsObject o
       by None q = tt
-      by (Some d) q = of d (is_object d) refl q
+      by (Some d) q = of d _ refl q
 
   -- a rule for other members is an object, true or false
   is_rule_there : IsRule (at_name (codes "additionalProperties"))
@@ -126,7 +126,7 @@ module _ (W : World) (ms : Members) (P : Path) (clean : flat_map (λ m. member_m
     where
       refused : (d : Data) → at_name (codes "additionalProperties") ≡ Some d → is_rule d ≡ false → unless_kind (is_rule d) MultipleTypes d (P // codes "additionalProperties") ≡ []
       refused d q e =
-          (nothing_in (unless_kind (is_rule d) MultipleTypes d (P // codes "additionalProperties")) _
+          (nothing_in _ _
           (sym (additional_malformations W ms d P) ∙ clean_among W ms P (listed ms) clean (codes "additionalProperties") d q)).0
 
       of : (d : Data) (b : Bool) → at_name (codes "additionalProperties") ≡ Some d → is_rule d ≡ b → b ≡ true
@@ -135,7 +135,7 @@ module _ (W : World) (ms : Members) (P : Path) (clean : flat_map (λ m. member_m
 
       by : (o : Option Data) → at_name (codes "additionalProperties") ≡ o → IsRule o
       by None q = tt
-      by (Some d) q = of d (is_rule d) q refl
+      by (Some d) q = of d _ q refl
 
   pub others_free : not (is_restricted ms) ≡ allows_others (at_name (codes "additionalProperties"))
   others_free = by (at_name (codes "additionalProperties")) is_rule_there
@@ -162,8 +162,8 @@ module _ (W : World) (ms : Members) (P : Path) (clean : flat_map (λ m. member_m
     pub fused : fuses_two (read_members step ms) ≡ is_some (fused_pair ms)
     fused =
         (λ i. here i && (ap not (restricted_read step ms) ∙ others_free) i && not (patterned i) && nat_lt (length (entries i)) HASHMAP_THRESHOLD && are_two (listed_names i))
-        ∙ are_fused_names step (P // codes "required") (at_name (codes "properties")) (at_name (codes "required")) (at_name (codes "patternProperties"))
-        (allows_others (at_name (codes "additionalProperties"))) an_object texts_listed
+        ∙ are_fused_names step _ _ _ _
+        _ an_object texts_listed
       where
         here : declares (read_members step ms) ≡ is_some (at_name (codes "properties"))
         here = is_present_read step ms (codes "properties") ∙ ap is_some (sym (lookup_listed (codes "properties") ms))

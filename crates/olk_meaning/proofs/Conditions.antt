@@ -20,25 +20,25 @@ use Rattle.olk_spec.proofs.Walks.{same_name, neither}
 use Rattle.olk_spec.proofs.Reading.{place, lookup_listed, whole_read, is_present_read, wholes_there, wholes_absent, wholes_at_read}
 use Rattle.olk_meaning.specs.Members.{member_accepts, member_asks, member_report, member_child}
 use Rattle.olk_meaning.specs.Conditions.{is_condition, is_conditional_name, is_read_beside, is_restriction, is_restricted, Known, IsKnown}
-use Rattle.olk_meaning.proofs.Facts.{nothing_first, nothing_last}
+use Rattle.olk_meaning.proofs.Facts.{accepts_it, asks_it, finds_it, nothing_first, nothing_last}
 use Rattle.olk_meaning.proofs.TakenOver.{absent_if}
 
 -- ---- the three names
 
 pub conditional_named : (k : Name) → is_conditional_name k ≡ true → (k ≡ codes "if") ⊎ (k ≡ codes "then") ⊎ (k ≡ codes "else")
-conditional_named k e = by (bytes_eq k (codes "if")) (bytes_eq k (codes "then")) (bytes_eq k (codes "else")) refl refl refl e
+conditional_named k e = by (bytes_eq k _) _ _ refl refl refl e
   where
     by : (a b c : Bool) → bytes_eq k (codes "if") ≡ a → bytes_eq k (codes "then") ≡ b → bytes_eq k (codes "else") ≡ c → (a || (b || (c || false))) ≡ true
         → (k ≡ codes "if") ⊎ (k ≡ codes "then") ⊎ (k ≡ codes "else")
-    by true b c p q r h = inl (same_name k (codes "if") p)
-    by false true c p q r h = inr (inl (same_name k (codes "then") q))
-    by false false true p q r h = inr (inr (same_name k (codes "else") r))
+    by true b c p q r h = inl (same_name k _ p)
+    by false true c p q r h = inr (inl (same_name k _ q))
+    by false false true p q r h = inr (inr (same_name k _ r))
     by false false false p q r h = absurd (true≢false (sym h))
 
 -- the others need not know their neighbours
 pub known_alone : (c : Known) (ms : Members) (k : Name) → is_read_beside k ≡ false → IsKnown c ms k
 known_alone c ms k e =
-    let apart = neither (is_conditional_name k) (bytes_eq k (codes "patternProperties")) e in (
+    let apart = neither (is_conditional_name k) (bytes_eq k _) e in (
       (λ q. absurd (true≢false (sym q ∙ apart.0))),
       λ q. absurd (true≢false (sym (ap (λ n. bytes_eq n (codes "patternProperties")) q) ∙ apart.1)),
     )
@@ -95,114 +95,118 @@ module _ (W : World) (u : Bool) (v : Data) where
   case_shown b L Q (Some d) = put_if b (tree W u d v L Q) []
 
 module _ (W : World) (ms : Members) (u : Bool) (v : Data) where
+  -- a schema, with its parts' meanings, to its own
+  abbrev to_meaning : Schema Meaning → Meaning
+  to_meaning = meaning_step W u
+
   abbrev neighbours : Keywords Meaning
-  neighbours = read_members (meaning_step W u) ms
+  neighbours = read_members to_meaning ms
 
   -- ---- where `if` is not read
 
   module _ (d : Data) (alone : is_condition ms ≡ false) where
     pub if_shows_alone : (P Q : Path) → member_child W ms (codes "if", d) if_keyword u v P Q ≡ []
     if_shows_alone P Q =
-        ap (λ b. put_if b (plain (P // codes "if") Q (put_if ((read (meaning_step W u) d).whole.answer.accepts v)
-        ((read (meaning_step W u) d).whole.answer.tree v (P // codes "if") Q) [] ++ case_trees W u neighbours v P Q (codes "if") (read (meaning_step W u) d)
-        ((read (meaning_step W u) d).whole.answer.accepts v) (codes "then") ++ case_trees W u neighbours v P Q (codes "if") (read (meaning_step W u) d)
-        (not ((read (meaning_step W u) d).whole.answer.accepts v)) (codes "else"))) []) (condition_read (meaning_step W u) ms ∙ alone)
+        ap (λ b. put_if b (plain (P // codes "if") Q (put_if ((read to_meaning d).whole.answer.accepts v)
+        ((read to_meaning d).whole.answer.tree v (P // codes "if") Q) [] ++ case_trees W u neighbours v P Q (codes "if") (read to_meaning d)
+        ((read to_meaning d).whole.answer.accepts v) (codes "then") ++ case_trees W u neighbours v P Q (codes "if") (read to_meaning d)
+        (not ((read to_meaning d).whole.answer.accepts v)) (codes "else"))) []) (condition_read to_meaning ms ∙ alone)
 
   -- `then` and `else` without `if`
   module _ (d : Data) (absent : lookup_name (codes "if") (listed ms) ≡ None) where
     none : wholes_at neighbours (codes "if") ≡ []
-    none = wholes_absent (meaning_step W u) ms (codes "if") (sym (lookup_listed (codes "if") ms) ∙ absent)
+    none = wholes_absent to_meaning ms (codes "if") (sym (lookup_listed (codes "if") ms) ∙ absent)
 
     pub then_accepts_alone : member_accepts W ms (codes "then", d) then_keyword u v ≡ true
     then_accepts_alone =
-        ap (λ ss. list_all (λ a. a.sub.answer.accepts a.value) (put_if (list_any (λ s. s.answer.accepts v) ss) (asked (read (meaning_step W u) d).whole v (codes "then" ∷ []) []) []) && true) none
+        ap (λ ss. list_all accepts_it (put_if (list_any (λ s. s.answer.accepts v) ss) (asked (read to_meaning d).whole v (codes "then" ∷ []) []) []) && true) none
 
     pub else_accepts_alone : member_accepts W ms (codes "else", d) else_keyword u v ≡ true
     else_accepts_alone =
-        ap (λ ss. list_all (λ a. a.sub.answer.accepts a.value) (put_if (list_any (λ s. not (s.answer.accepts v)) ss)
-        (asked (read (meaning_step W u) d).whole v (codes "else" ∷ []) []) []) && true) none
+        ap (λ ss. list_all accepts_it (put_if (list_any (λ s. not (s.answer.accepts v)) ss)
+        (asked (read to_meaning d).whole v (codes "else" ∷ []) []) []) && true) none
 
     pub then_report_alone : (P Q : Path) → member_report W ms (codes "then", d) then_keyword u v P Q ≡ []
     then_report_alone P Q =
-        ap (λ ss. flat_map (λ a. a.sub.answer.report a.value (down P a.in_schema) (down Q a.in_instance))
-        (put_if (list_any (λ s. s.answer.accepts v) ss) (asked (read (meaning_step W u) d).whole v (codes "then" ∷ []) []) []) ++ []) none
+        ap (λ ss. flat_map (finds_it P Q)
+        (put_if (list_any (λ s. s.answer.accepts v) ss) (asked (read to_meaning d).whole v (codes "then" ∷ []) []) []) ++ []) none
 
     pub else_report_alone : (P Q : Path) → member_report W ms (codes "else", d) else_keyword u v P Q ≡ []
     else_report_alone P Q =
-        ap (λ ss. flat_map (λ a. a.sub.answer.report a.value (down P a.in_schema) (down Q a.in_instance))
-        (put_if (list_any (λ s. not (s.answer.accepts v)) ss) (asked (read (meaning_step W u) d).whole v (codes "else" ∷ []) []) []) ++ []) none
+        ap (λ ss. flat_map (finds_it P Q)
+        (put_if (list_any (λ s. not (s.answer.accepts v)) ss) (asked (read to_meaning d).whole v (codes "else" ∷ []) []) []) ++ []) none
 
   -- ---- where it is read
 
   -- `if` is d
   module _ (d : Data) (there : lookup_name (codes "if") (listed ms) ≡ Some d) where
-    at_if : wholes_at neighbours (codes "if") ≡ place (meaning_step W u) d ∷ []
-    at_if = wholes_there (meaning_step W u) ms (codes "if") d (sym (lookup_listed (codes "if") ms) ∙ there)
+    at_if : wholes_at neighbours (codes "if") ≡ place to_meaning d ∷ []
+    at_if = wholes_there to_meaning ms (codes "if") d (sym (lookup_listed (codes "if") ms) ∙ there)
 
     if_holds : if_accepts neighbours v ≡ accepts W u d v
     unfolding meaning
-    if_holds = ap (list_any (λ s. s.answer.accepts v)) at_if ∙ or-false _
+    if_holds = ap (list_any _) at_if ∙ or-false _
 
     if_fails : if_refuses neighbours v ≡ not (accepts W u d v)
     unfolding meaning
-    if_fails = ap (list_any (λ s. not (s.answer.accepts v))) at_if ∙ or-false _
+    if_fails = ap (list_any _) at_if ∙ or-false _
 
     module _ (read_here : is_condition ms ≡ true) where
       pub if_asks_beside : member_asks W ms (codes "if", d) if_keyword u v ≡ asks W u d v
       unfolding meaning
-      if_asks_beside = nothing_first _ ∙ ap (λ b. cond b ((read (meaning_step W u) d).whole.answer.asks v) 0) (condition_read (meaning_step W u) ms ∙ read_here)
+      if_asks_beside = nothing_first _ ∙ ap (λ b. cond b ((read to_meaning d).whole.answer.asks v) 0) (condition_read to_meaning ms ∙ read_here)
 
     -- `then` is e, and `else` is e
     module _ (e : Data) where
       abbrev asked_where : Bool → Name → List Asked
-      asked_where b k = put_if b (asked (read (meaning_step W u) e).whole v (k ∷ []) []) []
+      asked_where b k = put_if b (asked (read to_meaning e).whole v (k ∷ []) []) []
 
-      accepted_where : (b : Bool) (k : Name) → (list_all (λ a. a.sub.answer.accepts a.value) (asked_where b k) && true) ≡ cond b (accepts W u e v) true
+      accepted_where : (b : Bool) (k : Name) → (list_all accepts_it (asked_where b k) && true) ≡ cond b (accepts W u e v) true
       unfolding meaning
       accepted_where true k = and-true _ ∙ and-true _
       accepted_where false k = refl
 
-      asks_where : (b : Bool) (k : Name) → sum_by (λ a. a.sub.answer.asks a.value) (asked_where b k) + 0 ≡ cond b (asks W u e v) 0
+      asks_where : (b : Bool) (k : Name) → sum_by asks_it (asked_where b k) + 0 ≡ cond b (asks W u e v) 0
       unfolding meaning
-      asks_where true k = nothing_last _ ∙ sum_by-cons (λ (a : Asked). a.sub.answer.asks a.value) (asked (read (meaning_step W u) e).whole v (k ∷ []) []) [] ∙ nothing_last _
+      asks_where true k = nothing_last _ ∙ sum_by-cons asks_it (asked (read to_meaning e).whole v (k ∷ []) []) [] ∙ nothing_last _
       asks_where false k = refl
 
-      found_where : (b : Bool) (k : Name) (P Q : Path) → flat_map (λ a. a.sub.answer.report a.value (down P a.in_schema) (down Q a.in_instance)) (asked_where b k)
+      found_where : (b : Bool) (k : Name) (P Q : Path) → flat_map (finds_it P Q) (asked_where b k)
           ++ [] ≡ cond b (report W u e v (P // k) Q) []
       unfolding meaning
       found_where true k P Q = append-nil _ ∙ append-nil _
       found_where false k P Q = refl
 
       pub then_accepts_beside : member_accepts W ms (codes "then", e) then_keyword u v ≡ cond (accepts W u d v) (accepts W u e v) true
-      then_accepts_beside = ap (λ b. list_all (λ a. a.sub.answer.accepts a.value) (asked_where b (codes "then")) && true) if_holds ∙ accepted_where (accepts W u d v) (codes "then")
+      then_accepts_beside = ap (λ b. list_all accepts_it (asked_where b (codes "then")) && true) if_holds ∙ accepted_where _ (codes "then")
 
       pub then_asks_beside : member_asks W ms (codes "then", e) then_keyword u v ≡ cond (accepts W u d v) (asks W u e v) 0
-      then_asks_beside = ap (λ b. sum_by (λ a. a.sub.answer.asks a.value) (asked_where b (codes "then")) + 0) if_holds ∙ asks_where (accepts W u d v) (codes "then")
+      then_asks_beside = ap (λ b. sum_by asks_it (asked_where b (codes "then")) + 0) if_holds ∙ asks_where _ (codes "then")
 
       pub then_report_beside : (P Q : Path) → member_report W ms (codes "then", e) then_keyword u v P Q ≡ cond (accepts W u d v) (report W u e v (P // codes "then") Q) []
       then_report_beside P Q =
-          ap (λ b. flat_map (λ a. a.sub.answer.report a.value (down P a.in_schema) (down Q a.in_instance)) (asked_where b (codes "then")) ++ []) if_holds
-          ∙ found_where (accepts W u d v) (codes "then") P Q
+          ap (λ b. flat_map (finds_it P Q) (asked_where b (codes "then")) ++ []) if_holds
+          ∙ found_where _ (codes "then") P Q
 
       pub else_accepts_beside : member_accepts W ms (codes "else", e) else_keyword u v ≡ cond (not (accepts W u d v)) (accepts W u e v) true
-      else_accepts_beside = ap (λ b. list_all (λ a. a.sub.answer.accepts a.value) (asked_where b (codes "else")) && true) if_fails ∙ accepted_where (not (accepts W u d v)) (codes "else")
+      else_accepts_beside = ap (λ b. list_all accepts_it (asked_where b (codes "else")) && true) if_fails ∙ accepted_where (not _) (codes "else")
 
       pub else_asks_beside : member_asks W ms (codes "else", e) else_keyword u v ≡ cond (not (accepts W u d v)) (asks W u e v) 0
-      else_asks_beside = ap (λ b. sum_by (λ a. a.sub.answer.asks a.value) (asked_where b (codes "else")) + 0) if_fails ∙ asks_where (not (accepts W u d v)) (codes "else")
+      else_asks_beside = ap (λ b. sum_by asks_it (asked_where b (codes "else")) + 0) if_fails ∙ asks_where (not _) (codes "else")
 
       pub else_report_beside : (P Q : Path) → member_report W ms (codes "else", e) else_keyword u v P Q ≡ cond (not (accepts W u d v)) (report W u e v (P // codes "else") Q) []
       else_report_beside P Q =
-          ap (λ b. flat_map (λ a. a.sub.answer.report a.value (down P a.in_schema) (down Q a.in_instance)) (asked_where b (codes "else")) ++ []) if_fails
-          ∙ found_where (not (accepts W u d v)) (codes "else") P Q
+          ap (λ b. flat_map (finds_it P Q) (asked_where b (codes "else")) ++ []) if_fails
+          ∙ found_where _ (codes "else") P Q
 
   -- what stands at a name, shown where the test holds
-  case_read : (d : Data) (b : Bool) (k : Name) (P Q : Path) → case_trees W u neighbours v P Q (codes "if") (read (meaning_step W u) d) b k ≡ case_shown W u v b (P // k) Q (lookup_name k (listed ms))
+  case_read : (d : Data) (b : Bool) (k : Name) (P Q : Path) → case_trees W u neighbours v P Q (codes "if") (read to_meaning d) b k ≡ case_shown W u v b (P // k) Q (lookup_name k (listed ms))
   unfolding meaning
   case_read d b k P Q =
-      ap (flat_map (λ s. put_if b (s.answer.tree v (P // k) Q) [])) (wholes_at_read (meaning_step W u) ms k ∙ ap (λ o. map (place (meaning_step W u)) (option_to_list o))
+      ap (flat_map (λ s. put_if b _ [])) (wholes_at_read to_meaning ms k ∙ ap (λ o. map (place to_meaning) (option_to_list o))
       (sym (lookup_listed k ms))) ∙ by (lookup_name k (listed ms))
     where
-      by : (o : Option Data) → flat_map (λ s. put_if b (s.answer.tree v (P // k) Q) []) (map (place (meaning_step W u)) (option_to_list o)) ≡ case_shown W u v b (P // k) Q o
+      by : (o : Option Data) → flat_map (λ s. put_if b (s.answer.tree v (P // k) Q) []) (map (place to_meaning) (option_to_list o)) ≡ case_shown W u v b (P // k) Q o
       by None = refl
       by (Some d) = append-nil _
 
@@ -210,10 +214,10 @@ module _ (W : World) (ms : Members) (u : Bool) (v : Data) where
       ≡ plain (P // codes "if") Q (put_if (accepts W u d v) (tree W u d v (P // codes "if") Q) [] ++ case_shown W u v (accepts W u d v) (P // codes "then") Q
       (lookup_name (codes "then") (listed ms)) ++ case_shown W u v (not (accepts W u d v)) (P // codes "else") Q (lookup_name (codes "else") (listed ms))) ∷ []
   unfolding meaning
-  if_shows_beside d e P Q = λ i. put_if ((condition_read (meaning_step W u) ms ∙ e) i)
-      (plain (P // codes "if") Q (put_if ((whole_read (meaning_step W u) d i).answer.accepts v) ((whole_read (meaning_step W u) d i).answer.tree v (P // codes "if") Q) []
-      ++ case_read d ((whole_read (meaning_step W u) d i).answer.accepts v) (codes "then") P Q i
-      ++ case_read d (not ((whole_read (meaning_step W u) d i).answer.accepts v)) (codes "else") P Q i)) []
+  if_shows_beside d e P Q = λ i. put_if ((condition_read to_meaning ms ∙ e) i)
+      (plain (P // codes "if") Q (put_if ((whole_read to_meaning d i).answer.accepts v) ((whole_read to_meaning d i).answer.tree v (P // codes "if") Q) []
+      ++ case_read d ((whole_read to_meaning d i).answer.accepts v) (codes "then") P Q i
+      ++ case_read d (not ((whole_read to_meaning d i).answer.accepts v)) (codes "else") P Q i)) []
 
 -- ---- one of the three where none is read
 
@@ -228,7 +232,7 @@ pub unpaired_means_nothing : (W : World) (ms : Members) (m : Name × Data) → i
 unpaired_means_nothing W ms m e unread there = by (conditional_named m.0 e)
   where
     absent : (n : Name) → is_condition ms ≡ is_some (lookup_name n (listed ms)) → lookup_name n (listed ms) ≡ None
-    absent n q = absent_if (lookup_name n (listed ms)) (sym q ∙ unread)
+    absent n q = absent_if _ (sym q ∙ unread)
 
     by : (m.0 ≡ codes "if") ⊎ (m.0 ≡ codes "then") ⊎ (m.0 ≡ codes "else") → MeansNothing W ms m
     by (inl q) = subst (λ n. MeansNothing W ms (n, m.1)) (sym q) record {

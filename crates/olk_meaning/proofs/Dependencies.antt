@@ -13,7 +13,7 @@ use Rattle.olk_spec.specs.World.{World}
 use Rattle.olk_spec.specs.Vocabulary.{dependent_required, dependent_schemas, dependencies}
 use Rattle.olk_spec.specs.Faults.{Fault, ◌∼◌, like_empty, like_through}
 use Rattle.olk_spec.specs.Schemas.{Schema, Keywords, read, members, has, texts, is_array}
-use Rattle.olk_spec.specs.Meanings.{asked_whole}
+use Rattle.olk_spec.specs.Meanings.{Meaning, asked_whole}
 use Rattle.olk_spec.specs.Meaning.{accepts, asks, report, tree, meaning, meaning_step}
 use Rattle.olk_spec.specs.Accepts.{missing, due}
 use Rattle.olk_spec.specs.Reports.{required_faults}
@@ -25,7 +25,7 @@ use Rattle.olk_spec.proofs.Maps.{flat_map-map, map-map, filter_once-map}
 use Rattle.olk_spec.proofs.Reading.{entry, entries_read, schema_of_read}
 use Rattle.olk_meaning.specs.Members.{member_accepts, member_asks, member_report, member_child}
 use Rattle.olk_meaning.specs.Dependencies.{due_entries, list_entries, schema_entries, are_lists, dependency_accepts, dependency_asks, dependency_report, dependency_shown}
-use Rattle.olk_meaning.proofs.Facts.{at_whole_accept, at_whole_ask, at_whole_find, nothing_first, nothing_last}
+use Rattle.olk_meaning.proofs.Facts.{accepts_it, asks_it, finds_it, shows_it, at_whole_accept, at_whole_ask, at_whole_find, nothing_first, nothing_last}
 use Rattle.olk_meaning.proofs.Children.{whole_shown}
 
 -- ---- those of a list, in two parts
@@ -37,7 +37,7 @@ module _ {X : Type 0} (h a : X → Bool) where
     where
       by : (b : Bool) → filter_once h (filter_once a xs) ≡ filter_once (λ y. h y && a y) xs → filter_once h (put_if b x (filter_once a xs)) ≡ put_if (h x && b) x (filter_once (λ y. h y && a y) xs)
       by true e = λ i. put_if (sym (and-true (h x)) i) x (e i)
-      by false e = e ∙ ap (λ b. put_if b x (filter_once (λ y. h y && a y) xs)) (sym (and-false (h x)))
+      by false e = e ∙ ap (λ b. put_if b x (filter_once (λ y. h y && a y) xs)) (sym (and-false _))
 
 module _ {X : Type 0} (a : X → Bool) where
   all_those : (xs : List X) → list_all a xs ≡ true → filter_once a xs ≡ xs
@@ -85,13 +85,13 @@ module _ {X : Type 0} (h a : X → Bool) where
   module _ (f g c : X → List Fault) (same : (x : X) → c x ≡ cond (a x) (g x) (f x)) where
     found_parted : (xs : List X) → flat_map f (unlike xs) ++ flat_map g (alike xs) ∼ flat_map c (filter_once h xs)
     found_parted [] = like_empty
-    found_parted (x ∷ xs) = by (h x) (a x) (same x) (flat_map f (unlike xs)) (flat_map g (alike xs)) refl refl (found_parted xs)
+    found_parted (x ∷ xs) = by (h x) (a x) (same x) _ _ refl refl (found_parted xs)
       where
         by : (p q : Bool) → c x ≡ cond q (g x) (f x) → (l r : List Fault) → flat_map f (unlike xs) ≡ l → flat_map g (alike xs) ≡ r → l ++ r ∼ flat_map c (filter_once h xs)
             → flat_map f (put_if (p && not q) x (unlike xs)) ++ flat_map g (put_if (p && q) x (alike xs)) ∼ flat_map c (put_if p x (filter_once h xs))
         by true true e l r el er k = subst₂ (λ y z. y ∼ z ++ flat_map c (filter_once h xs)) (λ i. sym el i ++ (g x ++ sym er i)) (sym e)
-            (like_through (subst₂ (λ y z. y ∼ z) (append_assoc l (g x) r) (append_assoc (g x) l r) (∼_behind r (∼_swap l (g x)))) (∼_before (g x) k))
-        by true false e l r el er k = subst₂ (λ y z. y ∼ z ++ flat_map c (filter_once h xs)) (sym (append_assoc (f x) l r) ∙ (λ i. (f x ++ sym el i) ++ sym er i)) (sym e) (∼_before (f x) k)
+            (like_through (subst₂ (λ y z. y ∼ z) (append_assoc l _ r) (append_assoc _ l r) (∼_behind r (∼_swap l (g x)))) (∼_before _ k))
+        by true false e l r el er k = subst₂ (λ y z. y ∼ z ++ flat_map c (filter_once h xs)) (sym (append_assoc _ l r) ∙ (λ i. (f x ++ sym el i) ++ sym er i)) (sym e) (∼_before (f x) k)
         by false q e l r el er k = subst (λ y. y ∼ flat_map c (filter_once h xs)) (λ i. sym el i ++ sym er i) k
 
 -- ---- lists of names, and the entries that are due
@@ -105,39 +105,47 @@ module _ {X : Type 0} (step : Schema X → X) (d v : Data) where
       ∙ filter_once-map (λ e. has e.0 v) (λ e. has e.0 v) (λ e. (e.0, texts e.1)) (λ e. refl) (list_entries d)
 
   due_lists : are_lists d ≡ true → due (read step d) v ≡ map (λ e. (e.0, texts e.1)) (due_entries d v)
-  due_lists lists = due_read ∙ ap (λ es. map {A = Name × Data} (λ e. (e.0, texts e.1)) (filter_once (λ e. has e.0 v) es)) (all_those (λ e. is_array e.1) (members d) lists)
+  due_lists lists = due_read ∙ ap (λ es. map {A = Name × Data} (λ e. (e.0, texts e.1)) (filter_once (λ e. has e.0 v) es)) (all_those _ (members d) lists)
 
   entries_due : filter_once (λ e. has e.0 v) (read step d).entries ≡ map (entry step) (due_entries d v)
-  entries_due = ap (filter_once (λ e. has e.0 v)) (entries_read step d) ∙ filter_once-map (λ e. has e.0 v) (λ e. has e.0 v) (entry step) (λ e. refl) (members d)
+  entries_due = ap (filter_once _) (entries_read step d) ∙ filter_once-map _ _ (entry step) (λ e. refl) (members d)
 
   schemas_due : filter_once (λ e. has e.0 v && not (is_array e.1.schema)) (read step d).entries ≡ map (entry step) (filter_once (λ e. has e.0 v && not (is_array e.1)) (members d))
   schemas_due =
-      ap (filter_once (λ e. has e.0 v && not (is_array e.1.schema))) (entries_read step d) ∙ filter_once-map (λ e. has e.0 v && not (is_array e.1.schema))
-      (λ e. has e.0 v && not (is_array e.1)) (entry step) (λ e. refl) (members d)
+      ap (filter_once _) (entries_read step d) ∙ filter_once-map _
+      _ (entry step) (λ e. refl) (members d)
 
   lists_due : due (read step d) v ≡ map (λ e. (e.0, texts e.1)) (filter_once (λ e. has e.0 v && is_array e.1) (members d))
-  lists_due = due_read ∙ ap (map {A = Name × Data} (λ e. (e.0, texts e.1))) (filter_once-filter_once (λ e. has e.0 v) (λ e. is_array e.1) (members d))
+  lists_due = due_read ∙ ap (map {A = Name × Data} (λ e. (e.0, texts e.1))) (filter_once-filter_once _ _ (members d))
 
 module _ (W : World) (ms : Members) (d : Data) (u : Bool) (v : Data) where
+  -- a schema, with its parts' meanings, to its own
+  abbrev to_meaning : Schema Meaning → Meaning
+  to_meaning = meaning_step W u
+
   -- ---- dependentRequired
 
   module _ (lists : are_lists d ≡ true) where
     pub dependent_required_accepts : member_accepts W ms (codes "dependentRequired", d) dependent_required u v ≡ list_all (λ e. is_empty (missing (texts e.1) v)) (due_entries d v)
     dependent_required_accepts =
-        ap (list_all (λ e. is_empty (missing e.1 v))) (due_lists (meaning_step W u) d v lists) ∙ list_all-map (λ e. is_empty (missing e.1 v)) (λ e. (e.0, texts e.1)) (due_entries d v)
+        ap (list_all (λ e. is_empty (missing e.1 v))) (due_lists to_meaning d v lists) ∙ list_all-map (λ e. is_empty (missing e.1 v)) (λ e. (e.0, texts e.1)) (due_entries d v)
 
-    pub dependent_required_report : (P Q : Path) → member_report W ms (codes "dependentRequired", d) dependent_required u v P Q ≡ flat_map
-        (λ e. required_faults (texts e.1) v (P // codes "dependentRequired") Q) (due_entries d v)
-    dependent_required_report P Q =
-        ap (flat_map (λ e. required_faults e.1 v (P // codes "dependentRequired") Q)) (due_lists (meaning_step W u) d v lists)
-        ∙ flat_map-map (λ e. required_faults e.1 v (P // codes "dependentRequired") Q) (λ e. required_faults (texts e.1) v (P // codes "dependentRequired") Q)
-        (λ e. (e.0, texts e.1)) (λ e. refl) (due_entries d v)
+    module _ (P Q : Path) where
+      abbrev at_required : Path
+      at_required = P // codes "dependentRequired"
 
-    pub dependent_required_child : (P Q : Path) → member_child W ms (codes "dependentRequired", d) dependent_required u v P Q
-        ≡ plain (P // codes "dependentRequired") Q (map (λ e. erring (P // codes "dependentRequired") Q (required_faults (texts e.1) v (P // codes "dependentRequired") Q)) (due_entries d v)) ∷ []
-    dependent_required_child P Q = ap (λ ts. plain (P // codes "dependentRequired") Q ts ∷ [])
-        (ap (map (λ e. erring (P // codes "dependentRequired") Q (required_faults e.1 v (P // codes "dependentRequired") Q))) (due_lists (meaning_step W u) d v lists)
-        ∙ map-map (λ e. erring (P // codes "dependentRequired") Q (required_faults e.1 v (P // codes "dependentRequired") Q)) (λ e. erring (P // codes "dependentRequired") Q (required_faults (texts e.1) v (P // codes "dependentRequired") Q)) (λ e. (e.0, texts e.1)) (λ e. refl) (due_entries d v))
+      pub dependent_required_report : member_report W ms (codes "dependentRequired", d) dependent_required u v P Q ≡ flat_map
+          (λ e. required_faults (texts e.1) v at_required Q) (due_entries d v)
+      dependent_required_report =
+          ap (flat_map _) (due_lists to_meaning d v lists)
+          ∙ flat_map-map _ _
+          (λ e. (e.0, texts e.1)) (λ e. refl) (due_entries d v)
+
+      pub dependent_required_child : member_child W ms (codes "dependentRequired", d) dependent_required u v P Q
+          ≡ plain at_required Q (map (λ e. erring at_required Q (required_faults (texts e.1) v at_required Q)) (due_entries d v)) ∷ []
+      dependent_required_child = ap (λ ts. plain at_required Q ts ∷ [])
+          (ap (map (λ e. erring _ Q _)) (due_lists to_meaning d v lists)
+          ∙ map-map (λ e. erring _ Q _) (λ e. erring _ Q _) (λ e. (e.0, texts e.1)) (λ e. refl) (due_entries d v))
 
   pub dependent_required_asks : member_asks W ms (codes "dependentRequired", d) dependent_required u v ≡ 0
   dependent_required_asks = nothing_first 0
@@ -148,74 +156,78 @@ module _ (W : World) (ms : Members) (d : Data) (u : Bool) (v : Data) where
   unfolding meaning
   dependent_schemas_accepts =
       and-true _
-      ∙ ap (λ es. list_all (λ a. a.sub.answer.accepts a.value) (asked_whole (codes "dependentSchemas") v es)) (entries_due (meaning_step W u) d v)
-      ∙ at_whole_accept (meaning_step W u) (codes "dependentSchemas") v (due_entries d v)
+      ∙ ap (λ es. list_all accepts_it (asked_whole (codes "dependentSchemas") v es)) (entries_due to_meaning d v)
+      ∙ at_whole_accept to_meaning (codes "dependentSchemas") v (due_entries d v)
 
   pub dependent_schemas_asks : member_asks W ms (codes "dependentSchemas", d) dependent_schemas u v ≡ sum_by (λ e. asks W u e.1 v) (due_entries d v)
   unfolding meaning
   dependent_schemas_asks =
       nothing_last _
-      ∙ ap (λ es. sum_by (λ a. a.sub.answer.asks a.value) (asked_whole (codes "dependentSchemas") v es)) (entries_due (meaning_step W u) d v)
-      ∙ at_whole_ask (meaning_step W u) (codes "dependentSchemas") v (due_entries d v)
+      ∙ ap (λ es. sum_by asks_it (asked_whole (codes "dependentSchemas") v es)) (entries_due to_meaning d v)
+      ∙ at_whole_ask to_meaning (codes "dependentSchemas") v (due_entries d v)
 
   pub dependent_schemas_report : (P Q : Path) → member_report W ms (codes "dependentSchemas", d) dependent_schemas u v P Q ≡ flat_map
       (λ e. report W u e.1 v (P // codes "dependentSchemas" // e.0) Q) (due_entries d v)
   unfolding meaning
   dependent_schemas_report P Q =
       append-nil _
-      ∙ ap (λ es. flat_map (λ a. a.sub.answer.report a.value (down P a.in_schema) (down Q a.in_instance)) (asked_whole (codes "dependentSchemas") v es)) (entries_due (meaning_step W u) d v)
-      ∙ at_whole_find (meaning_step W u) (codes "dependentSchemas") v P Q (due_entries d v)
+      ∙ ap (λ es. flat_map (finds_it P Q) (asked_whole (codes "dependentSchemas") v es)) (entries_due to_meaning d v)
+      ∙ at_whole_find to_meaning (codes "dependentSchemas") v P Q (due_entries d v)
 
   pub dependent_schemas_child : (P Q : Path) → member_child W ms (codes "dependentSchemas", d) dependent_schemas u v P Q ≡ plain (P // codes "dependentSchemas") Q
       (map (λ e. tree W u e.1 v (P // codes "dependentSchemas" // e.0) Q) (due_entries d v)) ∷ []
   unfolding meaning
   dependent_schemas_child P Q = ap (λ ts. plain (P // codes "dependentSchemas") Q ts ∷ [])
-      (ap (λ es. map (λ a. a.sub.answer.tree a.value (down P a.in_schema) (down Q a.in_instance)) (asked_whole (codes "dependentSchemas") v es)) (entries_due (meaning_step W u) d v)
-      ∙ whole_shown W u v (meaning_step W u) (codes "dependentSchemas") P Q (due_entries d v))
+      (ap (λ es. map (shows_it P Q) (asked_whole (codes "dependentSchemas") v es)) (entries_due to_meaning d v)
+      ∙ whole_shown W u v to_meaning (codes "dependentSchemas") P Q (due_entries d v))
 
   -- ---- dependencies
 
   pub dependencies_accepts : member_accepts W ms (codes "dependencies", d) dependencies u v ≡ list_all (λ e. dependency_accepts W u e v) (due_entries d v)
   unfolding meaning
   dependencies_accepts =
-      (λ i. list_all (λ a. a.sub.answer.accepts a.value) (asked_whole (codes "dependencies") v (schemas_due (meaning_step W u) d v i))
-      && list_all (λ e. is_empty (missing e.1 v)) (lists_due (meaning_step W u) d v i))
-      ∙ (λ i. at_whole_accept (meaning_step W u) (codes "dependencies") v (filter_once (λ e. has e.0 v && not (is_array e.1)) (members d)) i
+      (λ i. list_all accepts_it (asked_whole (codes "dependencies") v (schemas_due to_meaning d v i))
+      && list_all (λ e. is_empty (missing e.1 v)) (lists_due to_meaning d v i))
+      ∙ (λ i. at_whole_accept to_meaning (codes "dependencies") v (filter_once (λ e. has e.0 v && not (is_array e.1)) (members d)) i
       && list_all-map (λ (e : Name × List Name). is_empty (missing e.1 v)) (λ e. (e.0, texts e.1)) (filter_once (λ e. has e.0 v && is_array e.1) (members d)) i)
-      ∙ all_parted (λ e. has e.0 v) (λ e. is_array e.1) (λ e. accepts W u e.1 v) (λ e. is_empty (missing (texts e.1) v)) (λ e. dependency_accepts W u e v) (λ e. refl) (members d)
+      ∙ all_parted (λ e. has e.0 v) (λ e. is_array e.1) (λ e. accepts W u e.1 v) (λ e. is_empty _) (λ e. dependency_accepts W u e v) (λ e. refl) (members d)
 
   pub dependencies_asks : member_asks W ms (codes "dependencies", d) dependencies u v ≡ sum_by (λ e. dependency_asks W u e v) (due_entries d v)
   unfolding meaning
   dependencies_asks =
       nothing_last _
-      ∙ ap (λ es. sum_by (λ a. a.sub.answer.asks a.value) (asked_whole (codes "dependencies") v es)) (schemas_due (meaning_step W u) d v)
-      ∙ at_whole_ask (meaning_step W u) (codes "dependencies") v (filter_once (λ e. has e.0 v && not (is_array e.1)) (members d))
+      ∙ ap (λ es. sum_by asks_it (asked_whole (codes "dependencies") v es)) (schemas_due to_meaning d v)
+      ∙ at_whole_ask to_meaning (codes "dependencies") v (filter_once _ (members d))
       ∙ sum_parted (λ e. has e.0 v) (λ e. is_array e.1) (λ e. asks W u e.1 v) (λ e. dependency_asks W u e v) (λ e. refl) (members d)
 
-  -- the lists' faults stand behind those of the schemas
-  pub dependencies_report : (P Q : Path) → member_report W ms (codes "dependencies", d) dependencies u v P Q ∼ flat_map (λ e. dependency_report W u e v (P // codes "dependencies") Q) (due_entries d v)
-  unfolding meaning
-  dependencies_report P Q = subst (λ fs. fs ∼ flat_map (λ e. dependency_report W u e v (P // codes "dependencies") Q) (due_entries d v)) (sym parted)
-      (found_parted (λ e. has e.0 v) (λ e. is_array e.1) (λ e. report W u e.1 v (P // codes "dependencies" // e.0) Q)
-      (λ e. required_faults (texts e.1) v (P // codes "dependencies") Q) (λ e. dependency_report W u e v (P // codes "dependencies") Q) (λ e. refl) (members d))
-    where
-      parted : member_report W ms (codes "dependencies", d) dependencies u v P Q
-          ≡ flat_map (λ e. report W u e.1 v (P // codes "dependencies" // e.0) Q) (filter_once (λ e. has e.0 v && not (is_array e.1)) (members d))
-          ++ flat_map (λ e. required_faults (texts e.1) v (P // codes "dependencies") Q) (filter_once (λ e. has e.0 v && is_array e.1) (members d))
-      parted =
-          (λ i. flat_map (λ a. a.sub.answer.report a.value (down P a.in_schema) (down Q a.in_instance)) (asked_whole (codes "dependencies") v (schemas_due (meaning_step W u) d v i))
-          ++ flat_map (λ e. required_faults e.1 v (P // codes "dependencies") Q) (lists_due (meaning_step W u) d v i))
-          ∙ (λ i. at_whole_find (meaning_step W u) (codes "dependencies") v P Q (filter_once (λ e. has e.0 v && not (is_array e.1)) (members d)) i
-          ++ flat_map-map (λ (e : Name × List Name). required_faults e.1 v (P // codes "dependencies") Q) (λ e. required_faults (texts e.1) v (P // codes "dependencies") Q)
-          (λ e. (e.0, texts e.1)) (λ e. refl) (filter_once (λ e. has e.0 v && is_array e.1) (members d)) i)
+  module _ (P Q : Path) where
+    abbrev at_dependencies : Path
+    at_dependencies = P // codes "dependencies"
 
-  pub dependencies_child : (P Q : Path) → member_child W ms (codes "dependencies", d) dependencies u v P Q ≡ plain (P // codes "dependencies") Q
-      (map (λ e. dependency_shown W u e v (P // codes "dependencies") Q) (due_entries d v)) ∷ []
-  unfolding meaning
-  dependencies_child P Q = ap (λ ts. plain (P // codes "dependencies") Q ts ∷ [])
-      (ap (map (λ e. cond (is_array e.1.schema) (erring (P // codes "dependencies") Q (required_faults (texts e.1.schema) v (P // codes "dependencies") Q))
-      (e.1.answer.tree v (P // codes "dependencies" // e.0) Q))) (entries_due (meaning_step W u) d v)
-      ∙ map-map (λ e. cond (is_array e.1.schema) (erring (P // codes "dependencies") Q (required_faults (texts e.1.schema) v (P // codes "dependencies") Q)) (e.1.answer.tree v (P // codes "dependencies" // e.0) Q)) (λ e. dependency_shown W u e v (P // codes "dependencies") Q) (entry (meaning_step W u)) (λ e. refl) (due_entries d v))
+    -- the lists' faults stand behind those of the schemas
+    pub dependencies_report : member_report W ms (codes "dependencies", d) dependencies u v P Q ∼ flat_map (λ e. dependency_report W u e v at_dependencies Q) (due_entries d v)
+    unfolding meaning
+    dependencies_report = subst (λ fs. fs ∼ flat_map (λ e. dependency_report W u e v at_dependencies Q) (due_entries d v)) (sym parted)
+        (found_parted _ _ _
+        _ _ (λ e. refl) (members d))
+      where
+        parted : member_report W ms (codes "dependencies", d) dependencies u v P Q
+            ≡ flat_map (λ e. report W u e.1 v (at_dependencies // e.0) Q) (filter_once (λ e. has e.0 v && not (is_array e.1)) (members d))
+            ++ flat_map (λ e. required_faults (texts e.1) v at_dependencies Q) (filter_once (λ e. has e.0 v && is_array e.1) (members d))
+        parted =
+            (λ i. flat_map (finds_it P Q) (asked_whole (codes "dependencies") v (schemas_due to_meaning d v i))
+            ++ flat_map (λ e. required_faults e.1 v at_dependencies Q) (lists_due to_meaning d v i))
+            ∙ (λ i. at_whole_find to_meaning (codes "dependencies") v P Q (filter_once (λ e. has e.0 v && not (is_array e.1)) (members d)) i
+            ++ flat_map-map (λ (e : Name × List Name). required_faults e.1 v at_dependencies Q) (λ e. required_faults (texts e.1) v at_dependencies Q)
+            (λ e. (e.0, texts e.1)) (λ e. refl) (filter_once (λ e. has e.0 v && is_array e.1) (members d)) i)
+
+    pub dependencies_child : member_child W ms (codes "dependencies", d) dependencies u v P Q ≡ plain at_dependencies Q
+        (map (λ e. dependency_shown W u e v at_dependencies Q) (due_entries d v)) ∷ []
+    unfolding meaning
+    dependencies_child = ap (λ ts. plain at_dependencies Q ts ∷ [])
+        (ap (map (λ e. cond (is_array e.1.schema) _
+        _)) (entries_due to_meaning d v)
+        ∙ map-map (λ e. cond (is_array e.1.schema) _ _) (λ e. dependency_shown W u e v _ Q) (entry to_meaning) (λ e. refl) (due_entries d v))
 
 -- ---- what is wrong with them, and the places that they read
 
@@ -224,12 +236,12 @@ module _ {X : Type 0} (step : Schema X → X) (d : Data) (k : Name) where
     pub dependent_required_refusals : own_refusals W k (read step d) L dependent_required ≡ unless_object d L ++ flat_map (λ e. name_list_refusals e.0 e.1 L) (members d)
     dependent_required_refusals =
         (λ i. unless_object (schema_of_read step d i) L ++ flat_map (λ e. name_list_refusals e.0 e.1.schema L) (entries_read step d i))
-        ∙ ap (λ fs. unless_object d L ++ fs) (flat_map-map (λ e. name_list_refusals e.0 e.1.schema L) (λ e. name_list_refusals e.0 e.1 L) (entry step) (λ e. refl) (members d))
+        ∙ ap (λ fs. unless_object d L ++ fs) (flat_map-map _ _ (entry step) (λ e. refl) (members d))
 
     pub dependencies_refusals : own_refusals W k (read step d) L dependencies ≡ unless_object d L ++ flat_map (λ e. not_a_text e.1 L) (members d)
     dependencies_refusals =
         (λ i. unless_object (schema_of_read step d i) L ++ flat_map (λ e. not_a_text e.1.schema L) (entries_read step d i))
-        ∙ ap (λ fs. unless_object d L ++ fs) (flat_map-map (λ e. not_a_text e.1.schema L) (λ e. not_a_text e.1 L) (entry step) (λ e. refl) (members d))
+        ∙ ap (λ fs. unless_object d L ++ fs) (flat_map-map _ _ (entry step) (λ e. refl) (members d))
 
   module _ (S : Keywords X) where
     pub dependent_schemas_places : read_places k S (read step d) dependent_schemas ≡ each k (map (entry step) (members d))
@@ -237,5 +249,5 @@ module _ {X : Type 0} (step : Schema X → X) (d : Data) (k : Name) where
 
     pub dependencies_places : read_places k S (read step d) dependencies ≡ each k (map (entry step) (schema_entries d))
     dependencies_places = ap (each k)
-        (ap (filter_once (λ e. not (is_array e.1.schema))) (entries_read step d)
-        ∙ filter_once-map (λ e. not (is_array e.1.schema)) (λ e. not (is_array e.1)) (entry step) (λ e. refl) (members d))
+        (ap (filter_once _) (entries_read step d)
+        ∙ filter_once-map _ _ (entry step) (λ e. refl) (members d))

@@ -27,7 +27,7 @@ module _ {X : Type 0} where
 
   pub sum_of_those : (t : X → Bool) (f : X → ℕ) (xs : List X) → sum_by (λ x. cond (t x) (f x) 0) xs ≡ sum_by f (filter_once t xs)
   sum_of_those t f [] = refl
-  sum_of_those t f (x ∷ xs) = sum_by-cons (λ x. cond (t x) (f x) 0) x xs ∙ ap (λ n. cond (t x) (f x) 0 + n) (sum_of_those t f xs) ∙ by (t x)
+  sum_of_those t f (x ∷ xs) = sum_by-cons _ x xs ∙ ap (λ n. cond (t x) (f x) 0 + n) (sum_of_those t f xs) ∙ by (t x)
     where
       by : (b : Bool) → cond b (f x) 0 + sum_by f (filter_once t xs) ≡ sum_by f (put_if b x (filter_once t xs))
       by true = sym (sum_by-cons f x (filter_once t xs))
@@ -36,14 +36,14 @@ module _ {X : Type 0} where
 module _ {X Y : Type 0} where
   pub sum_by-flat_map : (g : X → List Y) (f : Y → ℕ) (xs : List X) → sum_by f (flat_map g xs) ≡ sum_by (λ x. sum_by f (g x)) xs
   sum_by-flat_map g f [] = refl
-  sum_by-flat_map g f (x ∷ xs) = sum_by-append f (g x) (flat_map g xs) ∙ ap (λ n. sum_by f (g x) + n) (sum_by-flat_map g f xs) ∙ sym (sum_by-cons (λ x. sum_by f (g x)) x xs)
+  sum_by-flat_map g f (x ∷ xs) = sum_by-append f (g x) (flat_map g xs) ∙ ap (λ n. sum_by f (g x) + n) (sum_by-flat_map g f xs) ∙ sym (sum_by-cons _ x xs)
 
   -- the inner sum outside
   pub sums_exchanged : (f : X → Y → ℕ) (xs : List X) (ys : List Y) → sum_by (λ x. sum_by (λ y. f x y) ys) xs ≡ sum_by (λ y. sum_by (λ x. f x y) xs) ys
   sums_exchanged f [] ys = sym (sum_of_none ys)
   sums_exchanged f (x ∷ xs) ys =
-      sum_by-cons (λ x. sum_by (λ y. f x y) ys) x xs ∙ ap (λ n. sum_by (λ y. f x y) ys + n) (sums_exchanged f xs ys)
-      ∙ sym (sum_of_both (λ y. f x y) (λ y. sum_by (λ x. f x y) xs) ys)
+      sum_by-cons (λ x. sum_by _ ys) x xs ∙ ap (λ n. sum_by (λ y. f x y) ys + n) (sums_exchanged f xs ys)
+      ∙ sym (sum_of_both _ _ ys)
       ∙ (λ i. sum_by (λ y. sym (sum_by-cons (λ z. f z y) x xs) i) ys)
 
 -- ---- those of which a test holds

@@ -12,7 +12,7 @@ use Rattle.serde_json.specs.Data.{Data, object, array, Members, Items}
 use Rattle.olk_spec.specs.Names.{Name, Path, ◌//◌, down, is_empty}
 use Rattle.olk_spec.specs.World.{World}
 use Rattle.olk_spec.specs.Vocabulary.{properties, required, all_of, any_of, not_keyword, leaf, unread}
-use Rattle.olk_spec.specs.Faults.{AnyOf, Not, Leaf, SingleType, object_type, fault, context}
+use Rattle.olk_spec.specs.Faults.{Fault, AnyOf, Not, Leaf, SingleType, object_type, fault, context}
 use Rattle.olk_spec.specs.Schemas.{Sub, Schema, read, answer_for, listed, numbered, at, members, texts, branches, is_object}
 use Rattle.olk_spec.specs.Malformed.{items_list, unless_array, not_a_text, each, malformations_step, malformations_at}
 use Rattle.olk_spec.specs.Meanings.{Meaning, Subschema, Asked, asked, asked_whole}
@@ -23,6 +23,22 @@ use Rattle.olk_spec.specs.Costs.{cost, cost_step, ◌⊕◌, total_cost}
 use Rattle.olk_spec.proofs.Reading.{entry, place, entries_read, items_read, branches_read, schema_of_read}
 use Rattle.olk_meaning.specs.Members.{member_accepts, member_asks, member_report, member_malformations}
 use Rattle.olk_spec.proofs.Maps.{flat_map-map, map-map}
+use Rattle.olk_spec.specs.Tree.{Tree}
+use Rattle.olk_meaning.proofs.Rows.{Rows}
+
+-- ---- what an asked subschema answers about its value
+
+abbrev pub accepts_it : Asked → Bool
+accepts_it a = a.sub.answer.accepts a.value
+
+abbrev pub asks_it : Asked → ℕ
+asks_it a = a.sub.answer.asks a.value
+
+abbrev pub finds_it : Path → Path → Asked → List Fault
+finds_it P Q a = a.sub.answer.report a.value (down P a.in_schema) (down Q a.in_instance)
+
+abbrev pub shows_it : Path → Path → Asked → Tree
+shows_it P Q a = a.sub.answer.tree a.value (down P a.in_schema) (down Q a.in_instance)
 
 -- ---- walks
 
@@ -33,7 +49,7 @@ module _ {X Y : Type 0} (h : Y → X) where
 
   pub sum_by_under : (p : X → ℕ) (ys : List Y) → sum_by p (map h ys) ≡ sum_by (λ y. p (h y)) ys
   sum_by_under p [] = refl
-  sum_by_under p (y ∷ ys) = sum_by-cons p (h y) (map h ys) ∙ ap (λ n. p (h y) + n) (sum_by_under p ys) ∙ sym (sum_by-cons (λ z. p (h z)) y ys)
+  sum_by_under p (y ∷ ys) = sum_by-cons p (h y) (map h ys) ∙ ap (λ n. p (h y) + n) (sum_by_under p ys) ∙ sym (sum_by-cons _ y ys)
 
   numbered_from : (n : ℕ) (ys : List Y) → map {B = Name × X} (λ e. (decimal e.0, e.1)) (enumerate_from n (map h ys)) ≡ map {A = Name × Y} {B = Name × X}
       (λ e. (e.0, h e.1)) (map {B = Name × Y} (λ e. (decimal e.0, e.1)) (enumerate_from n ys))
@@ -53,10 +69,10 @@ pub numbered_values : {X : Type 0} (xs : List X) → xs ≡ map {A = Name × X} 
 numbered_values xs = values_from 0 xs
 
 pub branch_entries : {X : Type 0} (step : Schema X → X) (ds : Items) → branches (read step (array ds)) ≡ map (entry step) (numbered (items_list ds))
-branch_entries step ds = branches_read step (array ds) ∙ numbered-map (place step) (items_list ds)
+branch_entries step ds = branches_read step (array ds) ∙ numbered-map (place step) _
 
 pub item_entries : {X : Type 0} (step : Schema X → X) (ds : Items) → (read step (array ds)).items ≡ map {A = Name × Sub X} (λ e. e.1) (map (entry step) (numbered (items_list ds)))
-item_entries {X} step ds = items_read step (array ds) ∙ numbered_values (map (place step) (items_list ds)) ∙ ap (map {A = Name × Sub X} (λ e. e.1)) (numbered-map (place step) (items_list ds))
+item_entries {X} step ds = items_read step (array ds) ∙ numbered_values (map _ _) ∙ ap (map {A = Name × Sub X} _) (numbered-map _ _)
 
 pub nothing_first : (n : ℕ) → 0 + n ≡ n
 nothing_first n = omega arith
@@ -67,13 +83,13 @@ nothing_last n = omega arith
 -- ---- the places that a keyword reads
 
 module _ (W : World) (k : Name) where
-  pub each_malformations : (P : Path) (es : List (Name × Data)) → flat_map (λ r. r.0.answer (down P r.1)) (each k (map (entry (malformations_step W)) es)) ≡ flat_map
+  pub each_malformations : (P : Path) (es : Rows) → flat_map (λ r. r.0.answer (down P r.1)) (each k (map (entry (malformations_step W)) es)) ≡ flat_map
       (λ e. malformations_at W e.1 (P // k // e.0)) es
   unfolding malformations_at
   each_malformations P [] = refl
   each_malformations P (e ∷ es) = ap (λ l. malformations_at W e.1 (P // k // e.0) ++ l) (each_malformations P es)
 
-  pub each_costs : (es : List (Name × Data)) → total_cost (λ r. r.0.answer) (each k (map (entry (cost_step W)) es)) ≡ total_cost (λ e. cost W e.1) es
+  pub each_costs : (es : Rows) → total_cost (λ r. r.0.answer) (each k (map (entry (cost_step W)) es)) ≡ total_cost (λ e. cost W e.1) es
   unfolding cost
   each_costs [] = refl
   each_costs (e ∷ es) = ap (λ c. cost W e.1 ⊕ c) (each_costs es)
@@ -84,40 +100,40 @@ module _ (step : Schema Meaning → Meaning) (k : Name) (v : Data) where
   abbrev at_members : List (Name × Subschema) → List Asked
   at_members es = flat_map (λ e. map (λ w. asked e.1 w (k ∷ e.0 ∷ []) (e.0 ∷ [])) (at e.0 v)) es
 
-  at_members_accept : (es : List (Name × Data)) → list_all (λ a. a.sub.answer.accepts a.value) (at_members (map (entry step) es)) ≡ list_all (λ e. list_all (answer_for step e.1).accepts (at e.0 v)) es
+  at_members_accept : (es : Rows) → list_all accepts_it (at_members (map (entry step) es)) ≡ list_all (λ e. list_all (answer_for step e.1).accepts (at e.0 v)) es
   at_members_accept [] = refl
   at_members_accept (e ∷ es) =
-      list_all-append (λ a. a.sub.answer.accepts a.value) (map (λ w. asked (place step e.1) w (k ∷ e.0 ∷ []) (e.0 ∷ [])) (at e.0 v)) (at_members (map (entry step) es))
-      ∙ (λ i. list_all-map (λ a. a.sub.answer.accepts a.value) (λ w. asked (place step e.1) w (k ∷ e.0 ∷ []) (e.0 ∷ [])) (at e.0 v) i && at_members_accept es i)
+      list_all-append accepts_it (map _ (at e.0 v)) (at_members _)
+      ∙ (λ i. list_all-map accepts_it (λ w. asked (place step e.1) w (k ∷ e.0 ∷ []) (e.0 ∷ [])) (at e.0 v) i && at_members_accept es i)
 
-  at_members_ask : (es : List (Name × Data)) → sum_by (λ a. a.sub.answer.asks a.value) (at_members (map (entry step) es)) ≡ sum_by (λ e. sum_by (answer_for step e.1).asks (at e.0 v)) es
+  at_members_ask : (es : Rows) → sum_by asks_it (at_members (map (entry step) es)) ≡ sum_by (λ e. sum_by (answer_for step e.1).asks (at e.0 v)) es
   at_members_ask [] = refl
   at_members_ask (e ∷ es) =
-      sum_by-append (λ a. a.sub.answer.asks a.value) (map (λ w. asked (place step e.1) w (k ∷ e.0 ∷ []) (e.0 ∷ [])) (at e.0 v)) (at_members (map (entry step) es))
-      ∙ (λ i. sum_by_under (λ w. asked (place step e.1) w (k ∷ e.0 ∷ []) (e.0 ∷ [])) (λ a. a.sub.answer.asks a.value) (at e.0 v) i + at_members_ask es i)
-      ∙ sym (sum_by-cons (λ e. sum_by (answer_for step e.1).asks (at e.0 v)) e es)
+      sum_by-append asks_it (map _ (at e.0 v)) (at_members _)
+      ∙ (λ i. sum_by_under (λ w. asked (place step e.1) w (k ∷ e.0 ∷ []) (e.0 ∷ [])) asks_it (at e.0 v) i + at_members_ask es i)
+      ∙ sym (sum_by-cons _ e es)
 
-  at_members_find : (P Q : Path) (es : List (Name × Data)) → flat_map (λ a. a.sub.answer.report a.value (down P a.in_schema) (down Q a.in_instance))
+  at_members_find : (P Q : Path) (es : Rows) → flat_map (finds_it P Q)
       (at_members (map (entry step) es)) ≡ flat_map (λ e. flat_map (λ w. (answer_for step e.1).report w (P // k // e.0) (Q // e.0)) (at e.0 v)) es
   at_members_find P Q [] = refl
   at_members_find P Q (e ∷ es) =
-      flat_map-append (λ a. a.sub.answer.report a.value (down P a.in_schema) (down Q a.in_instance)) (map (λ w. asked (place step e.1) w (k ∷ e.0 ∷ []) (e.0 ∷ [])) (at e.0 v))
-      (at_members (map (entry step) es))
-      ∙ (λ i. flat_map-map (λ a. a.sub.answer.report a.value (down P a.in_schema) (down Q a.in_instance)) (λ w. (answer_for step e.1).report w (P // k // e.0) (Q // e.0))
+      flat_map-append (finds_it P Q) (map _ (at e.0 v))
+      (at_members _)
+      ∙ (λ i. flat_map-map (finds_it P Q) _
       (λ w. asked (place step e.1) w (k ∷ e.0 ∷ []) (e.0 ∷ [])) (λ w. refl) (at e.0 v) i ++ at_members_find P Q es i)
 
-  pub at_whole_accept : (es : List (Name × Data)) → list_all (λ a. a.sub.answer.accepts a.value) (asked_whole k v (map (entry step) es)) ≡ list_all (λ e. (answer_for step e.1).accepts v) es
+  pub at_whole_accept : (es : Rows) → list_all accepts_it (asked_whole k v (map (entry step) es)) ≡ list_all (λ e. (answer_for step e.1).accepts v) es
   at_whole_accept [] = refl
   at_whole_accept (e ∷ es) = ap (λ b. (answer_for step e.1).accepts v && b) (at_whole_accept es)
 
-  pub at_whole_ask : (es : List (Name × Data)) → sum_by (λ a. a.sub.answer.asks a.value) (asked_whole k v (map (entry step) es)) ≡ sum_by (λ e. (answer_for step e.1).asks v) es
+  pub at_whole_ask : (es : Rows) → sum_by asks_it (asked_whole k v (map (entry step) es)) ≡ sum_by (λ e. (answer_for step e.1).asks v) es
   at_whole_ask [] = refl
   at_whole_ask (e ∷ es) =
-      sum_by-cons (λ a. a.sub.answer.asks a.value) (asked (place step e.1) v (k ∷ e.0 ∷ []) []) (asked_whole k v (map (entry step) es))
+      sum_by-cons asks_it (asked (place step e.1) v (k ∷ e.0 ∷ []) []) (asked_whole k v (map (entry step) es))
       ∙ ap (λ n. (answer_for step e.1).asks v + n) (at_whole_ask es)
-      ∙ sym (sum_by-cons (λ e. (answer_for step e.1).asks v) e es)
+      ∙ sym (sum_by-cons _ e es)
 
-  pub at_whole_find : (P Q : Path) (es : List (Name × Data)) → flat_map (λ a. a.sub.answer.report a.value (down P a.in_schema) (down Q a.in_instance))
+  pub at_whole_find : (P Q : Path) (es : Rows) → flat_map (finds_it P Q)
       (asked_whole k v (map (entry step) es)) ≡ flat_map (λ e. (answer_for step e.1).report v (P // k // e.0) Q) es
   at_whole_find P Q [] = refl
   at_whole_find P Q (e ∷ es) = ap (λ l. (answer_for step e.1).report v (P // k // e.0) Q ++ l) (at_whole_find P Q es)
@@ -128,109 +144,105 @@ module _ (W : World) (k : Name) (ds : Items) (u : Bool) (v : Data) (P Q : Path) 
   pub branches_report : map (λ b. b.1.answer.report v (P // k // b.0) Q) (branches (read (meaning_step W u) (array ds))) ≡ map (λ e. report W u e.1 v (P // k // e.0) Q) (numbered (items_list ds))
   unfolding meaning
   branches_report =
-      ap (map (λ b. b.1.answer.report v (P // k // b.0) Q)) (branch_entries (meaning_step W u) ds)
-      ∙ map-map (λ b. b.1.answer.report v (P // k // b.0) Q) (λ e. report W u e.1 v (P // k // e.0) Q) (entry (meaning_step W u)) (λ e. refl) (numbered (items_list ds))
+      ap (map _) (branch_entries (meaning_step W u) ds)
+      ∙ map-map _ _ (entry (meaning_step W u)) (λ e. refl) _
 
 module _ (W : World) (ms : Members) where
   -- ---- properties
 
-  module _ (d : Data) where
-    module _ (u : Bool) (v : Data) where
-      pub declared_accept : member_accepts W ms (codes "properties", d) properties u v ≡ list_all (λ e. list_all (accepts W u e.1) (at e.0 v)) (members d)
-      unfolding meaning
-      declared_accept =
-          and-true _
-          ∙ ap (λ es. list_all (λ a. a.sub.answer.accepts a.value) (at_members (meaning_step W u) (codes "properties") v es)) (entries_read (meaning_step W u) d)
-          ∙ at_members_accept (meaning_step W u) (codes "properties") v (members d)
+  module _ (d : Data) (u : Bool) (v : Data) where
+    pub declared_accept : member_accepts W ms (codes "properties", d) properties u v ≡ list_all (λ e. list_all (accepts W u e.1) (at e.0 v)) (members d)
+    unfolding meaning
+    declared_accept =
+        and-true _
+        ∙ ap (λ es. list_all accepts_it (at_members (meaning_step W u) (codes "properties") v es)) (entries_read (meaning_step W u) d)
+        ∙ at_members_accept (meaning_step W u) (codes "properties") v _
 
-      pub declared_ask : member_asks W ms (codes "properties", d) properties u v ≡ sum_by (λ e. sum_by (asks W u e.1) (at e.0 v)) (members d)
-      unfolding meaning
-      declared_ask =
-          nothing_last _
-          ∙ ap (λ es. sum_by (λ a. a.sub.answer.asks a.value) (at_members (meaning_step W u) (codes "properties") v es)) (entries_read (meaning_step W u) d)
-          ∙ at_members_ask (meaning_step W u) (codes "properties") v (members d)
+    pub declared_ask : member_asks W ms (codes "properties", d) properties u v ≡ sum_by (λ e. sum_by (asks W u e.1) (at e.0 v)) (members d)
+    unfolding meaning
+    declared_ask =
+        nothing_last _
+        ∙ ap (λ es. sum_by asks_it (at_members (meaning_step W u) (codes "properties") v es)) (entries_read (meaning_step W u) d)
+        ∙ at_members_ask (meaning_step W u) (codes "properties") v (members d)
 
-      pub declared_find : (P Q : Path) → member_report W ms (codes "properties", d) properties u v P Q ≡ flat_map
-          (λ e. flat_map (λ x. report W u e.1 x (P // codes "properties" // e.0) (Q // e.0)) (at e.0 v)) (members d)
-      unfolding meaning
-      declared_find P Q =
-          append-nil _
-          ∙ ap (λ es. flat_map (λ a. a.sub.answer.report a.value (down P a.in_schema) (down Q a.in_instance)) (at_members (meaning_step W u) (codes "properties") v es))
-          (entries_read (meaning_step W u) d)
-          ∙ at_members_find (meaning_step W u) (codes "properties") v P Q (members d)
+    pub declared_find : (P Q : Path) → member_report W ms (codes "properties", d) properties u v P Q ≡ flat_map
+        (λ e. flat_map (λ x. report W u e.1 x (P // codes "properties" // e.0) (Q // e.0)) (at e.0 v)) (members d)
+    unfolding meaning
+    declared_find P Q =
+        append-nil _
+        ∙ ap (λ es. flat_map (finds_it P Q) (at_members (meaning_step W u) (codes "properties") v es))
+        (entries_read (meaning_step W u) d)
+        ∙ at_members_find (meaning_step W u) (codes "properties") v P Q _
 
-  module _ (fs : Members) where
-    module _ (u : Bool) (v : Data) where
-      pub properties_accepts : member_accepts W ms (codes "properties", object fs) properties u v ≡ list_all (λ e. list_all (accepts W u e.1) (at e.0 v)) (listed fs)
-      properties_accepts = declared_accept (object fs) u v
+  module _ (fs : Members) (u : Bool) (v : Data) where
+    pub properties_accepts : member_accepts W ms (codes "properties", object fs) properties u v ≡ list_all (λ e. list_all (accepts W u e.1) (at e.0 v)) (listed fs)
+    properties_accepts = declared_accept (object fs) u v
 
-      pub properties_asks : member_asks W ms (codes "properties", object fs) properties u v ≡ sum_by (λ e. sum_by (asks W u e.1) (at e.0 v)) (listed fs)
-      properties_asks = declared_ask (object fs) u v
+    pub properties_asks : member_asks W ms (codes "properties", object fs) properties u v ≡ sum_by (λ e. sum_by (asks W u e.1) (at e.0 v)) (listed fs)
+    properties_asks = declared_ask (object fs) u v
 
-      pub properties_report : (P Q : Path) → member_report W ms (codes "properties", object fs) properties u v P Q ≡ flat_map
-          (λ e. flat_map (λ x. report W u e.1 x (P // codes "properties" // e.0) (Q // e.0)) (at e.0 v)) (listed fs)
-      properties_report = declared_find (object fs) u v
+    pub properties_report : (P Q : Path) → member_report W ms (codes "properties", object fs) properties u v P Q ≡ flat_map
+        (λ e. flat_map (λ x. report W u e.1 x (P // codes "properties" // e.0) (Q // e.0)) (at e.0 v)) (listed fs)
+    properties_report = declared_find (object fs) u v
 
   -- ---- branches
 
-  module _ (ds : Items) where
-    module _ (u : Bool) (v : Data) where
-      pub all_of_accepts : member_accepts W ms (codes "allOf", array ds) all_of u v ≡ list_all (λ e. accepts W u e.1 v) (numbered (items_list ds))
-      unfolding meaning
-      all_of_accepts =
-          and-true _
-          ∙ ap (λ es. list_all (λ a. a.sub.answer.accepts a.value) (asked_whole (codes "allOf") v es)) (branch_entries (meaning_step W u) ds)
-          ∙ at_whole_accept (meaning_step W u) (codes "allOf") v (numbered (items_list ds))
+  module _ (ds : Items) (u : Bool) (v : Data) where
+    pub all_of_accepts : member_accepts W ms (codes "allOf", array ds) all_of u v ≡ list_all (λ e. accepts W u e.1 v) (numbered (items_list ds))
+    unfolding meaning
+    all_of_accepts =
+        and-true _
+        ∙ ap (λ es. list_all accepts_it (asked_whole (codes "allOf") v es)) (branch_entries (meaning_step W u) ds)
+        ∙ at_whole_accept (meaning_step W u) (codes "allOf") v (numbered (items_list ds))
 
-      pub all_of_asks : member_asks W ms (codes "allOf", array ds) all_of u v ≡ sum_by (λ e. asks W u e.1 v) (numbered (items_list ds))
-      unfolding meaning
-      all_of_asks =
-          nothing_last _
-          ∙ ap (λ es. sum_by (λ a. a.sub.answer.asks a.value) (asked_whole (codes "allOf") v es)) (branch_entries (meaning_step W u) ds)
-          ∙ at_whole_ask (meaning_step W u) (codes "allOf") v (numbered (items_list ds))
+    pub all_of_asks : member_asks W ms (codes "allOf", array ds) all_of u v ≡ sum_by (λ e. asks W u e.1 v) (numbered (items_list ds))
+    unfolding meaning
+    all_of_asks =
+        nothing_last _
+        ∙ ap (λ es. sum_by asks_it (asked_whole (codes "allOf") v es)) (branch_entries (meaning_step W u) ds)
+        ∙ at_whole_ask (meaning_step W u) (codes "allOf") v (numbered (items_list ds))
 
-      pub all_of_report : (P Q : Path) → member_report W ms (codes "allOf", array ds) all_of u v P Q ≡ flat_map (λ e. report W u e.1 v (P // codes "allOf" // e.0) Q) (numbered (items_list ds))
-      unfolding meaning
-      all_of_report P Q =
-          append-nil _
-          ∙ ap (λ es. flat_map (λ a. a.sub.answer.report a.value (down P a.in_schema) (down Q a.in_instance)) (asked_whole (codes "allOf") v es)) (branch_entries (meaning_step W u) ds)
-          ∙ at_whole_find (meaning_step W u) (codes "allOf") v P Q (numbered (items_list ds))
+    pub all_of_report : (P Q : Path) → member_report W ms (codes "allOf", array ds) all_of u v P Q ≡ flat_map (λ e. report W u e.1 v (P // codes "allOf" // e.0) Q) (numbered (items_list ds))
+    unfolding meaning
+    all_of_report P Q =
+        append-nil _
+        ∙ ap (λ es. flat_map (finds_it P Q) (asked_whole (codes "allOf") v es)) (branch_entries (meaning_step W u) ds)
+        ∙ at_whole_find (meaning_step W u) (codes "allOf") v P Q (numbered (items_list ds))
 
-      pub any_of_accepts : member_accepts W ms (codes "anyOf", array ds) any_of u v ≡ list_any (λ e. accepts W u e.1 v) (numbered (items_list ds))
-      unfolding meaning
-      any_of_accepts =
-          ap (list_any (λ s. s.answer.accepts v)) (item_entries (meaning_step W u) ds)
-          ∙ list_any_under (λ e. e.1) (λ s. s.answer.accepts v) (map (entry (meaning_step W u)) (numbered (items_list ds)))
-          ∙ list_any_under (entry (meaning_step W u)) (λ e. e.1.answer.accepts v) (numbered (items_list ds))
+    pub any_of_accepts : member_accepts W ms (codes "anyOf", array ds) any_of u v ≡ list_any (λ e. accepts W u e.1 v) (numbered (items_list ds))
+    unfolding meaning
+    any_of_accepts =
+        ap (list_any (λ s. s.answer.accepts v)) (item_entries (meaning_step W u) ds)
+        ∙ list_any_under (λ e. e.1) (λ s. s.answer.accepts v) (map _ (numbered (items_list ds)))
+        ∙ list_any_under (entry (meaning_step W u)) (λ e. e.1.answer.accepts v) (numbered (items_list ds))
 
-      pub any_of_asks : member_asks W ms (codes "anyOf", array ds) any_of u v ≡ sum_by (λ e. asks W u e.1 v) (numbered (items_list ds))
-      unfolding meaning
-      any_of_asks =
-          nothing_first _
-          ∙ ap (sum_by (λ s. s.answer.asks v)) (item_entries (meaning_step W u) ds)
-          ∙ sum_by_under (λ e. e.1) (λ s. s.answer.asks v) (map (entry (meaning_step W u)) (numbered (items_list ds)))
-          ∙ sum_by_under (entry (meaning_step W u)) (λ e. e.1.answer.asks v) (numbered (items_list ds))
+    pub any_of_asks : member_asks W ms (codes "anyOf", array ds) any_of u v ≡ sum_by (λ e. asks W u e.1 v) (numbered (items_list ds))
+    unfolding meaning
+    any_of_asks =
+        nothing_first _
+        ∙ ap (sum_by (λ s. s.answer.asks v)) (item_entries (meaning_step W u) ds)
+        ∙ sum_by_under (λ e. e.1) (λ s. s.answer.asks v) (map _ (numbered (items_list ds)))
+        ∙ sum_by_under (entry (meaning_step W u)) (λ e. e.1.answer.asks v) (numbered (items_list ds))
 
-      pub any_of_report : (P Q : Path) → member_report W ms (codes "anyOf", array ds) any_of u v P Q ≡ fault_if (not (list_any (λ e. accepts W u e.1 v) (numbered (items_list ds))))
-          (AnyOf (context (map (λ e. report W u e.1 v (P // codes "anyOf" // e.0) Q) (numbered (items_list ds))))) v (P // codes "anyOf") Q
-      unfolding meaning
-      any_of_report P Q = λ i. fault_if (not (any_of_accepts i)) (AnyOf (context (branches_report W (codes "anyOf") ds u v P Q i))) v (P // codes "anyOf") Q
+    pub any_of_report : (P Q : Path) → member_report W ms (codes "anyOf", array ds) any_of u v P Q ≡ fault_if (not (list_any (λ e. accepts W u e.1 v) (numbered (items_list ds))))
+        (AnyOf (context (map (λ e. report W u e.1 v (P // codes "anyOf" // e.0) Q) (numbered (items_list ds))))) v (P // codes "anyOf") Q
+    unfolding meaning
+    any_of_report P Q = λ i. fault_if (not (any_of_accepts i)) (AnyOf (context (branches_report W (codes "anyOf") ds u v P Q i))) v (P // codes "anyOf") Q
 
   -- ---- not
 
-  module _ (d : Data) where
-    module _ (u : Bool) (v : Data) where
-      pub not_accepts : member_accepts W ms (codes "not", d) not_keyword u v ≡ not (accepts W u d v)
-      unfolding meaning
-      not_accepts = refl
+  module _ (d : Data) (u : Bool) (v : Data) where
+    pub not_accepts : member_accepts W ms (codes "not", d) not_keyword u v ≡ not (accepts W u d v)
+    unfolding meaning
+    not_accepts = refl
 
-      pub not_asks : member_asks W ms (codes "not", d) not_keyword u v ≡ asks W u d v
-      unfolding meaning
-      not_asks = nothing_first _
+    pub not_asks : member_asks W ms (codes "not", d) not_keyword u v ≡ asks W u d v
+    unfolding meaning
+    not_asks = nothing_first _
 
-      pub not_report : (P Q : Path) → member_report W ms (codes "not", d) not_keyword u v P Q ≡ fault_if (accepts W u d v) (Not d) v (P // codes "not") Q
-      unfolding meaning
-      not_report P Q = ap (λ s. fault_if (accepts W u d v) (Not s) v (P // codes "not") Q) (schema_of_read (meaning_step W u) d)
+    pub not_report : (P Q : Path) → member_report W ms (codes "not", d) not_keyword u v P Q ≡ fault_if (accepts W u d v) (Not d) v (P // codes "not") Q
+    unfolding meaning
+    not_report P Q = ap (λ s. fault_if (accepts W u d v) (Not s) v (P // codes "not") Q) (schema_of_read (meaning_step W u) d)
 
   -- ---- required
 
@@ -250,25 +262,24 @@ module _ (W : World) (ms : Members) where
 
   -- ---- leaves, and names that nothing reads
 
-  module _ (k : Name) (d : Data) where
-    module _ (u : Bool) (v : Data) where
-      pub leaf_accepts : member_accepts W ms (k, d) leaf u v ≡ is_empty (W.faults k d v)
-      leaf_accepts = ap (λ s. is_empty (W.faults k s v)) (schema_of_read (meaning_step W u) d)
+  module _ (k : Name) (d : Data) (u : Bool) (v : Data) where
+    pub leaf_accepts : member_accepts W ms (k, d) leaf u v ≡ is_empty (W.faults k d v)
+    leaf_accepts = ap (λ s. is_empty (W.faults k s v)) (schema_of_read (meaning_step W u) d)
 
-      pub leaf_asks : member_asks W ms (k, d) leaf u v ≡ 0
-      leaf_asks = nothing_first 0
+    pub leaf_asks : member_asks W ms (k, d) leaf u v ≡ 0
+    leaf_asks = nothing_first 0
 
-      pub leaf_report : (P Q : Path) → member_report W ms (k, d) leaf u v P Q ≡ map (λ t. fault (Leaf k t) v Q (P // k)) (W.faults k d v)
-      leaf_report P Q = ap (λ s. map (λ t. fault (Leaf k t) v Q (P // k)) (W.faults k s v)) (schema_of_read (meaning_step W u) d)
+    pub leaf_report : (P Q : Path) → member_report W ms (k, d) leaf u v P Q ≡ map (λ t. fault (Leaf k t) v Q (P // k)) (W.faults k d v)
+    leaf_report P Q = ap (λ s. map (λ t. fault (Leaf k t) v Q (P // k)) (W.faults k s v)) (schema_of_read (meaning_step W u) d)
 
-      pub unread_accepts : member_accepts W ms (k, d) unread u v ≡ true
-      unread_accepts = refl
+    pub unread_accepts : member_accepts W ms (k, d) unread u v ≡ true
+    unread_accepts = refl
 
-      pub unread_asks : member_asks W ms (k, d) unread u v ≡ 0
-      unread_asks = nothing_first 0
+    pub unread_asks : member_asks W ms (k, d) unread u v ≡ 0
+    unread_asks = nothing_first 0
 
-      pub unread_report : (P Q : Path) → member_report W ms (k, d) unread u v P Q ≡ []
-      unread_report P Q = refl
+    pub unread_report : (P Q : Path) → member_report W ms (k, d) unread u v P Q ≡ []
+    unread_report P Q = refl
 
   -- ---- values of the wrong kind
 

@@ -12,19 +12,20 @@ use Rattle.olk_meaning.specs.Fused.{declares_few, allows_others, two_names, fuse
 use Rattle.olk_meaning.specs.Plans.{Planned, plan_of}
 use Rattle.olk_meaning.proofs.Heads.{names_of}
 use Rattle.olk_meaning.proofs.Listed.{lookup_among}
+use Rattle.olk_meaning.proofs.Rows.{Rows}
 
 itself_alone : (j n : Name) → (bytes_eq j n || false) ≡ true → j ≡ n
-itself_alone j n e = same_name j n (sym (or-false (bytes_eq j n)) ∙ e)
+itself_alone j n e = same_name j n (sym (or-false _) ∙ e)
 
 -- two names among fewer than two are one
-one_name_there : (j k : Name) (es : List (Name × Data)) → length es < 2 → is_among j (names_of es) ≡ true → is_among k (names_of es) ≡ true → j ≡ k
+one_name_there : (j k : Name) (es : Rows) → length es < 2 → is_among j (names_of es) ≡ true → is_among k (names_of es) ≡ true → j ≡ k
 one_name_there j k [] few a b = absurd (true≢false (sym a))
 one_name_there j k (x ∷ []) few a b = itself_alone j x.0 a ∙ sym (itself_alone k x.0 b)
 one_name_there j k (x ∷ y ∷ es) few a b = absurd (omega (arith, few))
 
 -- of two names one is missing
-one_is_missing : (j k : Name) → bytes_eq j k ≡ false → (es : List (Name × Data)) → length es < 2 → (lookup_name j es ≡ None) ⊎ (lookup_name k es ≡ None)
-one_is_missing j k apart es few = by (lookup_name j es) (lookup_name k es) refl refl
+one_is_missing : (j k : Name) → bytes_eq j k ≡ false → (es : Rows) → length es < 2 → (lookup_name j es ≡ None) ⊎ (lookup_name k es ≡ None)
+one_is_missing j k apart es few = by (lookup_name j es) _ refl refl
   where
     by : (a b : Option Data) → lookup_name j es ≡ a → lookup_name k es ≡ b → (lookup_name j es ≡ None) ⊎ (lookup_name k es ≡ None)
     by None b p q = inl p
@@ -44,17 +45,17 @@ module _ (ms : Members) (few : length (listed ms) < 2) where
     where
       by : (at (codes "properties") ≡ None) ⊎ (at (codes "required") ≡ None) → fused_pair ms ≡ None
       by (inl e) = ap (λ o. cond (declares_few o && is_none (at (codes "patternProperties")) && allows_others (at (codes "additionalProperties"))) (two_names (at (codes "required"))) None) e
-      by (inr e) = none_either_way (two_names (at (codes "required"))) _ (ap two_names e)
+      by (inr e) = none_either_way _ _ (ap two_names e)
 
   few_fuse_not_one : fused_one ms ≡ None
-  few_fuse_not_one = by (one_is_missing (codes "properties") (codes "required") refl (listed ms) few)
+  few_fuse_not_one = by (one_is_missing (codes "properties") (codes "required") refl _ few)
     where
       by : (at (codes "properties") ≡ None) ⊎ (at (codes "required") ≡ None) → fused_one ms ≡ None
       by (inl e) = ap (λ o. cond (is_some o && is_none (at (codes "patternProperties")) && refuses_others (at (codes "additionalProperties"))) (one_name (at (codes "required"))) None) e
-      by (inr e) = none_either_way (one_name (at (codes "required"))) _ (ap one_name e)
+      by (inr e) = none_either_way _ _ (ap one_name e)
 
   few_read_no_if : is_condition ms ≡ false
-  few_read_no_if = by (one_is_missing (codes "if") (codes "then") refl (listed ms) few) (one_is_missing (codes "if") (codes "else") refl (listed ms) few)
+  few_read_no_if = by (one_is_missing (codes "if") (codes "then") refl _ few) (one_is_missing (codes "if") (codes "else") refl _ few)
     where
       and_nothing : (b : Bool) → (b && false) ≡ false
       and_nothing true = refl

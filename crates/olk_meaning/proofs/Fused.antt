@@ -43,12 +43,12 @@ module _ (o : Option (Bor Value)) (v : Bor Value) (is : o ≡ Some v) where
 
       by : (ws : List Value) → (length ws ≡ 2 → ⊥) → two_names (Some (array (items_view ws))) ≡ None
       by [] h = refl
-      by (w ∷ []) h = one_item (view w)
+      by (w ∷ []) h = one_item _
       by (w ∷ x ∷ []) h = absurd (h refl)
-      by (w ∷ x ∷ y ∷ ws) h = many_items (view w) (view x) (view y) (items_view ws)
+      by (w ∷ x ∷ y ∷ ws) h = many_items (view w) _ _ _
 
   pub not_one_item : (vs : List Value) → Some (items_view vs) ≡ as_array (view v.now) → (length vs ≡ 1 → ⊥) → None ≡ one_name (option_map (λ x. view x.now) o)
-  not_one_item vs e l = sym (by vs l) ∙ ap (λ d. one_name (Some d)) (sym (array_at (view v.now) (items_view vs) (sym e))) ∙ ap (λ p. one_name (option_map (λ x. view x.now) p)) (sym is)
+  not_one_item vs e l = sym (by vs l) ∙ ap (λ d. one_name (Some d)) (sym (array_at (view v.now) _ (sym e))) ∙ ap (λ p. one_name (option_map (λ x. view x.now) p)) (sym is)
     where
       two_items : (c d : Data) (ds : Items) → one_name (Some (array (item c (item d ds)))) ≡ None
       two_items null d ds = refl
@@ -57,4 +57,4 @@ module _ (o : Option (Bor Value)) (v : Bor Value) (is : o ≡ Some v) where
       by : (ws : List Value) → (length ws ≡ 1 → ⊥) → one_name (Some (array (items_view ws))) ≡ None
       by [] h = refl
       by (w ∷ []) h = absurd (h refl)
-      by (w ∷ x ∷ ws) h = two_items (view w) (view x) (items_view ws)
+      by (w ∷ x ∷ ws) h = two_items _ _ _

@@ -1,3 +1,4 @@
+pub mod Rows
 mod MemberLookups
 mod Fused
 mod FewMembers

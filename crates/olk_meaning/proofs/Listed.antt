@@ -20,18 +20,19 @@ use Rattle.olk_spec.specs.Malformed.{has_repeat}
 use Rattle.olk_spec.proofs.Each.{Each}
 use Rattle.olk_spec.proofs.Walks.{same_name, bytes_eq-itself, Distinct, Distinct-from, Each-found}
 use Rattle.olk_meaning.proofs.Heads.{names_of}
+use Rattle.olk_meaning.proofs.Rows.{Rows}
 
-abbrev pub members_named : Name → List (Name × Data) → List (Name × Data)
+abbrev pub members_named : Name → Rows → Rows
 members_named k es = filter_once (λ m. bytes_eq k m.0) es
 
-none_named : (k : Name) (es : List (Name × Data)) → Each (λ m. bytes_eq k m.0 ≡ false) es → members_named k es ≡ []
+none_named : (k : Name) (es : Rows) → Each (λ m. bytes_eq k m.0 ≡ false) es → members_named k es ≡ []
 none_named k [] h = refl
 none_named k (m ∷ es) h = ap (λ b. put_if b m (members_named k es)) h.0 ∙ none_named k es h.1
 
 -- the member that a look-up finds is the only one of its name
-pub named_once : (k : Name) (d : Data) (es : List (Name × Data)) → Distinct es → lookup_name k es ≡ Some d → members_named k es ≡ (k, d) ∷ []
+pub named_once : (k : Name) (d : Data) (es : Rows) → Distinct es → lookup_name k es ≡ Some d → members_named k es ≡ (k, d) ∷ []
 named_once k d [] h e = absurd (true≢false (sym (ap is_some e)))
-named_once k d (m ∷ es) h e = by (slice_cmp nat_cmp k m.0) (is_eq-slice_cmp k m.0) e (named_once k d es h.1)
+named_once k d (m ∷ es) h e = by _ (is_eq-slice_cmp k m.0) e (named_once k d es h.1)
   where
     by : (o : Ordering) → is_eq o ≡ bytes_eq k m.0 → first_if_equal o m.1 (lookup_name k es) ≡ Some d → (lookup_name k es ≡ Some d → members_named k es ≡ (k, d) ∷ [])
         → members_named k (m ∷ es) ≡ (k, d) ∷ []
@@ -46,12 +47,12 @@ named_once k d (m ∷ es) h e = by (slice_cmp nat_cmp k m.0) (is_eq-slice_cmp k 
 module _ (ms : Members) (distinct : has_repeat (names_of (listed ms)) ≡ false) where
   -- the members of a name are what a look-up finds
   pub members_found : (k : Name) (o : Option Data) → lookup_name k (listed ms) ≡ o → members_named k (listed ms) ≡ map (λ d. (k, d)) (option_to_list o)
-  members_found k (Some d) e = named_once k d (listed ms) (Distinct-from (listed ms) distinct) e
-  members_found k None e = none_found (listed ms) e
+  members_found k (Some d) e = named_once k d _ (Distinct-from _ distinct) e
+  members_found k None e = none_found _ e
     where
-      none_found : (es : List (Name × Data)) → lookup_name k es ≡ None → members_named k es ≡ []
+      none_found : (es : Rows) → lookup_name k es ≡ None → members_named k es ≡ []
       none_found [] e = refl
-      none_found (m ∷ es) e = by (slice_cmp nat_cmp k m.0) (is_eq-slice_cmp k m.0) e (none_found es)
+      none_found (m ∷ es) e = by _ (is_eq-slice_cmp k m.0) e (none_found es)
         where
           by : (o : Ordering) → is_eq o ≡ bytes_eq k m.0 → first_if_equal o m.1 (lookup_name k es) ≡ None → (lookup_name k es ≡ None → members_named k es ≡ []) → members_named k (m ∷ es) ≡ []
           by Less q f g = ap (λ b. put_if b m (members_named k es)) (sym q) ∙ g f
@@ -59,9 +60,9 @@ module _ (ms : Members) (distinct : has_repeat (names_of (listed ms)) ≡ false)
           by Equal q f g = absurd (true≢false (ap is_some f))
 
 -- a member that is found is there
-pub lookup_among : (k : Name) (d : Data) (es : List (Name × Data)) → lookup_name k es ≡ Some d → is_among k (names_of es) ≡ true
+pub lookup_among : (k : Name) (d : Data) (es : Rows) → lookup_name k es ≡ Some d → is_among k (names_of es) ≡ true
 lookup_among k d [] e = absurd (true≢false (sym (ap is_some e)))
-lookup_among k d (m ∷ es) e = by (slice_cmp nat_cmp k m.0) (is_eq-slice_cmp k m.0) e (lookup_among k d es)
+lookup_among k d (m ∷ es) e = by _ (is_eq-slice_cmp k m.0) e (lookup_among k d es)
   where
     by : (o : Ordering) → is_eq o ≡ bytes_eq k m.0 → first_if_equal o m.1 (lookup_name k es) ≡ Some d → (lookup_name k es ≡ Some d → is_among k (names_of es) ≡ true)
         → is_among k (names_of (m ∷ es)) ≡ true
@@ -91,13 +92,13 @@ one_of P [] x ys h = h.0
 one_of P (y ∷ xs) x ys h = one_of P xs x ys h.1
 
 -- a look-up finds each member, where no name stands twice
-pub found_each : (ms : Members) → has_repeat (map (λ m. m.0) (listed ms)) ≡ false → (done : List (Name × Data)) (m : Name × Data) (rest : List (Name × Data))
+pub found_each : (ms : Members) → has_repeat (map (λ m. m.0) (listed ms)) ≡ false → (done : Rows) (m : Name × Data) (rest : Rows)
     → done ++ m ∷ rest ≡ listed ms → lookup_name m.0 (listed ms) ≡ Some m.1
 found_each ms h done m rest e =
-    one_of (λ x. lookup_name x.0 (listed ms) ≡ Some x.1) done m rest (subst (λ l. Each (λ x. lookup_name x.0 (listed ms) ≡ Some x.1) l) (sym e) (Each-found (listed ms) (Distinct-from (listed ms) h)))
+    one_of (λ x. lookup_name x.0 (listed ms) ≡ Some x.1) done m rest (subst (λ l. Each (λ x. lookup_name x.0 (listed ms) ≡ Some x.1) l) (sym e) (Each-found _ (Distinct-from _ h)))
 
 -- a look-up finds something at each member's name
-pub present_each : (es done : List (Name × Data)) (m : Name × Data) (rest : List (Name × Data)) → done ++ m ∷ rest ≡ es → is_some (lookup_name m.0 es) ≡ true
+pub present_each : (es done : Rows) (m : Name × Data) (rest : Rows) → done ++ m ∷ rest ≡ es → is_some (lookup_name m.0 es) ≡ true
 present_each es done m rest e = ap (λ l. is_some (lookup_name m.0 l)) (sym e) ∙ along done
   where
     found : (o : Ordering) (d : Data) (x : Option Data) → is_eq o ≡ true → is_some (first_if_equal o d x) ≡ true
@@ -108,6 +109,6 @@ present_each es done m rest e = ap (λ l. is_some (lookup_name m.0 l)) (sym e) �
     past Equal d x q = refl
     past _ d x q = q
 
-    along : (done : List (Name × Data)) → is_some (lookup_name m.0 (done ++ m ∷ rest)) ≡ true
-    along [] = found (slice_cmp nat_cmp m.0 m.0) m.1 (lookup_name m.0 rest) (is_eq-slice_cmp m.0 m.0 ∙ bytes_eq-itself m.0)
-    along (x ∷ done) = past (slice_cmp nat_cmp m.0 x.0) x.1 (lookup_name m.0 (done ++ m ∷ rest)) (along done)
+    along : (done : Rows) → is_some (lookup_name m.0 (done ++ m ∷ rest)) ≡ true
+    along [] = found (slice_cmp nat_cmp m.0 m.0) m.1 _ (is_eq-slice_cmp m.0 m.0 ∙ bytes_eq-itself m.0)
+    along (x ∷ done) = past _ x.1 _ (along done)

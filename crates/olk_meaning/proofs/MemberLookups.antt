@@ -18,7 +18,7 @@ found_or _ v rest d e = e
 pub view_lookup : (name : Name) (es : List (String Global × Value)) → option_map view
     (first_where (is_at (λ k. slice_cmp nat_cmp name (string_bytes k))) es) ≡ lookup_name name (listed (members_view es))
 view_lookup name [] = refl
-view_lookup name (e ∷ es) = found_or (slice_cmp nat_cmp name (string_bytes e.0)) e.1 _ _ (view_lookup name es)
+view_lookup name (e ∷ es) = found_or _ e.1 _ _ (view_lookup name es)
 
 is_some-view : (o : Option Value) (d : Option Data) → option_map view o ≡ d → is_some o ≡ is_some d
 is_some-view None d e = ap is_some e

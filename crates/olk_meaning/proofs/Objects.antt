@@ -27,7 +27,7 @@ use Rattle.olk_spec.proofs.CostSums.{total_cost-map}
 
 pub sum_by-map : {X Y : Type 0} (f : X → ℕ) (h : Y → X) (ys : List Y) → sum_by f (map h ys) ≡ sum_by (λ y. f (h y)) ys
 sum_by-map f h [] = refl
-sum_by-map f h (y ∷ ys) = sum_by-cons f (h y) (map h ys) ∙ ap (λ n. f (h y) + n) (sum_by-map f h ys) ∙ sym (sum_by-cons (λ z. f (h z)) y ys)
+sum_by-map f h (y ∷ ys) = sum_by-cons f (h y) (map h ys) ∙ ap (λ n. f (h y) + n) (sum_by-map f h ys) ∙ sym (sum_by-cons _ y ys)
 
 module _ (W : World) (ms : Members) where
   pub object_accepts : (u : Bool) (v : Data) → accepts W u (object ms) v ≡ list_all (λ m. member_accepts W ms m (keyword_named W m.0) u v) (listed ms)
@@ -58,7 +58,7 @@ module _ (W : World) (ms : Members) where
   pub object_cost : cost W (object ms) ≡ one_place ⊕ total_cost (λ m. member_cost W ms m (keyword_named W m.0)) (listed ms)
   unfolding cost
   object_cost =
-      ap (λ c. one_place ⊕ c) (ap (total_cost (λ m. keyword_cost W (read_members (cost_step W) ms) m.0 m.1 (keyword_named W m.0))) (members_read (cost_step W) ms)
+      ap (λ c. one_place ⊕ c) (ap (total_cost _) (members_read (cost_step W) ms)
       ∙ total_cost-map _ _ _ (λ m. refl) (listed ms))
 
 -- ---- what is no schema, and the two truth values

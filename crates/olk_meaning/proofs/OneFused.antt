@@ -51,13 +51,13 @@ module _ {X : Type 0} (step : Schema X → X) (ms : Members) where
         && nat_eq (length (flat_map texts (option_to_list (fusing.listed_at i)))) 1)
 
     pub fused_names_read : names_at (read_members step ms) (codes "required") ≡ n ∷ []
-    fused_names_read = names_there step ms (codes "required") (array (item (string n) no_items)) (sym (lookup_listed (codes "required") ms) ∙ fusing.listed_at)
+    fused_names_read = names_there step ms (codes "required") (array _) (sym (lookup_listed (codes "required") ms) ∙ fusing.listed_at)
 
   -- where `required` lists texts alone, nothing else is
   pub one_fused : (L : Path) → ListsTexts L (lookup_name (codes "required") (listed ms)) → fuses_one (read_members step ms) ≡ is_some (fused_one ms)
   one_fused L h =
-      fuses_one_read ∙ by (is_some (lookup_name (codes "properties") (listed ms))) (refuses_others (lookup_name (codes "additionalProperties") (listed ms)))
-      (lookup_name (codes "patternProperties") (listed ms)) (lookup_name (codes "required") (listed ms)) h
+      fuses_one_read ∙ by (is_some _) (refuses_others _)
+      _ _ h
     where
       one : (o : Option Data) → ListsTexts L o → nat_eq (length (flat_map texts (option_to_list o))) 1 ≡ is_some (one_name o)
       one None k = refl

@@ -25,11 +25,12 @@ use Rattle.olk_spec.proofs.Reading.{entry, entries_read, schema_of_read}
 use Rattle.olk_meaning.specs.Members.{member_accepts, member_asks, member_report, member_child}
 use Rattle.olk_meaning.specs.PatternProperties.{matched_members, pattern_asks, open_names, pattern_faults, matcher_made, matchers_made, names_asked}
 use Rattle.olk_meaning.specs.AdditionalProperties.{declared_beside, matching_asks, patterns_asked}
-use Rattle.olk_meaning.proofs.Facts.{sum_by_under}
+use Rattle.olk_meaning.proofs.Facts.{accepts_it, asks_it, finds_it, shows_it, sum_by_under}
 use Rattle.olk_meaning.proofs.Exchanged.{sum_of_both, sum_of_those, sums_exchanged, sum_by-exchanged}
 use Rattle.olk_meaning.specs.Conditions.{is_restricted, known_of}
 use Rattle.olk_meaning.proofs.Beside.{entries_beside, declared_read}
 use Rattle.olk_meaning.proofs.Conditions.{restricted_read}
+use Rattle.olk_meaning.proofs.Rows.{Rows}
 
 -- ---- the members that are asked about
 
@@ -40,45 +41,45 @@ module _ (W : World) (u : Bool) (step : Schema Meaning → Meaning) (k : Name) (
   abbrev asked_in : Name × Subschema → List Asked
   asked_in e = map (asked_of e) (matched_members W u e.0 v)
 
-  abbrev at_matched : List (Name × Data) → List Asked
+  abbrev at_matched : Rows → List Asked
   at_matched es = flat_map asked_in (map (entry step) es)
 
-  at_matched_accept : (es : List (Name × Data)) → list_all (λ a. a.sub.answer.accepts a.value) (at_matched es) ≡ list_all
+  at_matched_accept : (es : Rows) → list_all accepts_it (at_matched es) ≡ list_all
       (λ e. list_all (λ x. (answer_for step e.1).accepts x.1) (matched_members W u e.0 v)) es
   at_matched_accept [] = refl
   at_matched_accept (e ∷ es) =
-      list_all-append (λ a. a.sub.answer.accepts a.value) (asked_in (entry step e)) (at_matched es)
-      ∙ (λ i. list_all-map (λ a. a.sub.answer.accepts a.value) (asked_of (entry step e)) (matched_members W u e.0 v) i && at_matched_accept es i)
+      list_all-append accepts_it (asked_in (entry step e)) (at_matched es)
+      ∙ (λ i. list_all-map accepts_it (asked_of (entry step e)) (matched_members W u e.0 v) i && at_matched_accept es i)
 
-  at_matched_ask : (es : List (Name × Data)) → sum_by (λ a. a.sub.answer.asks a.value) (at_matched es) ≡ sum_by (λ e. sum_by (λ x. (answer_for step e.1).asks x.1) (matched_members W u e.0 v)) es
+  at_matched_ask : (es : Rows) → sum_by asks_it (at_matched es) ≡ sum_by (λ e. sum_by (λ x. (answer_for step e.1).asks x.1) (matched_members W u e.0 v)) es
   at_matched_ask [] = refl
   at_matched_ask (e ∷ es) =
-      sum_by-append (λ a. a.sub.answer.asks a.value) (asked_in (entry step e)) (at_matched es)
-      ∙ (λ i. sum_by_under (asked_of (entry step e)) (λ a. a.sub.answer.asks a.value) (matched_members W u e.0 v) i + at_matched_ask es i)
-      ∙ sym (sum_by-cons (λ e. sum_by (λ x. (answer_for step e.1).asks x.1) (matched_members W u e.0 v)) e es)
+      sum_by-append asks_it (asked_in (entry step e)) (at_matched es)
+      ∙ (λ i. sum_by_under (asked_of (entry step e)) asks_it (matched_members W u e.0 v) i + at_matched_ask es i)
+      ∙ sym (sum_by-cons _ e es)
 
   module _ (P Q : Path) where
-    found_in : (e : Name × Data) (xs : List (Name × Data)) → flat_map (λ a. a.sub.answer.report a.value (down P a.in_schema) (down Q a.in_instance))
+    found_in : (e : Name × Data) (xs : Rows) → flat_map (finds_it P Q)
         (map (asked_of (entry step e)) xs) ≡ flat_map (λ x. (answer_for step e.1).report x.1 (P // k // e.0) (Q // x.0)) xs
     found_in e [] = refl
     found_in e (x ∷ xs) = ap (λ l. (answer_for step e.1).report x.1 (P // k // e.0) (Q // x.0) ++ l) (found_in e xs)
 
-    at_matched_find : (es : List (Name × Data)) → flat_map (λ a. a.sub.answer.report a.value (down P a.in_schema) (down Q a.in_instance))
+    at_matched_find : (es : Rows) → flat_map (finds_it P Q)
         (at_matched es) ≡ flat_map (λ e. flat_map (λ x. (answer_for step e.1).report x.1 (P // k // e.0) (Q // x.0)) (matched_members W u e.0 v)) es
     at_matched_find [] = refl
     at_matched_find (e ∷ es) =
-        flat_map-append (λ a. a.sub.answer.report a.value (down P a.in_schema) (down Q a.in_instance)) (asked_in (entry step e)) (at_matched es)
+        flat_map-append (finds_it P Q) (asked_in (entry step e)) (at_matched es)
         ∙ (λ i. found_in e (matched_members W u e.0 v) i ++ at_matched_find es i)
 
-    at_matched_show : (es : List (Name × Data)) → map (λ a. a.sub.answer.tree a.value (down P a.in_schema) (down Q a.in_instance)) (at_matched es) ≡ flat_map
+    at_matched_show : (es : Rows) → map (shows_it P Q) (at_matched es) ≡ flat_map
         (λ e. map (λ x. (answer_for step e.1).tree x.1 (P // k // e.0) (Q // x.0)) (matched_members W u e.0 v)) es
     at_matched_show [] = refl
     at_matched_show (e ∷ es) =
-        map-append (λ a. a.sub.answer.tree a.value (down P a.in_schema) (down Q a.in_instance)) (asked_in (entry step e)) (at_matched es)
-        ∙ (λ i. map-map (λ a. a.sub.answer.tree a.value (down P a.in_schema) (down Q a.in_instance)) (λ x. (answer_for step e.1).tree x.1 (P // k // e.0) (Q // x.0))
+        map-append (shows_it P Q) (asked_in (entry step e)) (at_matched es)
+        ∙ (λ i. map-map (shows_it P Q) _
         (asked_of (entry step e)) (λ x. refl) (matched_members W u e.0 v) i ++ at_matched_show es i)
 
-  named_by_entries : (es : List (Name × Data)) → flat_map (λ e. map (λ x. x.0) (matched_members W u e.0 v)) (map (entry step) es) ≡ flat_map (λ e. map (λ x. x.0) (matched_members W u e.0 v)) es
+  named_by_entries : (es : Rows) → flat_map (λ e. map (λ x. x.0) (matched_members W u e.0 v)) (map (entry step) es) ≡ flat_map (λ e. map (λ x. x.0) (matched_members W u e.0 v)) es
   named_by_entries [] = refl
   named_by_entries (e ∷ es) = ap (λ l. map (λ x. x.0) (matched_members W u e.0 v) ++ l) (named_by_entries es)
 
@@ -90,14 +91,14 @@ other_way a b = omega arith
 module _ (W : World) where
   open_counted : {X : Type 0} (es : List (Name × X)) → length (filter_once (is_open W) (map (λ e. e.0) es)) ≡ sum_by (λ e. pattern_asks W e.0) es
   open_counted [] = refl
-  open_counted {X} (e ∷ es) = by (is_open W e.0) ∙ ap (λ n. pattern_asks W e.0 + n) (open_counted es) ∙ sym (sum_by-cons (λ (e : Name × X). pattern_asks W e.0) e es)
+  open_counted {X} (e ∷ es) = by (is_open W e.0) ∙ ap (λ n. pattern_asks W e.0 + n) (open_counted es) ∙ sym (sum_by-cons _ e es)
     where
       by : (b : Bool) → length (put_if b e.0 (filter_once (is_open W) (map (λ e. e.0) es))) ≡ cond b 1 0 + length (filter_once (is_open W) (map (λ e. e.0) es))
       by true = omega arith
       by false = omega arith
 
-  names_of_entries : {X : Type 0} (step : Schema X → X) (es : List (Name × Data)) → map {A = Name × Sub X} (λ e. e.0) (map (entry step) es) ≡ map {A = Name × Data} (λ e. e.0) es
-  names_of_entries step es = map-map (λ e. e.0) (λ e. e.0) (entry step) (λ e. refl) es
+  names_of_entries : {X : Type 0} (step : Schema X → X) (es : Rows) → map {A = Name × Sub X} (λ e. e.0) (map (entry step) es) ≡ map {A = Name × Data} (λ e. e.0) es
+  names_of_entries step es = map-map _ _ _ (λ e. refl) es
 
   pub open_read : {X : Type 0} (step : Schema X → X) (d : Data) → open_patterns W (read step d) ≡ open_names W d
   open_read {X} step d = ap (λ es. filter_once (is_open W) (map {A = Name × Sub X} (λ e. e.0) es)) (entries_read step d) ∙ ap (filter_once (is_open W)) (names_of_entries step (members d))
@@ -105,45 +106,52 @@ module _ (W : World) where
 -- ---- what it means
 
 module _ (W : World) (ms : Members) (d : Data) (u : Bool) (v : Data) where
+  -- a schema, with its parts' meanings, to its own
+  abbrev to_meaning : Schema Meaning → Meaning
+  to_meaning = meaning_step W u
+
+  abbrev asked_by : List (Name × Subschema) → List Asked
+  asked_by es = flat_map (asked_in W u to_meaning (codes "patternProperties") v) es
+
   pub pattern_properties_accepts : member_accepts W ms (codes "patternProperties", d) pattern_properties u v ≡ list_all
       (λ e. list_all (λ x. accepts W u e.1 x.1) (matched_members W u e.0 v)) (members d)
   unfolding meaning
   pattern_properties_accepts =
       and-true _
-      ∙ ap (λ es. list_all (λ a. a.sub.answer.accepts a.value) (flat_map (asked_in W u (meaning_step W u) (codes "patternProperties") v) es)) (entries_read (meaning_step W u) d)
-      ∙ at_matched_accept W u (meaning_step W u) (codes "patternProperties") v (members d)
+      ∙ ap (λ es. list_all accepts_it (asked_by es)) (entries_read to_meaning d)
+      ∙ at_matched_accept W u to_meaning (codes "patternProperties") v _
 
   pub pattern_properties_report : (P Q : Path) → member_report W ms (codes "patternProperties", d) pattern_properties u v P Q ≡ flat_map
       (λ e. flat_map (λ x. report W u e.1 x.1 (P // codes "patternProperties" // e.0) (Q // x.0)) (matched_members W u e.0 v)) (members d)
   unfolding meaning
   pattern_properties_report P Q =
       append-nil _
-      ∙ ap (λ es. flat_map (λ a. a.sub.answer.report a.value (down P a.in_schema) (down Q a.in_instance)) (flat_map (asked_in W u (meaning_step W u) (codes "patternProperties") v) es))
-      (entries_read (meaning_step W u) d)
-      ∙ at_matched_find W u (meaning_step W u) (codes "patternProperties") v P Q (members d)
+      ∙ ap (λ es. flat_map (finds_it P Q) (asked_by es))
+      (entries_read to_meaning d)
+      ∙ at_matched_find W u to_meaning (codes "patternProperties") v P Q _
 
   -- ---- where it has a validator of its own
 
-  module _ (free : restricts (read_members (meaning_step W u) ms) ≡ false) where
-    own_asked : sum_by (λ m. asks_at W (read_members (meaning_step W u) ms) (read (meaning_step W u) d) m.0) (members v) ≡ sum_by (λ e. sum_by (λ x. pattern_asks W e.0) (members v)) (members d)
+  module _ (free : restricts (read_members to_meaning ms) ≡ false) where
+    own_asked : sum_by (λ m. asks_at W (read_members to_meaning ms) (read to_meaning d) m.0) (members v) ≡ sum_by (λ e. sum_by (λ x. pattern_asks W e.0) (members v)) (members d)
     own_asked =
-        (λ i. sum_by (λ m. cond (free i && is_declared (read_members (meaning_step W u) ms) m.0)
-        (count_by (λ t. is_unfinished (W.says t m.0)) (open_patterns W (read (meaning_step W u) d))) (length (open_patterns W (read (meaning_step W u) d)))) (members v))
-        ∙ ap (λ n. sum_by (λ (m : Name × Data). n) (members v)) (ap length (open_read W (meaning_step W u) d) ∙ open_counted W (members d))
+        (λ i. sum_by (λ m. cond (free i && is_declared (read_members to_meaning ms) m.0)
+        (count_by (λ t. is_unfinished (W.says t m.0)) (open_patterns W (read to_meaning d))) (length (open_patterns W (read to_meaning d)))) (members v))
+        ∙ ap (λ n. sum_by (λ (m : Name × Data). n) (members v)) (ap length (open_read W to_meaning d) ∙ open_counted W (members d))
         ∙ sym (sums_exchanged (λ (e x : Name × Data). pattern_asks W e.0) (members d) (members v))
 
     asked_together : (e : Name × Data) → sum_by (λ x. pattern_asks W e.0 + cond (matches W u e.0 x.0) (asks W u e.1 x.1) 0) (members v) ≡ sum_by
         (λ x. pattern_asks W e.0) (members v) + sum_by (λ x. asks W u e.1 x.1) (matched_members W u e.0 v)
     asked_together e = sum_of_both (λ x. pattern_asks W e.0) (λ x. cond (matches W u e.0 x.0) (asks W u e.1 x.1) 0) (members v)
-        ∙ ap (λ n. sum_by (λ x. pattern_asks W e.0) (members v) + n) (sum_of_those (λ x. matches W u e.0 x.0) (λ x. asks W u e.1 x.1) (members v))
+        ∙ ap (λ n. sum_by (λ x. pattern_asks W e.0) (members v) + n) (sum_of_those _ _ (members v))
 
     -- each matcher is asked each member's name, and where the pattern matches, its schema is asked
     pub pattern_properties_asks : member_asks W ms (codes "patternProperties", d) pattern_properties u v ≡ sum_by
         (λ e. sum_by (λ x. pattern_asks W e.0 + cond (matches W u e.0 x.0) (asks W u e.1 x.1) 0) (members v)) (members d)
     unfolding meaning
     pattern_properties_asks =
-        (λ i. sum_by (λ a. a.sub.answer.asks a.value) (flat_map (asked_in W u (meaning_step W u) (codes "patternProperties") v) (entries_read (meaning_step W u) d i)) + own_asked i)
-        ∙ ap (λ n. n + sum_by (λ e. sum_by (λ x. pattern_asks W e.0) (members v)) (members d)) (at_matched_ask W u (meaning_step W u) (codes "patternProperties") v (members d))
+        (λ i. sum_by asks_it (asked_by (entries_read to_meaning d i)) + own_asked i)
+        ∙ ap (λ n. n + sum_by (λ e. sum_by (λ x. pattern_asks W e.0) (members v)) (members d)) (at_matched_ask W u to_meaning (codes "patternProperties") v (members d))
         ∙ other_way (sum_by (λ e. sum_by (λ x. asks W u e.1 x.1) (matched_members W u e.0 v)) (members d)) (sum_by (λ e. sum_by (λ x. pattern_asks W e.0) (members v)) (members d))
         ∙ sym (sum_of_both (λ e. sum_by (λ x. pattern_asks W e.0) (members v)) (λ e. sum_by (λ x. asks W u e.1 x.1) (matched_members W u e.0 v)) (members d))
         ∙ (λ i. sum_by (λ e. sym (asked_together e) i) (members d))
@@ -155,38 +163,38 @@ module _ (W : World) (ms : Members) (d : Data) (u : Bool) (v : Data) where
     unfolding meaning
     pattern_properties_child P Q = λ i. put_if (not (free i)) (result (P // codes "patternProperties") Q (cond (and-true (is_object v) i) (Some (names i)) None) false [] (trees i)) []
       where
-        names : flat_map (λ e. map (λ m. m.0) (filter_once (λ m. matches W u e.0 m.0) (members v))) (read (meaning_step W u) d).entries ≡ flat_map
+        names : flat_map (λ e. map (λ m. m.0) (filter_once (λ m. matches W u e.0 m.0) (members v))) (read to_meaning d).entries ≡ flat_map
             (λ e. map (λ x. x.0) (matched_members W u e.0 v)) (members d)
         names =
-            ap (flat_map (λ (e : Name × Subschema). map (λ x. x.0) (matched_members W u e.0 v))) (entries_read (meaning_step W u) d)
-            ∙ named_by_entries W u (meaning_step W u) (codes "patternProperties") v (members d)
+            ap (flat_map _) (entries_read to_meaning d)
+            ∙ named_by_entries W u to_meaning (codes "patternProperties") v (members d)
 
-        trees : map (λ a. a.sub.answer.tree a.value (down P a.in_schema) (down Q a.in_instance))
-            (flat_map (asked_in W u (meaning_step W u) (codes "patternProperties") v) (read (meaning_step W u) d).entries) ≡ flat_map
+        trees : map (shows_it P Q)
+            (asked_by (read to_meaning d).entries) ≡ flat_map
             (λ e. map (λ x. tree W u e.1 x.1 (P // codes "patternProperties" // e.0) (Q // x.0)) (matched_members W u e.0 v)) (members d)
         trees =
-            ap (λ es. map (λ a. a.sub.answer.tree a.value (down P a.in_schema) (down Q a.in_instance)) (flat_map (asked_in W u (meaning_step W u) (codes "patternProperties") v) es))
-            (entries_read (meaning_step W u) d) ∙ at_matched_show W u (meaning_step W u) (codes "patternProperties") v P Q (members d)
+            ap (λ es. map (shows_it P Q) (asked_by es))
+            (entries_read to_meaning d) ∙ at_matched_show W u to_meaning (codes "patternProperties") v P Q (members d)
 
   -- ---- where `additionalProperties` stands for it
 
-  module _ (restricted : restricts (read_members (meaning_step W u) ms) ≡ true) where
-    table_asked : sum_by (λ m. asks_at W (read_members (meaning_step W u) ms) (read (meaning_step W u) d) m.0) (members v) ≡ sum_by
+  module _ (restricted : restricts (read_members to_meaning ms) ≡ true) where
+    table_asked : sum_by (λ m. asks_at W (read_members to_meaning ms) (read to_meaning d) m.0) (members v) ≡ sum_by
         (λ x. patterns_asked W (declared_beside ms) (members d) x.0) (members v)
     table_asked =
-        λ i. sum_by (λ m. cond (restricted i && declared_read (meaning_step W u) ms m.0 i) (count_by (λ t. is_unfinished (W.says t m.0)) (open_read W (meaning_step W u) d i))
-        (length (open_read W (meaning_step W u) d i))) (members v)
+        λ i. sum_by (λ m. cond (restricted i && declared_read to_meaning ms m.0 i) (count_by (λ t. is_unfinished (W.says t m.0)) (open_read W to_meaning d i))
+        (length (open_read W to_meaning d i))) (members v)
 
     -- member by member the schemas of the patterns that match, and the matchers that are asked of its name
     pub pattern_properties_asks_beside : member_asks W ms (codes "patternProperties", d) pattern_properties u v ≡ sum_by
         (λ x. matching_asks W u (declared_beside ms) (members d) x + patterns_asked W (declared_beside ms) (members d) x.0) (members v)
     unfolding meaning
     pattern_properties_asks_beside =
-        (λ i. sum_by (λ a. a.sub.answer.asks a.value) (flat_map (asked_in W u (meaning_step W u) (codes "patternProperties") v) (entries_read (meaning_step W u) d i)) + table_asked i)
+        (λ i. sum_by asks_it (asked_by (entries_read to_meaning d i)) + table_asked i)
         ∙ ap (λ n. n + sum_by (λ x. patterns_asked W (declared_beside ms) (members d) x.0) (members v))
-        (at_matched_ask W u (meaning_step W u) (codes "patternProperties") v (members d)
+        (at_matched_ask W u to_meaning (codes "patternProperties") v (members d)
         ∙ sum_by-exchanged (λ e x. matches W u e.0 x.0) (λ e x. asks W u e.1 x.1) (members d) (members v))
-        ∙ sym (sum_of_both (matching_asks W u (declared_beside ms) (members d)) (λ x. patterns_asked W (declared_beside ms) (members d) x.0) (members v))
+        ∙ sym (sum_of_both (matching_asks W u (declared_beside ms) _) (λ x. patterns_asked W _ _ x.0) (members v))
 
 -- ---- what is wrong with it, and the places that it reads
 
@@ -225,7 +233,7 @@ module _ (W : World) (ms : Members) (d : Data) where
         table_asks = cond b
             (length (entries_at (read_members (cost_step W) ms) (codes "properties")) * length (open_patterns W (read (cost_step W) d))) 0;
       }) free
-      ∙ sum_last (matchers_made W d)
+      ∙ sum_last _
 
   -- each of its matchers is asked for each declared name
   pub pattern_properties_table_cost : restricts (read_members (cost_step W) ms) ≡ true → own_cost W (read_members (cost_step W) ms) (read (cost_step W) d) pattern_properties
@@ -243,7 +251,7 @@ module _ (W : World) (ms : Members) (d : Data) where
           (cond b (declared_beside ms) []) d
       by true e = pattern_properties_table_cost (restricted_read (cost_step W) ms ∙ e)
       by false e =
-          pattern_properties_free_cost (restricted_read (cost_step W) ms ∙ e) ∙ sym (sum_last (matchers_made W d)) ∙ ap (λ n. matchers_made W d ⊕ record no_cost { table_asks = n }) of_no_names
+          pattern_properties_free_cost (restricted_read (cost_step W) ms ∙ e) ∙ sym (sum_last _) ∙ ap (λ n. matchers_made W d ⊕ record no_cost { table_asks = n }) of_no_names
         where
           of_no_names : 0 ≡ 0 * length (open_names W d)
           of_no_names = omega arith
@@ -251,7 +259,7 @@ module _ (W : World) (ms : Members) (d : Data) where
 -- ---- one pattern after another
 
 module _ (W : World) where
-  pub made_together : (es : List (Name × Data)) → total_cost (λ e. matcher_made W e.0) es ≡ record no_cost { pattern_places = length (filter_once (is_open W) (map (λ e. e.0) es)) }
+  pub made_together : (es : Rows) → total_cost (λ e. matcher_made W e.0) es ≡ record no_cost { pattern_places = length (filter_once (is_open W) (map (λ e. e.0) es)) }
   made_together [] = refl
   made_together (e ∷ es) = ap (λ c. matcher_made W e.0 ⊕ c) (made_together es) ∙ by (is_open W e.0)
     where
@@ -268,7 +276,7 @@ module _ (W : World) where
           none : 0 + length (filter_once (is_open W) (map (λ e. e.0) es)) ≡ length (filter_once (is_open W) (map (λ e. e.0) es))
           none = omega arith
 
-  pub unbuilt_together : (L : Path) (es : List (Name × Data)) → flat_map (λ e. pattern_faults W L e.0) es ≡ map (λ t. refusal Regex (string t) (L // t))
+  pub unbuilt_together : (L : Path) (es : Rows) → flat_map (λ e. pattern_faults W L e.0) es ≡ map (λ t. refusal Regex (string t) (L // t))
       (filter_once (λ t. not (W.builds t)) (filter_once (is_open W) (map (λ e. e.0) es)))
   unbuilt_together L [] = refl
   unbuilt_together L (e ∷ es) = ap (λ fs. pattern_faults W L e.0 ++ fs) (unbuilt_together L es) ∙ by (is_open W e.0) (W.builds e.0) refl

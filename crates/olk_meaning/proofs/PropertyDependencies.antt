@@ -27,7 +27,7 @@ use Rattle.olk_spec.proofs.Walks.{list_all-flat_map}
 use Rattle.olk_spec.proofs.Reading.{place, entry, inner_entry, inner_read, entries_read, schema_of_read}
 use Rattle.olk_meaning.specs.Members.{member_accepts, member_asks, member_report, member_child}
 use Rattle.olk_meaning.specs.PropertyDependencies.{chosen}
-use Rattle.olk_meaning.proofs.Facts.{sum_by_under, nothing_last}
+use Rattle.olk_meaning.proofs.Facts.{accepts_it, asks_it, finds_it, shows_it, sum_by_under, nothing_last}
 use Rattle.olk_meaning.proofs.Exchanged.{sum_by-flat_map}
 
 -- ---- walks over lists of lists
@@ -51,7 +51,7 @@ module _ {X Y : Type 0} (g : X → List Y) where
 module _ {X : Type 0} (step : Schema X → X) where
   at_entries : (t : Name) (es : List (Name × Data)) → option_to_list (lookup_name t (map (entry step) es)) ≡ map (place step) (option_to_list (lookup_name t es))
   at_entries t [] = refl
-  at_entries t (e ∷ es) = by (slice_cmp nat_cmp t e.0) (at_entries t es)
+  at_entries t (e ∷ es) = by _ (at_entries t es)
     where
       by : (o : Ordering) → option_to_list (lookup_name t (map (entry step) es)) ≡ map (place step) (option_to_list (lookup_name t es))
           → option_to_list (first_if_equal o (place step e.1) (lookup_name t (map (entry step) es))) ≡ map (place step) (option_to_list (first_if_equal o e.1 (lookup_name t es)))
@@ -67,20 +67,20 @@ module _ (step : Schema Meaning → Meaning) (k : Name) (v : Data) where
       (asked_of e.0) (flat_map (λ t. map (λ s. (t, s)) (at t e.1)) ts)
   asked_at e [] = refl
   asked_at e (t ∷ ts) =
-      (λ i. (ap (map (λ s. asked s v (k ∷ e.0 ∷ t ∷ []) [])) (at_entries step t (members e.1)) ∙ map-map (λ s. asked s v (k ∷ e.0 ∷ t ∷ []) [])
+      (λ i. (ap (map (λ s. asked s v (k ∷ e.0 ∷ t ∷ []) [])) (at_entries step t (members e.1)) ∙ map-map (λ s. asked s v _ [])
       (λ s. asked_of e.0 (t, s)) (place step) (λ s. refl) (at t e.1)
-      ∙ sym (map-map (asked_of e.0) (λ s. asked_of e.0 (t, s)) (λ s. (t, s)) (λ s. refl) (at t e.1))) i ++ asked_at e ts i)
-      ∙ sym (map-append (asked_of e.0) (map (λ s. (t, s)) (at t e.1)) (flat_map (λ t. map (λ s. (t, s)) (at t e.1)) ts))
+      ∙ sym (map-map (asked_of e.0) _ _ (λ s. refl) (at t e.1))) i ++ asked_at e ts i)
+      ∙ sym (map-append (asked_of e.0) _ _)
 
   asked_by : (e : Name × Data) → flat_map (λ t. map (λ s. asked s v (k ∷ e.0 ∷ t ∷ []) []) (option_to_list (lookup_name t (map (entry step) (members e.1)))))
       (flat_map as_text (at e.0 v)) ≡ map (asked_of e.0) (chosen v e)
-  asked_by e = asked_at e (flat_map as_text (at e.0 v)) ∙ ap (map (asked_of e.0)) (flat_map-flat_map as_text (λ t. map (λ s. (t, s)) (at t e.1)) (at e.0 v))
+  asked_by e = asked_at e _ ∙ ap (map (asked_of e.0)) (flat_map-flat_map as_text _ (at e.0 v))
 
   asked_read : (W : World) (u : Bool) (S : Keywords Meaning) (d : Data) → applied W u S k (read step d) v property_dependencies ≡ flat_map (λ e. map (asked_of e.0) (chosen v e)) (members d)
   asked_read W u S d =
-      ap (flat_map (λ e. flat_map (λ t. map (λ s. asked s v (k ∷ e.0 ∷ t ∷ []) []) (option_to_list (lookup_name t e.1))) (flat_map as_text (at e.0 v)))) (inner_read step d)
-      ∙ flat_map-map (λ e. flat_map (λ t. map (λ s. asked s v (k ∷ e.0 ∷ t ∷ []) []) (option_to_list (lookup_name t e.1))) (flat_map as_text (at e.0 v)))
-      (λ e. map (asked_of e.0) (chosen v e)) (inner_entry step) asked_by (members d)
+      ap (flat_map _) (inner_read step d)
+      ∙ flat_map-map _
+      _ (inner_entry step) asked_by (members d)
 
 -- ---- what it means
 
@@ -98,17 +98,17 @@ module _ (W : World) (ms : Members) (d : Data) (u : Bool) (v : Data) where
   unfolding meaning
   property_dependencies_accepts =
       and-true _
-      ∙ ap (list_all (λ a. a.sub.answer.accepts a.value)) chosen_asked
-      ∙ list_all-flat_map (λ a. a.sub.answer.accepts a.value) (λ e. map (asked_here e.0) (chosen v e)) (members d)
-      ∙ (λ i. list_all (λ e. list_all-map (λ a. a.sub.answer.accepts a.value) (asked_here e.0) (chosen v e) i) (members d))
+      ∙ ap (list_all _) chosen_asked
+      ∙ list_all-flat_map accepts_it _ (members d)
+      ∙ (λ i. list_all (λ e. list_all-map accepts_it (asked_here e.0) (chosen v e) i) (members d))
 
   pub property_dependencies_asks : member_asks W ms (codes "propertyDependencies", d) property_dependencies u v ≡ sum_by (λ e. sum_by (λ c. asks W u c.1 v) (chosen v e)) (members d)
   unfolding meaning
   property_dependencies_asks =
       nothing_last _
-      ∙ ap (sum_by (λ a. a.sub.answer.asks a.value)) chosen_asked
-      ∙ sum_by-flat_map (λ e. map (asked_here e.0) (chosen v e)) (λ a. a.sub.answer.asks a.value) (members d)
-      ∙ (λ i. sum_by (λ e. sum_by_under (asked_here e.0) (λ a. a.sub.answer.asks a.value) (chosen v e) i) (members d))
+      ∙ ap (sum_by _) chosen_asked
+      ∙ sum_by-flat_map _ asks_it (members d)
+      ∙ (λ i. sum_by (λ e. sum_by_under (asked_here e.0) asks_it (chosen v e) i) (members d))
 
   module _ (P Q : Path) where
     pub property_dependencies_report : member_report W ms (codes "propertyDependencies", d) property_dependencies u v P Q ≡ flat_map
@@ -116,18 +116,18 @@ module _ (W : World) (ms : Members) (d : Data) (u : Bool) (v : Data) where
     unfolding meaning
     property_dependencies_report =
         append-nil _
-        ∙ ap (flat_map (λ a. a.sub.answer.report a.value (down P a.in_schema) (down Q a.in_instance))) chosen_asked
-        ∙ flat_map-flat_map (λ e. map (asked_here e.0) (chosen v e)) (λ a. a.sub.answer.report a.value (down P a.in_schema) (down Q a.in_instance)) (members d)
-        ∙ (λ i. flat_map (λ e. flat_map-map (λ a. a.sub.answer.report a.value (down P a.in_schema) (down Q a.in_instance))
-        (λ c. report W u c.1 v (P // codes "propertyDependencies" // e.0 // c.0) Q) (asked_here e.0) (λ c. refl) (chosen v e) i) (members d))
+        ∙ ap (flat_map _) chosen_asked
+        ∙ flat_map-flat_map _ _ (members d)
+        ∙ (λ i. flat_map (λ e. flat_map-map (finds_it P Q)
+        _ (asked_here e.0) (λ c. refl) (chosen v e) i) (members d))
 
     pub property_dependencies_child : member_child W ms (codes "propertyDependencies", d) property_dependencies u v P Q ≡ plain (P // codes "propertyDependencies") Q
         (flat_map (λ e. map (λ c. tree W u c.1 v (P // codes "propertyDependencies" // e.0 // c.0) Q) (chosen v e)) (members d)) ∷ []
     unfolding meaning
     property_dependencies_child = ap (λ ts. plain (P // codes "propertyDependencies") Q ts ∷ [])
-        (ap (map (λ a. a.sub.answer.tree a.value (down P a.in_schema) (down Q a.in_instance))) chosen_asked
-        ∙ map-flat_map (λ e. map (asked_here e.0) (chosen v e)) (λ a. a.sub.answer.tree a.value (down P a.in_schema) (down Q a.in_instance)) (members d)
-        ∙ (λ i. flat_map (λ e. map-map (λ a. a.sub.answer.tree a.value (down P a.in_schema) (down Q a.in_instance)) (λ c. tree W u c.1 v (P // codes "propertyDependencies" // e.0 // c.0) Q) (asked_here e.0) (λ c. refl) (chosen v e) i) (members d)))
+        (ap (map _) chosen_asked
+        ∙ map-flat_map _ _ (members d)
+        ∙ (λ i. flat_map (λ e. map-map (shows_it P Q) _ (asked_here e.0) (λ c. refl) (chosen v e) i) (members d)))
 
 -- ---- what is wrong with it, and the places that it reads
 
@@ -135,7 +135,7 @@ module _ {X : Type 0} (step : Schema X → X) (d : Data) (k : Name) where
   pub property_dependencies_refusals : (W : World) (L : Path) → own_refusals W k (read step d) L property_dependencies ≡ unless_object d L ++ flat_map (λ e. unless_object e.1 (L // e.0)) (members d)
   property_dependencies_refusals W L =
       (λ i. unless_object (schema_of_read step d i) L ++ flat_map (λ e. unless_object e.1.schema (L // e.0)) (entries_read step d i))
-      ∙ ap (λ fs. unless_object d L ++ fs) (flat_map-map (λ e. unless_object e.1.schema (L // e.0)) (λ e. unless_object e.1 (L // e.0)) (entry step) (λ e. refl) (members d))
+      ∙ ap (λ fs. unless_object d L ++ fs) (flat_map-map _ _ (entry step) (λ e. refl) (members d))
 
   -- each entry of each entry
   abbrev pub inner_places : List (Sub X × List Name)
@@ -143,22 +143,22 @@ module _ {X : Type 0} (step : Schema X → X) (d : Data) (k : Name) where
 
   pub property_dependencies_places : (S : Keywords X) → read_places k S (read step d) property_dependencies ≡ inner_places
   property_dependencies_places S =
-      ap (flat_map (λ e. map (λ i. (i.1, k ∷ e.0 ∷ i.0 ∷ [])) e.1)) (inner_read step d)
-      ∙ flat_map-map (λ e. map (λ i. (i.1, k ∷ e.0 ∷ i.0 ∷ [])) e.1) (λ e. map (λ c. (place step c.1, k ∷ e.0 ∷ c.0 ∷ [])) (members e.1)) (inner_entry step)
-      (λ e. map-map (λ i. (i.1, k ∷ e.0 ∷ i.0 ∷ [])) (λ c. (place step c.1, k ∷ e.0 ∷ c.0 ∷ [])) (entry step) (λ c. refl) (members e.1)) (members d)
+      ap (flat_map _) (inner_read step d)
+      ∙ flat_map-map _ _ (inner_entry step)
+      (λ e. map-map _ _ _ (λ c. refl) _) (members d)
 
 module _ (W : World) (d : Data) (k : Name) where
   pub inner_malformations : (P : Path) → flat_map (λ r. r.0.answer (down P r.1)) (inner_places (malformations_step W) d k) ≡ flat_map
       (λ e. flat_map (λ c. malformations_at W c.1 (P // k // e.0 // c.0)) (members e.1)) (members d)
   unfolding malformations_at
   inner_malformations P =
-      flat_map-flat_map (λ e. map (λ c. (place (malformations_step W) c.1, k ∷ e.0 ∷ c.0 ∷ [])) (members e.1)) (λ r. r.0.answer (down P r.1)) (members d)
-      ∙ (λ i. flat_map (λ e. flat_map-map (λ (r : Sub (Path → List Fault) × List Name). r.0.answer (down P r.1)) (λ c. malformations_at W c.1 (P // k // e.0 // c.0))
+      flat_map-flat_map _ _ (members d)
+      ∙ (λ i. flat_map (λ e. flat_map-map (λ (r : Sub _ × List Name). r.0.answer (down P r.1)) (λ c. malformations_at W c.1 _)
       (λ c. (place (malformations_step W) c.1, k ∷ e.0 ∷ c.0 ∷ [])) (λ c. refl) (members e.1) i) (members d))
 
   pub inner_costs : total_cost (λ r. r.0.answer) (inner_places (cost_step W) d k) ≡ total_cost (λ e. total_cost (λ c. cost W c.1) (members e.1)) (members d)
   unfolding cost
   inner_costs =
-      total_cost-flat_map (λ e. map (λ c. (place (cost_step W) c.1, k ∷ e.0 ∷ c.0 ∷ [])) (members e.1)) (λ r. r.0.answer) (members d)
+      total_cost-flat_map _ (λ r. r.0.answer) (members d)
       ∙ (λ i. total_cost (λ e. total_cost-map (λ (r : Sub Cost × List Name). r.0.answer) (λ c. cost W c.1) (λ c. (place (cost_step W) c.1, k ∷ e.0 ∷ c.0 ∷ []))
       (λ c. refl) (members e.1) i) (members d))

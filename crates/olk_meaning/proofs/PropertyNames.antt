@@ -21,6 +21,7 @@ use Rattle.olk_spec.proofs.Reading.{place, whole_read}
 use Rattle.olk_meaning.specs.Members.{member_accepts, member_asks, member_report, member_child, member_malformations, member_cost}
 use Rattle.olk_meaning.proofs.Asking.{names_ask_nothing}
 use Rattle.olk_meaning.proofs.Facts.{nothing_first}
+use Rattle.olk_spec.specs.Meanings.{Meaning}
 
 -- ---- wrapped faults
 
@@ -46,33 +47,37 @@ false_is_no_object (object fs) e = absurd (true≢false (sym e))
 false_is_no_object _ e = refl
 
 module _ (W : World) (ms : Members) (d : Data) (u : Bool) (v : Data) where
+  -- a schema, with its parts' meanings, to its own
+  abbrev to_meaning : Schema Meaning → Meaning
+  to_meaning = meaning_step W u
+
   -- beside the schema itself: whether it is one for names, and whether it is false
   module _ (names none : Bool) (is_names : is_object d ≡ names) (is_none : is_truth false d ≡ none) where
     accepts_by : member_accepts W ms (codes "propertyNames", d) property_names u v ≡ ((not names || list_all (λ m. accepts W u d (string m.0)) (members v)) && (not none || is_empty (members v)))
     unfolding meaning
     accepts_by =
-        (λ i. (not (is_object (whole_read (meaning_step W u) d i).schema) || list_all (λ m. (whole_read (meaning_step W u) d i).answer.accepts (string m.0)) (members v))
-        && (not (is_truth false (whole_read (meaning_step W u) d i).schema) || is_empty (members v)))
+        (λ i. (not (is_object (whole_read to_meaning d i).schema) || list_all (λ m. (whole_read to_meaning d i).answer.accepts (string m.0)) (members v))
+        && (not (is_truth false (whole_read to_meaning d i).schema) || is_empty (members v)))
         ∙ (λ i. (not (is_names i) || list_all (λ m. accepts W u d (string m.0)) (members v)) && (not (is_none i) || is_empty (members v)))
 
     report_by : (P Q : Path) → member_report W ms (codes "propertyNames", d) property_names u v P Q
-        ≡ flat_map (λ s. flat_map (λ m. map (wrapped v Q) (s.answer.report (string m.0) (P // codes "propertyNames") Q)) (members v)) (put_if names (place (meaning_step W u) d) [])
+        ≡ flat_map (λ s. flat_map (λ m. map (wrapped v Q) (s.answer.report (string m.0) (P // codes "propertyNames") Q)) (members v)) (put_if names (place to_meaning d) [])
         ++ fault_if (none && not (is_empty (members v))) FalseSchema v (P // codes "propertyNames") Q
     report_by P Q =
         (λ i. flat_map (λ s. flat_map (λ m. map (wrapped v Q) (s.answer.report (string m.0) (P // codes "propertyNames") Q)) (members v))
-        (put_if (is_object (whole_read (meaning_step W u) d i).schema) (whole_read (meaning_step W u) d i) [])
-        ++ fault_if (is_truth false (whole_read (meaning_step W u) d i).schema && not (is_empty (members v))) FalseSchema v (P // codes "propertyNames") Q)
+        (put_if (is_object (whole_read to_meaning d i).schema) (whole_read to_meaning d i) [])
+        ++ fault_if (is_truth false (whole_read to_meaning d i).schema && not (is_empty (members v))) FalseSchema v (P // codes "propertyNames") Q)
         ∙ (λ i. flat_map (λ s. flat_map (λ m. map (wrapped v Q) (s.answer.report (string m.0) (P // codes "propertyNames") Q)) (members v))
-        (put_if (is_names i) (place (meaning_step W u) d) []) ++ fault_if (is_none i && not (is_empty (members v))) FalseSchema v (P // codes "propertyNames") Q)
+        (put_if (is_names i) (place to_meaning d) []) ++ fault_if (is_none i && not (is_empty (members v))) FalseSchema v (P // codes "propertyNames") Q)
 
     child_by : (P Q : Path) → member_child W ms (codes "propertyNames", d) property_names u v P Q
         ≡ put_if names (plain (P // codes "propertyNames") Q (map (λ m. tree W u d (string m.0) (P // codes "propertyNames") Q) (members v))) []
         ++ put_if none (erring (P // codes "propertyNames") Q (fault_if (not (is_empty (members v))) FalseSchema v (P // codes "propertyNames") Q)) []
     unfolding meaning
     child_by P Q =
-        (λ i. put_if (is_object (whole_read (meaning_step W u) d i).schema)
-        (plain (P // codes "propertyNames") Q (map (λ m. (whole_read (meaning_step W u) d i).answer.tree (string m.0) (P // codes "propertyNames") Q) (members v))) []
-        ++ put_if (is_truth false (whole_read (meaning_step W u) d i).schema) (erring (P // codes "propertyNames") Q (fault_if (not (is_empty (members v))) FalseSchema v (P // codes "propertyNames") Q)) [])
+        (λ i. put_if (is_object (whole_read to_meaning d i).schema)
+        (plain (P // codes "propertyNames") Q (map (λ m. (whole_read to_meaning d i).answer.tree (string m.0) (P // codes "propertyNames") Q) (members v))) []
+        ++ put_if (is_truth false (whole_read to_meaning d i).schema) (erring (P // codes "propertyNames") Q (fault_if (not (is_empty (members v))) FalseSchema v (P // codes "propertyNames") Q)) [])
         ∙ (λ i. put_if (is_names i) (plain (P // codes "propertyNames") Q (map (λ m. tree W u d (string m.0) (P // codes "propertyNames") Q) (members v))) []
         ++ put_if (is_none i) (erring (P // codes "propertyNames") Q (fault_if (not (is_empty (members v))) FalseSchema v (P // codes "propertyNames") Q)) [])
 
@@ -143,7 +148,7 @@ module _ (W : World) (ms : Members) (d : Data) where
     pub property_names_malformations : is_object d ≡ true → member_malformations W ms (codes "propertyNames", d) property_names P ≡ malformations_at W d (P // codes "propertyNames")
     unfolding malformations_at
     property_names_malformations e =
-        ap (flat_map (λ r. r.0.answer (down P r.1))) (property_names_places (malformations_step W) d (codes "propertyNames") (read_members (malformations_step W) ms) e) ∙ append-nil _
+        ap (flat_map (λ r. r.0.answer _)) (property_names_places (malformations_step W) d (codes "propertyNames") (read_members (malformations_step W) ms) e) ∙ append-nil _
 
   pub property_names_cost : is_object d ≡ true → member_cost W ms (codes "propertyNames", d) property_names ≡ cost W d
   unfolding cost

@@ -16,6 +16,7 @@ use Rattle.olk_meaning.specs.AdditionalProperties.{rows_at, fused_rows}
 use Rattle.olk_meaning.proofs.Heads.{those_split, those_none, filter_once-same, names_of}
 use Rattle.olk_meaning.proofs.Claims.{members_named, named_once, members_found, past_cases, or_true}
 use Rattle.olk_meaning.proofs.TakenOver.{restricted_fuses_none, fuses_one_name}
+use Rattle.olk_meaning.proofs.Rows.{Rows}
 
 -- the keyword is one that the head of a restriction stands for
 abbrev pub is_below : Planned → Name → Bool
@@ -37,8 +38,8 @@ module _ (p : Planned) (restricted : p.restricted ≡ true) (unfused : is_some p
     where
       by : (a b c : Bool) → bytes_eq (codes "additionalProperties") (cond ((true && (a || (b || false))) || c) (codes "additionalProperties") (not_taken n)) ≡
           (bytes_eq (codes "additionalProperties") n || (a || (b || c)))
-      by false false false = not_taken_alone (codes "additionalProperties") n refl refl ∙ sym (or-false (bytes_eq (codes "additionalProperties") n))
-      by _ _ _ = or_true (bytes_eq (codes "additionalProperties") n)
+      by false false false = not_taken_alone (codes "additionalProperties") n refl refl ∙ sym (or-false _)
+      by _ _ _ = or_true _
 
   -- what is taken over is the head of nothing
   taken_heads_none : (k : Name) → is_taken_over p k ≡ true → bytes_eq k (codes "additionalProperties") ≡ false → bytes_eq k (codes "if") ≡ false
@@ -51,7 +52,7 @@ module _ (p : Planned) (restricted : p.restricted ≡ true) (unfused : is_some p
 
       by : (t : Bool) → is_taken_over p n ≡ t → bytes_eq k (cond t (codes "additionalProperties") (not_taken n)) ≡ false
       by true q = a
-      by false q = not_taken_alone k n b c ∙ other (bytes_eq k n) refl q
+      by false q = not_taken_alone k n b c ∙ other _ refl q
 
 module _ (ms : Members) (restricted : is_restricted ms ≡ true) where
   abbrev plan : Planned
@@ -60,31 +61,31 @@ module _ (ms : Members) (restricted : is_restricted ms ≡ true) where
   pub unfused : is_some plan.fused_pair ≡ false
   unfused = restricted_fuses_none ms restricted
 
-  module _ (es : List (Name × Data)) (d : Data) where
+  module _ (es : Rows) (d : Data) where
     pub claims_no_properties : claims (head (plan_of ms)) es (codes "properties", d) ≡ []
     claims_no_properties =
-        filter_once-same (λ (x : Name × Data). bytes_eq (codes "properties") (head plan x.0)) (λ x. false)
+        filter_once-same _ (λ x. false)
         (λ x. taken_heads_none plan restricted unfused (codes "properties") (ap (λ b. (b && true) || (is_some plan.fused_one && false)) restricted) refl refl refl x.0) es ∙ those_none es
 
     pub claims_no_patterns : claims (head (plan_of ms)) es (codes "patternProperties", d) ≡ []
     claims_no_patterns =
-        filter_once-same (λ (x : Name × Data). bytes_eq (codes "patternProperties") (head plan x.0)) (λ x. false)
+        filter_once-same _ (λ x. false)
         (λ x. taken_heads_none plan restricted unfused (codes "patternProperties") (ap (λ b. (b && true) || (is_some plan.fused_one && false)) restricted) refl refl refl x.0) es ∙ those_none es
 
     pub claims_no_fused : is_some (fused_one ms) ≡ true → claims (head (plan_of ms)) es (codes "required", d) ≡ []
     claims_no_fused f =
-        filter_once-same (λ (x : Name × Data). bytes_eq (codes "required") (head plan x.0)) (λ x. false)
+        filter_once-same _ (λ x. false)
         (λ x. taken_heads_none plan restricted unfused (codes "required") (λ i. (restricted i && false) || (f i && true)) refl refl refl x.0) es ∙ those_none es
 
   module _ (distinct : has_repeat (names_of (listed ms)) ≡ false) where
     rows_found : (k : Name) → members_named k (listed ms) ≡ rows_at k ms
-    rows_found k = members_found ms distinct k (lookup_name k (listed ms)) refl
+    rows_found k = members_found ms distinct k _ refl
 
     -- `required` of one name that is fused
     fused_found : (o : Option Name) → fused_one ms ≡ o → filter_once (λ x. is_some o && bytes_eq (codes "required") x.0) (listed ms) ≡ map
         (λ n. (codes "required", array (item (string n) no_items))) (option_to_list o)
     fused_found None e = those_none (listed ms)
-    fused_found (Some n) e = named_once (codes "required") (array (item (string n) no_items)) (listed ms) (Distinct-from (listed ms) distinct) (fuses_one_name ms n e).listed_at
+    fused_found (Some n) e = named_once _ _ (listed ms) (Distinct-from _ distinct) (fuses_one_name ms n e).listed_at
 
     apart_of : (k : Name) (test : Name → Bool) → test k ≡ false → (x : Name × Data) → bytes_eq k x.0 ≡ true → test x.0 ≡ false
     apart_of k test e x q = ap test (sym (same_name k x.0 q)) ∙ e
@@ -95,23 +96,23 @@ module _ (ms : Members) (restricted : is_restricted ms ≡ true) where
     tested : IsPermutation (members_named (codes "additionalProperties") (listed ms)
         ++ (members_named (codes "properties") (listed ms) ++ (members_named (codes "patternProperties") (listed ms) ++ filter_once (λ x. fused_here x.0) (listed ms))))
         (filter_once (λ x. is_below plan x.0) (listed ms))
-    tested = one_more (codes "additionalProperties") (λ n. bytes_eq (codes "properties") n || (bytes_eq (codes "patternProperties") n || fused_here n)) (and-false (is_some (fused_one ms)))
-        (one_more (codes "properties") (λ n. bytes_eq (codes "patternProperties") n || fused_here n) (and-false (is_some (fused_one ms)))
-        (one_more (codes "patternProperties") fused_here (and-false (is_some (fused_one ms))) (IsPermutation-refl (filter_once (λ x. fused_here x.0) (listed ms)))))
+    tested = one_more (codes "additionalProperties") _ (and-false (is_some _))
+        (one_more (codes "properties") _ (and-false (is_some _))
+        (one_more (codes "patternProperties") fused_here (and-false _) (IsPermutation-refl _)))
       where
-        one_more : (k : Name) (test : Name → Bool) {xs : List (Name × Data)} → test k ≡ false → IsPermutation xs (filter_once (λ x. test x.0) (listed ms))
+        one_more : (k : Name) (test : Name → Bool) {xs : Rows} → test k ≡ false → IsPermutation xs (filter_once (λ x. test x.0) (listed ms))
             → IsPermutation (members_named k (listed ms) ++ xs) (filter_once (λ x. bytes_eq k x.0 || test x.0) (listed ms))
         one_more k test {xs} e h =
-            IsPermutation-trans _ _ _ (IsPermutation-append _ _ _ _ (IsPermutation-refl (members_named k (listed ms))) h)
-            (those_split (λ x. bytes_eq k x.0) (λ x. test x.0) (apart_of k test e) (listed ms))
+            IsPermutation-trans _ _ _ (IsPermutation-append _ _ _ _ (IsPermutation-refl _) h)
+            (those_split (λ x. bytes_eq k x.0) _ (apart_of k test e) (listed ms))
 
     -- itself, `properties` and `patternProperties` where they stand, and `required` where it is fused
     pub claims_restriction : (d : Data) → lookup_name (codes "additionalProperties") (listed ms) ≡ Some d
         → IsPermutation ((codes "additionalProperties", d) ∷ (rows_at (codes "properties") ms ++ (rows_at (codes "patternProperties") ms ++ fused_rows ms)))
         (claims (head (plan_of ms)) (listed ms) (codes "additionalProperties", d))
     claims_restriction d there = subst₂ IsPermutation
-        (λ i. named_once (codes "additionalProperties") d (listed ms) (Distinct-from (listed ms) distinct) there i
-        ++ (rows_found (codes "properties") i ++ (rows_found (codes "patternProperties") i ++ fused_found (fused_one ms) refl i)))
-        (filter_once-same (λ (x : Name × Data). is_below plan x.0) (λ x. bytes_eq (codes "additionalProperties") (head plan x.0))
+        (λ i. named_once (codes "additionalProperties") d (listed ms) (Distinct-from _ distinct) there i
+        ++ (rows_found (codes "properties") i ++ (rows_found (codes "patternProperties") i ++ fused_found _ refl i)))
+        (filter_once-same _ _
         (λ x. sym (head_of_restriction plan restricted unfused x.0)) (listed ms))
         tested

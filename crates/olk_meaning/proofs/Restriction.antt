@@ -35,6 +35,7 @@ use Rattle.olk_meaning.proofs.Heads.{names_of}
 use Rattle.olk_meaning.proofs.PatternProperties.{pattern_properties_accepts, pattern_properties_report, pattern_properties_asks_beside}
 use Rattle.olk_meaning.proofs.Conditions.{restricted_read}
 use Rattle.olk_meaning.proofs.RestrictedClaims.{claims_restriction}
+use Rattle.olk_meaning.proofs.Rows.{Rows}
 
 -- the rest and three others in the order in which they are wanted
 in_order : (r a b c : Bool) → (r && (a && (b && c))) ≡ ((a && (b && r)) && c)
@@ -45,20 +46,20 @@ in_order _ _ _ c = refl
 found_in_order : (r o a b c : List Fault) → (r ++ o) ++ (a ++ (b ++ c)) ∼ ((a ++ (b ++ r)) ++ o) ++ c
 found_in_order r o a b c =
     like_through (∼_swap (r ++ o) (a ++ (b ++ c)))
-    (like_through (∼_same (append_assoc a (b ++ c) (r ++ o) ∙ ap (λ l. a ++ l) (append_assoc b c (r ++ o))))
-    (like_through (∼_before a (∼_before b (∼_swap c (r ++ o))))
-    (∼_same (ap (λ l. a ++ (b ++ l)) (append_assoc r o c) ∙ ap (λ l. a ++ l) (sym (append_assoc b r (o ++ c))) ∙ sym (append_assoc a (b ++ r) (o ++ c)) ∙ sym (append_assoc (a ++ (b ++ r)) o c)))))
+    (like_through (∼_same (append_assoc a (b ++ c) (r ++ o) ∙ ap (λ l. a ++ l) (append_assoc b c _)))
+    (like_through (∼_before a (∼_before b (∼_swap c _)))
+    (∼_same (ap (λ l. a ++ (b ++ l)) (append_assoc r o c) ∙ ap (λ l. a ++ l) (sym (append_assoc b r _)) ∙ sym (append_assoc a _ _) ∙ sym (append_assoc _ o c)))))
 
 module _ (W : World) (ms : Members) (d : Data) (distinct : has_repeat (names_of (listed ms)) ≡ false) (there : lookup_name (codes "additionalProperties") (listed ms) ≡ Some d)
     (restricted : is_restricted ms ≡ true) (u : Bool) (v : Data) where
-  abbrev fs : List (Name × Data)
+  abbrev fs : Rows
   fs = declared_beside ms
 
-  abbrev es : List (Name × Data)
+  abbrev es : Rows
   es = patterns_beside ms
 
   -- what the validator stands for
-  abbrev claimed : List (Name × Data)
+  abbrev claimed : Rows
   claimed = claims (head (plan_of ms)) (listed ms) (codes "additionalProperties", d)
 
   -- ---- the verdict
@@ -66,22 +67,33 @@ module _ (W : World) (ms : Members) (d : Data) (distinct : has_repeat (names_of 
   abbrev row_accepts : Name × Data → Bool
   row_accepts m = member_accepts W ms m (keyword_named W m.0) u v
 
-  declared_rows_accept : list_all row_accepts (rows_at (codes "properties") ms) ≡ list_all (λ e. list_all (accepts W u e.1) (at e.0 v)) fs
-  declared_rows_accept = by (lookup_name (codes "properties") (listed ms))
+  -- the declared schemas at the members of their names
+  abbrev all_declared_accept : Bool
+  all_declared_accept = list_all (λ e. list_all (accepts W u e.1) (at e.0 v)) fs
+
+  -- a member, by the patterns and the rest
+  abbrev others_accept_it : Name × Data → Bool
+  others_accept_it x = matching_accept W u fs es x && rest_accepts W u fs es d x
+
+  abbrev none_missing : Bool
+  none_missing = is_empty (missing (required_beside ms) v)
+
+  declared_rows_accept : list_all row_accepts (rows_at (codes "properties") ms) ≡ all_declared_accept
+  declared_rows_accept = by _
     where
       by : (o : Option Data) → list_all row_accepts (map (λ d. (codes "properties", d)) (option_to_list o)) ≡ list_all (λ e. list_all (accepts W u e.1) (at e.0 v)) (entries_in o)
       by None = refl
       by (Some d) = and-true _ ∙ declared_accept W ms d u v
 
   pattern_rows_accept : list_all row_accepts (rows_at (codes "patternProperties") ms) ≡ list_all (matching_accept W u fs es) (members v)
-  pattern_rows_accept = by (lookup_name (codes "patternProperties") (listed ms)) ∙ list_all-exchanged (λ e x. matches W u e.0 x.0) (λ e x. accepts W u e.1 x.1) es (members v)
+  pattern_rows_accept = by _ ∙ list_all-exchanged _ _ es _
     where
       by : (o : Option Data) → list_all row_accepts (map (λ d. (codes "patternProperties", d)) (option_to_list o)) ≡ list_all
           (λ e. list_all (λ x. accepts W u e.1 x.1) (matched_members W u e.0 v)) (entries_in o)
       by None = refl
       by (Some d) = and-true _ ∙ pattern_properties_accepts W ms d u v
 
-  fused_rows_accept : list_all row_accepts (fused_rows ms) ≡ is_empty (missing (required_beside ms) v)
+  fused_rows_accept : list_all row_accepts (fused_rows ms) ≡ none_missing
   fused_rows_accept = by (fused_one ms)
     where
       by : (o : Option Name) → list_all row_accepts (map (λ n. (codes "required", array (item (string n) no_items))) (option_to_list o)) ≡ is_empty (missing (option_to_list o) v)
@@ -89,28 +101,28 @@ module _ (W : World) (ms : Members) (d : Data) (distinct : has_repeat (names_of 
       by (Some n) = and-true _ ∙ required_accepts W ms (array (item (string n) no_items)) u v
 
   -- each declared schema at the member of its name, and each member by the patterns and the rest
-  pub claims_accept : list_all row_accepts claimed ≡ ((list_all (λ e. list_all (accepts W u e.1) (at e.0 v)) fs
-      && list_all (λ x. matching_accept W u fs es x && rest_accepts W u fs es d x) (members v)) && is_empty (missing (required_beside ms) v))
+  pub claims_accept : list_all row_accepts claimed ≡ ((all_declared_accept
+      && list_all others_accept_it (members v)) && none_missing)
   claims_accept =
       sym (list_all-permuted row_accepts _ claimed (claims_restriction ms restricted distinct d there))
       ∙ ap (λ b. row_accepts (codes "additionalProperties", d) && b) (list_all-append row_accepts (rows_at (codes "properties") ms) (rows_at (codes "patternProperties") ms ++ fused_rows ms))
       ∙ (λ i. additional_accepts W ms d u v i && (declared_rows_accept i
       && (list_all-append row_accepts (rows_at (codes "patternProperties") ms) (fused_rows ms) ∙ (λ j. pattern_rows_accept j && fused_rows_accept j)) i))
-      ∙ in_order (list_all (rest_accepts W u fs es d) (members v)) (list_all (λ e. list_all (accepts W u e.1) (at e.0 v)) fs)
-      (list_all (matching_accept W u fs es) (members v)) (is_empty (missing (required_beside ms) v))
-      ∙ ap (λ b. (list_all (λ e. list_all (accepts W u e.1) (at e.0 v)) fs && b) && is_empty (missing (required_beside ms) v))
-      (sym (list_all-and (matching_accept W u fs es) (rest_accepts W u fs es d) (members v)))
+      ∙ in_order (list_all (rest_accepts W u fs es d) (members v)) (list_all (λ e. list_all _ (at e.0 v)) fs)
+      (list_all (matching_accept W u fs es) (members v)) none_missing
+      ∙ ap (λ b. (all_declared_accept && b) && none_missing)
+      (sym (list_all-and _ _ (members v)))
 
   -- where no name stands twice among the declared and among the members, member by member
   module _ (declared_once : has_repeat (names_of fs) ≡ false) (members_once : has_repeat (names_of (members v)) ≡ false) where
-    declared_by_member : list_all (λ e. list_all (accepts W u e.1) (at e.0 v)) fs ≡ list_all (declared_accepts W u fs es) (members v)
-    declared_by_member = list_all-other_side (λ s x. accepts W u s x) fs (members v) (Distinct-from fs declared_once) (Distinct-from (members v) members_once)
+    declared_by_member : all_declared_accept ≡ list_all (declared_accepts W u fs es) (members v)
+    declared_by_member = list_all-other_side _ fs (members v) (Distinct-from fs declared_once) (Distinct-from (members v) members_once)
 
-    pub claims_accept_each : list_all row_accepts claimed ≡ (list_all (each_accepts W u fs es d) (members v) && is_empty (missing (required_beside ms) v))
-    claims_accept_each = claims_accept ∙ ap (λ b. b && is_empty (missing (required_beside ms) v))
+    pub claims_accept_each : list_all row_accepts claimed ≡ (list_all (each_accepts W u fs es d) (members v) && none_missing)
+    claims_accept_each = claims_accept ∙ ap (λ b. b && none_missing)
         ((λ i. declared_by_member i && list_all-and (matching_accept W u fs es) (rest_accepts W u fs es d) (members v) i)
-        ∙ sym (and_assoc (list_all (declared_accepts W u fs es) (members v)) (list_all (matching_accept W u fs es) (members v)) (list_all (rest_accepts W u fs es d) (members v)))
-        ∙ sym ((list_all-and (λ x. declared_accepts W u fs es x && matching_accept W u fs es x) (rest_accepts W u fs es d) (members v)) ∙ ap (λ b. b && list_all (rest_accepts W u fs es d) (members v)) (list_all-and (declared_accepts W u fs es) (matching_accept W u fs es) (members v))))
+        ∙ sym (and_assoc (list_all _ (members v)) (list_all _ (members v)) (list_all _ (members v)))
+        ∙ sym ((list_all-and (λ x. declared_accepts W u fs es x && matching_accept W u fs es x) (rest_accepts W u fs es d) (members v)) ∙ ap (λ b. b && list_all (rest_accepts W u fs es d) (members v)) (list_all-and _ _ (members v))))
 
   -- ---- the faults, where the schema object stands at P and the value at Q
 
@@ -129,7 +141,7 @@ module _ (W : World) (ms : Members) (d : Data) (distinct : has_repeat (names_of 
     required_found = required_faults (required_beside ms) v (P // codes "required") Q
 
     declared_rows_find : flat_map row_report (rows_at (codes "properties") ms) ≡ declared_found
-    declared_rows_find = by (lookup_name (codes "properties") (listed ms))
+    declared_rows_find = by _
       where
         by : (o : Option Data) → flat_map row_report (map (λ d. (codes "properties", d)) (option_to_list o)) ≡ flat_map
             (λ e. flat_map (λ x. report W u e.1 x (P // codes "properties" // e.0) (Q // e.0)) (at e.0 v)) (entries_in o)
@@ -138,8 +150,8 @@ module _ (W : World) (ms : Members) (d : Data) (distinct : has_repeat (names_of 
 
     pattern_rows_find : flat_map row_report (rows_at (codes "patternProperties") ms) ∼ flat_map (matching_report W u fs es P Q) (members v)
     pattern_rows_find =
-        like_through (∼_same (by (lookup_name (codes "patternProperties") (listed ms))))
-        (∼_exchanged (λ e x. matches W u e.0 x.0) (λ e x. report W u e.1 x.1 (P // codes "patternProperties" // e.0) (Q // x.0)) es (members v))
+        like_through (∼_same (by _))
+        (∼_exchanged _ _ es _)
       where
         by : (o : Option Data) → flat_map row_report (map (λ d. (codes "patternProperties", d)) (option_to_list o)) ≡ flat_map
             (λ e. flat_map (λ x. report W u e.1 x.1 (P // codes "patternProperties" // e.0) (Q // x.0)) (matched_members W u e.0 v)) (entries_in o)
@@ -154,6 +166,10 @@ module _ (W : World) (ms : Members) (d : Data) (distinct : has_repeat (names_of 
         by None = refl
         by (Some n) = append-nil _ ∙ required_report W ms (array (item (string n) no_items)) u v P Q
 
+    -- in a member, by the patterns and the rest
+    abbrev others_find_it : Name × Data → List Fault
+    others_find_it x = matching_report W u fs es P Q x ++ rest_report W u fs es P Q d x
+
     rows_find : row_report (codes "additionalProperties", d) ++ flat_map row_report (rows_at (codes "properties") ms ++ (rows_at (codes "patternProperties") ms ++ fused_rows ms))
         ∼ (flat_map (rest_report W u fs es P Q d) (members v) ++ others_found) ++ (declared_found ++ (flat_map (matching_report W u fs es P Q) (members v) ++ required_found))
     rows_find = ∼_append (∼_same (additional_report W ms d u v P Q))
@@ -163,29 +179,33 @@ module _ (W : World) (ms : Members) (d : Data) (distinct : has_repeat (names_of 
         (∼_append pattern_rows_find (∼_same fused_rows_find)))))
 
     -- name by name what the declared schemas find, and member by member the patterns and the rest
-    pub claims_find : flat_map row_report claimed ∼ declared_found ++ flat_map (λ x. matching_report W u fs es P Q x ++ rest_report W u fs es P Q d x) (members v) ++ others_found ++ required_found
+    pub claims_find : flat_map row_report claimed ∼ declared_found ++ flat_map others_find_it (members v) ++ others_found ++ required_found
     claims_find =
         like_through (∼_sym (∼_permuted row_report _ claimed (claims_restriction ms restricted distinct d there)))
         (like_through rows_find
-        (like_through (found_in_order (flat_map (rest_report W u fs es P Q d) (members v)) others_found declared_found (flat_map (matching_report W u fs es P Q) (members v)) required_found)
+        (like_through (found_in_order _ others_found declared_found _ required_found)
         (∼_behind required_found (∼_behind others_found (∼_before declared_found (∼_sym (∼_parts (matching_report W u fs es P Q) (rest_report W u fs es P Q d) (members v))))))))
 
     module _ (declared_once : has_repeat (names_of fs) ≡ false) (members_once : has_repeat (names_of (members v)) ≡ false) where
       found_by_member : declared_found ∼ flat_map (declared_report W u fs es P Q) (members v)
-      found_by_member = ∼_other_side (λ s n x. report W u s x (P // codes "properties" // n) (Q // n)) fs (members v) (Distinct-from fs declared_once) (Distinct-from (members v) members_once)
+      found_by_member = ∼_other_side _ fs (members v) (Distinct-from fs declared_once) (Distinct-from (members v) members_once)
 
       pub claims_find_each : flat_map row_report claimed ∼ flat_map (each_report W u fs es P Q d) (members v) ++ others_found ++ required_found
       claims_find_each = like_through claims_find (∼_behind required_found (∼_behind others_found together))
         where
-          together : declared_found ++ flat_map (λ x. matching_report W u fs es P Q x ++ rest_report W u fs es P Q d x) (members v) ∼ flat_map (each_report W u fs es P Q d) (members v)
+          together : declared_found ++ flat_map others_find_it (members v) ∼ flat_map (each_report W u fs es P Q d) (members v)
           together = like_through (∼_behind _ found_by_member)
-              (like_through (∼_sym (∼_parts (declared_report W u fs es P Q) (λ x. matching_report W u fs es P Q x ++ rest_report W u fs es P Q d x) (members v)))
+              (like_through (∼_sym (∼_parts (declared_report W u fs es P Q) _ (members v)))
               (∼_same (λ i. flat_map (λ x. sym (append_assoc (declared_report W u fs es P Q x) (matching_report W u fs es P Q x) (rest_report W u fs es P Q d x)) i) (members v))))
 
   -- ---- how many matchers are asked
 
   abbrev row_asks : Name × Data → ℕ
   row_asks m = member_asks W ms m (keyword_named W m.0) u v
+
+  -- of a member, by the patterns and their schemas
+  abbrev patterns_ask_it : Name × Data → ℕ
+  patterns_ask_it x = matching_asks W u fs es x + patterns_asked W fs es x.0
 
   -- by the declared schemas, name by name
   abbrev declared_asked : ℕ
@@ -195,14 +215,14 @@ module _ (W : World) (ms : Members) (d : Data) (distinct : has_repeat (names_of 
   one_row_asks m = sum_by-cons row_asks m [] ∙ nothing_last _
 
   declared_rows_ask : sum_by row_asks (rows_at (codes "properties") ms) ≡ declared_asked
-  declared_rows_ask = by (lookup_name (codes "properties") (listed ms))
+  declared_rows_ask = by _
     where
       by : (o : Option Data) → sum_by row_asks (map (λ d. (codes "properties", d)) (option_to_list o)) ≡ sum_by (λ e. sum_by (asks W u e.1) (at e.0 v)) (entries_in o)
       by None = refl
       by (Some d) = one_row_asks (codes "properties", d) ∙ declared_ask W ms d u v
 
-  pattern_rows_ask : sum_by row_asks (rows_at (codes "patternProperties") ms) ≡ sum_by (λ x. matching_asks W u fs es x + patterns_asked W fs es x.0) (members v)
-  pattern_rows_ask = by (lookup_name (codes "patternProperties") (listed ms))
+  pattern_rows_ask : sum_by row_asks (rows_at (codes "patternProperties") ms) ≡ sum_by patterns_ask_it (members v)
+  pattern_rows_ask = by _
     where
       either : (b : Bool) → 0 + cond b 0 0 ≡ 0
       either true = omega arith
@@ -220,7 +240,7 @@ module _ (W : World) (ms : Members) (d : Data) (distinct : has_repeat (names_of 
       by None = refl
       by (Some n) = one_row_asks (codes "required", array (item (string n) no_items)) ∙ required_asks W ms (array (item (string n) no_items)) u v
 
-  pub claims_ask : sum_by row_asks claimed ≡ declared_asked + sum_by (λ x. matching_asks W u fs es x + patterns_asked W fs es x.0) (members v) + sum_by (rest_asks W u fs es d) (members v)
+  pub claims_ask : sum_by row_asks claimed ≡ declared_asked + sum_by patterns_ask_it (members v) + sum_by (rest_asks W u fs es d) (members v)
   claims_ask =
       let same = sum_by-IsPermutation row_asks _ claimed (claims_restriction ms restricted distinct d there) in
       let first = sum_by-cons row_asks (codes "additionalProperties", d) (rows_at (codes "properties") ms ++ (rows_at (codes "patternProperties") ms ++ fused_rows ms)) in
@@ -237,6 +257,6 @@ module _ (W : World) (ms : Members) (d : Data) (distinct : has_repeat (names_of 
     claims_ask_each =
         let all = claims_ask in
         let declared = sum_by-other_side (λ s x. asks W u s x) fs (members v) (Distinct-from fs declared_once) (Distinct-from (members v) members_once) in
-        let two = sum_of_both (declared_asks W u fs es) (λ x. matching_asks W u fs es x + patterns_asked W fs es x.0) (members v) in
-        let three = sum_of_both (λ x. declared_asks W u fs es x + (matching_asks W u fs es x + patterns_asked W fs es x.0)) (rest_asks W u fs es d) (members v) in
+        let two = sum_of_both (declared_asks W u fs es) patterns_ask_it (members v) in
+        let three = sum_of_both (λ x. declared_asks W u fs es x + patterns_ask_it x) (rest_asks W u fs es d) (members v) in
         omega (arith, all, declared, two, three)

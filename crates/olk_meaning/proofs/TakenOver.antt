@@ -14,14 +14,14 @@ use Rattle.olk_meaning.specs.Plans.{Planned, plan_of, tells_members, is_taken_ov
 
 module _ (p : Planned) where
   pub taken_named : (n : Name) → is_taken_over p n ≡ true → (n ≡ codes "properties") ⊎ (n ≡ codes "patternProperties") ⊎ (n ≡ codes "required")
-  taken_named n e = by p.restricted (is_some p.fused_one) (bytes_eq n (codes "properties")) (bytes_eq n (codes "patternProperties")) (bytes_eq (codes "required") n) refl refl refl e
+  taken_named n e = by p.restricted (is_some p.fused_one) _ _ _ refl refl refl e
     where
       by : (r f a b c : Bool) → bytes_eq n (codes "properties") ≡ a → bytes_eq n (codes "patternProperties") ≡ b → bytes_eq (codes "required") n ≡ c
           → ((r && (a || (b || false))) || (f && c)) ≡ true → (n ≡ codes "properties") ⊎ (n ≡ codes "patternProperties") ⊎ (n ≡ codes "required")
-      by true f true b c i j k h = inl (same_name n (codes "properties") i)
-      by true f false true c i j k h = inr (inl (same_name n (codes "patternProperties") j))
-      by true true false false true i j k h = inr (inr (sym (same_name (codes "required") n k)))
-      by false true a b true i j k h = inr (inr (sym (same_name (codes "required") n k)))
+      by true f true b c i j k h = inl (same_name n _ i)
+      by true f false true c i j k h = inr (inl (same_name n _ j))
+      by true true false false true i j k h = inr (inr (sym (same_name _ n k)))
+      by false true a b true i j k h = inr (inr (sym (same_name _ n k)))
       by _ _ _ _ _ i j k h = absurd (true≢false (sym h))
 
   -- where anything is taken over, the keyword is another, and not `additionalProperties`
@@ -40,16 +40,16 @@ module _ (p : Planned) where
 
   pub never_taken : (k : Name) → bytes_eq (codes "additionalProperties") k ≡ false → bytes_eq (codes "properties") k ≡ false → bytes_eq (codes "patternProperties") k ≡ false
       → bytes_eq (codes "required") k ≡ false → IsNotTaken k
-  never_taken k a b c d n e = (bytes_eq-sym k (codes "additionalProperties") ∙ a, by (taken_named n e))
+  never_taken k a b c d n e = (bytes_eq-sym k _ ∙ a, by (taken_named n e))
     where
       by : (n ≡ codes "properties") ⊎ (n ≡ codes "patternProperties") ⊎ (n ≡ codes "required") → bytes_eq k n ≡ false
-      by (inl q) = ap (bytes_eq k) q ∙ bytes_eq-sym k (codes "properties") ∙ b
-      by (inr (inl q)) = ap (bytes_eq k) q ∙ bytes_eq-sym k (codes "patternProperties") ∙ c
-      by (inr (inr q)) = ap (bytes_eq k) q ∙ bytes_eq-sym k (codes "required") ∙ d
+      by (inl q) = ap (bytes_eq k) q ∙ bytes_eq-sym k _ ∙ b
+      by (inr (inl q)) = ap (bytes_eq k) q ∙ bytes_eq-sym k _ ∙ c
+      by (inr (inr q)) = ap (bytes_eq k) q ∙ bytes_eq-sym k _ ∙ d
 
   -- `required` is not, where no name of it is fused
   pub required_not_taken : is_some p.fused_one ≡ false → IsNotTaken (codes "required")
-  required_not_taken f n e = (refl, by (bytes_eq (codes "required") n) refl)
+  required_not_taken f n e = (refl, by _ refl)
     where
       never : (b : Bool) → ((b && false) || (false && true)) ≡ false
       never true = refl
@@ -67,7 +67,7 @@ restriction_at None e = absurd (true≢false (sym e))
 restriction_at (Some d) e = (d, refl)
 
 pub restriction_there : (ms : Members) → is_restricted ms ≡ true → (d : Data) × (lookup_name (codes "additionalProperties") (listed ms) ≡ Some d)
-restriction_there ms e = restriction_at (lookup_name (codes "additionalProperties") (listed ms)) e
+restriction_there ms e = restriction_at _ e
 
 no_truth : {X : Type 0} (e : false ≡ true) → X
 no_truth e = absurd (true≢false (sym e))
@@ -84,16 +84,16 @@ refused_closed o e = no_truth e
 -- two names are fused where nothing is restricted
 pub fusing_is_free : (ms : Members) → is_some (fused_pair ms) ≡ true → is_restricted ms ≡ false
 fusing_is_free ms e =
-    allowed_unrestricted (lookup_name (codes "additionalProperties") (listed ms))
+    allowed_unrestricted _
     (by (declares_few (lookup_name (codes "properties") (listed ms))) (is_none (lookup_name (codes "patternProperties") (listed ms)))
-    (allows_others (lookup_name (codes "additionalProperties") (listed ms))) (two_names (lookup_name (codes "required") (listed ms))) e)
+    _ (two_names (lookup_name (codes "required") (listed ms))) e)
   where
     by : (a b c : Bool) (o : Option (Name × Name)) → is_some (cond (a && b && c) o None) ≡ true → c ≡ true
     by true true true o h = refl
     by _ _ _ o h = no_truth h
 
 pub restricted_fuses_none : (ms : Members) → is_restricted ms ≡ true → is_some (fused_pair ms) ≡ false
-restricted_fuses_none ms e = by (is_some (fused_pair ms)) refl
+restricted_fuses_none ms e = by (is_some _) refl
   where
     by : (b : Bool) → is_some (fused_pair ms) ≡ b → b ≡ false
     by false q = refl
@@ -115,15 +115,15 @@ none_where None e = refl
 none_where (Some x) e = no_truth e
 
 pub fuses_one_name : (ms : Members) (n : Name) → fused_one ms ≡ Some n → FusesOne ms n
-fuses_one_name ms n e = by _ _ _ (one_name (lookup_name (codes "required") (listed ms))) refl refl refl refl e
+fuses_one_name ms n e = by _ _ _ _ refl refl refl refl e
   where
     by : (a b c : Bool) (o : Option Name) → is_some (lookup_name (codes "properties") (listed ms)) ≡ a → is_none (lookup_name (codes "patternProperties") (listed ms)) ≡ b
         → refuses_others (lookup_name (codes "additionalProperties") (listed ms)) ≡ c → one_name (lookup_name (codes "required") (listed ms)) ≡ o → cond (a && b && c) o None ≡ Some n → FusesOne ms n
     by true true true o p q r s h = record {
       declared = p;
-      unpatterned = none_where (lookup_name (codes "patternProperties") (listed ms)) q;
-      closed = refused_closed (lookup_name (codes "additionalProperties") (listed ms)) r;
-      listed_at = listed_name (lookup_name (codes "required") (listed ms)) n (s ∙ h);
+      unpatterned = none_where _ q;
+      closed = refused_closed _ r;
+      listed_at = listed_name _ n (s ∙ h);
     }
     by true true false o p q r s h = absurd (true≢false (sym (ap is_some h)))
     by _ _ c o p q r s h = absurd (true≢false (sym (ap is_some h)))

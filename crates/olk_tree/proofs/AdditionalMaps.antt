@@ -15,7 +15,7 @@ use Rattle.olk_base.specs.Compiled.{pattern_answers, pattern_costs}
 use Rattle.olk_base.specs.declared.pattern.CompiledPattern.{CompiledPattern}
 use Rattle.olk_tree.specs.Questions.{Question, always, said_to, both, conditional, every}
 use Rattle.olk_tree.specs.Firsts.{or_else, first_of}
-use Rattle.olk_tree.specs.Additional.{Sides, known_at, known_or, known_or_asked, matching_from, at_name, nodes_matching, is_additional, others_asked, nodes_asked, is_unexpected, unexpected, repeats, declared_means, rest_means, patterns_mean_from, member_means, others_mean, additional_means, additional_report, additional_first, additional_tree}
+use Rattle.olk_tree.specs.Additional.{Sides, known_at, known_or, known_or_asked, matching_from, at_name, nodes_matching, is_additional, others_asked, nodes_asked, is_unexpected, unexpected, repeats, declared_means, rest_means, patterns_mean_from, member_means, others_mean, additional_means, additional_report, additional_first, additional_names, matched_names, additional_tree}
 use Rattle.olk_tree.specs.Maps.{keys_in, nodes_in, placed_entries}
 use Rattle.olk_tree.proofs.Maps.{with_name, lookup_name-map, every-map, first_of-map}
 
@@ -79,21 +79,19 @@ module _ {X Y : Type 0} (h : Y → X) where
           (map with_node es) ≡ map h (matching_from answers T d n u i es)
       matching-map d n i [] = refl
       matching-map d n i (e ∷ es) = (λ j. put_if (reads_as u (known_or (known-map d i j) (pattern_answers answers e.0 n))) (h e.1) (matching-map d n (i + 1) es j))
-          ∙ put-map (reads_as u (known_or (known_at T d i) (pattern_answers answers e.0 n))) e.1 (matching_from answers T d n u (i + 1) es)
+          ∙ put-map _ _ _
 
       pub nodes_matching-map : (n : Name) → nodes_matching answers S u n ≡ map h (nodes_matching answers T u n)
       nodes_matching-map n = (λ j. matching_from answers S (same.at n j) n u 0 (same.patterns j)) ∙ matching-map (at_name T n) n 0 T.patterns
 
       pub is_additional-map : (n : Name) → is_additional answers S u n ≡ is_additional answers T u n
-      is_additional-map n = (λ j. (ap is_none (same.at n) ∙ none-map at_place (at_name T n)) j && (ap is_empty (nodes_matching-map n) ∙ is_empty-map h (nodes_matching answers T u n)) j)
+      is_additional-map n = (λ j. (ap is_none (same.at n) ∙ none-map at_place _) j && (ap is_empty (nodes_matching-map n) ∙ is_empty-map h _) j)
 
       pub others_asked-map : (n : Name) → others_asked answers S u n ≡ map h (others_asked answers T u n)
-      others_asked-map n = (λ j. nodes_matching-map n j ++ ((λ k. cond (is_additional-map n k) (option_to_list (same.rest k)) []) ∙ rest-map (is_additional answers T u n) T.rest) j)
-          ∙ sym (map-append h (nodes_matching answers T u n) (cond (is_additional answers T u n) (option_to_list T.rest) []))
+      others_asked-map n = (λ j. nodes_matching-map n j ++ ((λ k. cond (is_additional-map n k) (option_to_list (same.rest k)) []) ∙ rest-map _ T.rest) j) ∙ sym (map-append h _ _)
 
       pub nodes_asked-map : (n : Name) → nodes_asked answers S u n ≡ map h (nodes_asked answers T u n)
-      nodes_asked-map n = (λ j. (ap (λ o. option_to_list (option_map {U = X} (λ f. f.1) o)) (same.at n) ∙ node-map (at_name T n)) j ++ others_asked-map n j)
-          ∙ sym (map-append h (option_to_list (option_map {U = Y} (λ f. f.1) (at_name T n))) (others_asked answers T u n))
+      nodes_asked-map n = (λ j. (ap (λ o. option_to_list (option_map {U = X} (λ f. f.1) o)) (same.at n) ∙ node-map _) j ++ others_asked-map n j) ∙ sym (map-append h _ _)
 
       pub is_unexpected-map : (n : Name) → is_unexpected answers S u n ≡ is_unexpected answers T u n
       is_unexpected-map n = λ j. (ap is_none same.rest ∙ none-map h T.rest) j && is_additional-map n j
@@ -119,20 +117,23 @@ module _ {X Y : Type 0} (h : Y → X) where
           λ j. conditional (known_or_asked (known-map d i j) (said_to (pattern_costs costs e.0) (pattern_answers answers e.0 n)))
           (both (means e.1 x j) (patterns_mean-map d n x true (i + 1) es j)) (patterns_mean-map d n x spoken (i + 1) es j)
 
-      member_means-map : (n : Name) (x : Data) → member_means answers costs p S n x ≡ member_means answers costs q T n x
-      member_means-map n x = (λ j. both (declared_means p x (same.at n j)) (patterns_mean_from answers costs p S (same.at n j) n x (is_some (same.at n j)) 0 (same.patterns j)))
-          ∙ (λ j. both (declared_means-map x (at_name T n) j) (patterns_mean_from answers costs p S (option_map at_place (at_name T n)) n x
-          (some-map at_place (at_name T n) j) 0 (map with_node T.patterns)))
-          ∙ ap (both (declared_means q x (at_name T n))) (patterns_mean-map (at_name T n) n x (is_some (at_name T n)) 0 T.patterns)
+      module _ (n : Name) (x : Data) where
+        abbrev others_at : Option (ℕ × X) → List (CompiledPattern R × X) → Question
+        others_at d es = patterns_mean_from answers costs p S d n x (is_some d) 0 es
 
-      others_mean-map : (n : Name) (x : Data) → others_mean answers costs p S n x ≡ others_mean answers costs q T n x
-      others_mean-map n x = (λ j. patterns_mean_from answers costs p S (same.at n j) n x (is_some (same.at n j)) 0 (same.patterns j))
-          ∙ (λ j. patterns_mean_from answers costs p S (option_map at_place (at_name T n)) n x (some-map at_place (at_name T n) j) 0 (map with_node T.patterns))
-          ∙ patterns_mean-map (at_name T n) n x (is_some (at_name T n)) 0 T.patterns
+        others_at-map : (d : Option (ℕ × Y)) → others_at (option_map at_place d) (map with_node T.patterns) ≡ patterns_mean_from answers costs q T d n x (is_some d) 0 T.patterns
+        others_at-map None = patterns_mean-map None n x false 0 T.patterns
+        others_at-map (Some f) = patterns_mean-map (Some f) n x true 0 T.patterns
+
+        others_mean-map : others_mean answers costs p S n x ≡ others_mean answers costs q T n x
+        others_mean-map = (λ j. others_at (same.at n j) (same.patterns j)) ∙ others_at-map _
+
+        member_means-map : member_means answers costs p S n x ≡ member_means answers costs q T n x
+        member_means-map = λ j. both ((ap (declared_means p x) (same.at n) ∙ declared_means-map x _) j) (others_mean-map j)
 
       declared_mean-map : (v : Data) → every (λ e. every (p e.1.1) (at e.0 v)) S.declared ≡ every (λ e. every (q e.1.1) (at e.0 v)) T.declared
       declared_mean-map v = ap (every (λ e. every (p e.1.1) (at e.0 v))) same.declared
-          ∙ every-map (λ e. every (p e.1.1) (at e.0 v)) (λ e. every (q e.1.1) (at e.0 v)) with_place (λ e i. every (λ w. means e.1.1 w i) (at e.0 v)) T.declared
+          ∙ every-map _ _ with_place (λ e i. every (λ w. means e.1.1 w i) (at e.0 v)) T.declared
 
       pub additional_means-map : (v : Data) → additional_means answers costs p S v ≡ additional_means answers costs q T v
       additional_means-map v = λ j. cond (repeats v) (both (declared_mean-map v j) (every (λ x. others_mean-map x.0 x.1 j) (members v))) (every (λ x. member_means-map x.0 x.1 j) (members v))
@@ -141,49 +142,45 @@ module _ {X Y : Type 0} (h : Y → X) where
 
     module _ (u : Bool) (v : Data) (Q : Path) where
       module _ (r : X → Bool → Data → Path → List Fault) (s : Y → Bool → Data → Path → List Fault) (finds : (y : Y) (w : Data) (Q : Path) → r (h y) u w Q ≡ s y u w Q) (named : Bool) (P : Path) where
-        asked_report-map : (x : Name × Data) (ns : List X) (ms : List Y) → ns ≡ map h ms → flat_map (λ e. r e u x.1 (Q // x.0)) ns ≡ flat_map (λ e. s e u x.1 (Q // x.0)) ms
-        asked_report-map x ns ms e = ap (flat_map (λ e. r e u x.1 (Q // x.0))) e ∙ flat_map-map (λ e. r e u x.1 (Q // x.0)) (λ e. s e u x.1 (Q // x.0)) h (λ y. finds y x.1 (Q // x.0)) ms
+        asked_report-map : (x : Name × Data) {ns : List X} (ms : List Y) → ns ≡ map h ms → flat_map (λ e. r e u x.1 (Q // x.0)) ns ≡ flat_map (λ e. s e u x.1 (Q // x.0)) ms
+        asked_report-map x ms e = ap (flat_map _) e ∙ flat_map-map _ _ h (λ y. finds y x.1 (Q // x.0)) _
 
         declared_report-map : flat_map (λ e. flat_map (λ w. r e.1.1 u w (Q // e.0)) (at e.0 v)) S.declared ≡ flat_map (λ e. flat_map (λ w. s e.1.1 u w (Q // e.0)) (at e.0 v)) T.declared
-        declared_report-map = ap (flat_map (λ e. flat_map (λ w. r e.1.1 u w (Q // e.0)) (at e.0 v))) same.declared
-            ∙ flat_map-map (λ e. flat_map (λ w. r e.1.1 u w (Q // e.0)) (at e.0 v)) (λ e. flat_map (λ w. s e.1.1 u w (Q // e.0)) (at e.0 v)) with_place
-            (λ e i. flat_map (λ w. finds e.1.1 w (Q // e.0) i) (at e.0 v)) T.declared
+        declared_report-map = ap (flat_map _) same.declared ∙ flat_map-map _ _ with_place (λ e i. flat_map (λ w. finds e.1.1 w (Q // e.0) i) (at e.0 v)) T.declared
 
         pub additional_report-map : additional_report answers S u v Q named P r ≡ additional_report answers T u v Q named P s
         additional_report-map = λ j. cond (repeats v)
-            (declared_report-map j ++ (flat_map (λ x. asked_report-map x (others_asked answers S u x.0) (others_asked answers T u x.0) (others_asked-map u x.0) j) (members v)
+            (declared_report-map j ++ (flat_map (λ x. asked_report-map x _ (others_asked-map u x.0) j) (members v)
             ++ unexpected_faults named (unexpected-map u v j) v P Q))
-            (flat_map (λ x. asked_report-map x (nodes_asked answers S u x.0) (nodes_asked answers T u x.0) (nodes_asked-map u x.0) j) (members v)
+            (flat_map (λ x. asked_report-map x _ (nodes_asked-map u x.0) j) (members v)
             ++ unexpected_faults named (unexpected-map u v j) v P Q)
 
-        asked_first-map : (x : Name × Data) (ns : List X) (ms : List Y) → ns ≡ map h ms → or_else (first_of (λ e. r e u x.1 (Q // x.0)) ns)
-            (cond (is_unexpected answers S u x.0) (unexpected_faults named (x ∷ []) v P Q) []) ≡ or_else (first_of (λ e. s e u x.1 (Q // x.0)) ms)
-            (cond (is_unexpected answers T u x.0) (unexpected_faults named (x ∷ []) v P Q) [])
-        asked_first-map x ns ms e =
-            λ j. or_else ((ap (first_of (λ e. r e u x.1 (Q // x.0))) e ∙ first_of-map (λ e. r e u x.1 (Q // x.0)) (λ e. s e u x.1 (Q // x.0)) h (λ y. finds y x.1 (Q // x.0)) ms) j)
-            (cond (is_unexpected-map u x.0 j) (unexpected_faults named (x ∷ []) v P Q) [])
+        -- at a member, the first fault, or that it is not expected
+        abbrev first_or_unexpected : Name × Data → List Fault → Bool → List Fault
+        first_or_unexpected x found b = or_else found (cond b (unexpected_faults named (x ∷ []) v P Q) [])
+
+        asked_first-map : (x : Name × Data) {ns : List X} (ms : List Y) → ns ≡ map h ms → first_or_unexpected x (first_of (λ e. r e u x.1 (Q // x.0)) ns) (is_unexpected answers S u x.0)
+            ≡ first_or_unexpected x (first_of (λ e. s e u x.1 (Q // x.0)) ms) (is_unexpected answers T u x.0)
+        asked_first-map x ms e = λ j. first_or_unexpected x ((ap (first_of (λ e. r e u x.1 (Q // x.0))) e ∙ first_of-map _ (λ e. s e u x.1 (Q // x.0)) h (λ y. finds y x.1 (Q // x.0)) ms) j) (is_unexpected-map u x.0 j)
 
         declared_first-map : first_of (λ e. first_of (λ w. r e.1.1 u w (Q // e.0)) (at e.0 v)) S.declared ≡ first_of (λ e. first_of (λ w. s e.1.1 u w (Q // e.0)) (at e.0 v)) T.declared
-        declared_first-map = ap (first_of (λ e. first_of (λ w. r e.1.1 u w (Q // e.0)) (at e.0 v))) same.declared
-            ∙ first_of-map (λ e. first_of (λ w. r e.1.1 u w (Q // e.0)) (at e.0 v)) (λ e. first_of (λ w. s e.1.1 u w (Q // e.0)) (at e.0 v)) with_place
-            (λ e i. first_of (λ w. finds e.1.1 w (Q // e.0) i) (at e.0 v)) T.declared
+        declared_first-map = ap (first_of _) same.declared ∙ first_of-map _ _ with_place (λ e i. first_of (λ w. finds e.1.1 w (Q // e.0) i) (at e.0 v)) T.declared
 
         pub additional_first-map : additional_first answers S u v Q named P r ≡ additional_first answers T u v Q named P s
         additional_first-map = λ j. cond (repeats v)
-            (or_else (declared_first-map j) (first_of (λ x. asked_first-map x (others_asked answers S u x.0) (others_asked answers T u x.0) (others_asked-map u x.0) j) (members v)))
-            (first_of (λ x. asked_first-map x (nodes_asked answers S u x.0) (nodes_asked answers T u x.0) (nodes_asked-map u x.0) j) (members v))
+            (or_else (declared_first-map j) (first_of (λ x. asked_first-map x _ (others_asked-map u x.0) j) (members v)))
+            (first_of (λ x. asked_first-map x _ (nodes_asked-map u x.0) j) (members v))
 
       module _ (t : X → Data → Path → Tree) (s : Y → Data → Path → Tree) (shows : (y : Y) (w : Data) (Q : Path) → t (h y) w Q ≡ s y w Q)
           (declares has_patterns : Bool) (P M : Path) (more : List Tree) where
-        names-map : map (λ x. x.0) (filter_once (λ x. is_additional answers S u x.0) (members v)) ≡ map (λ x. x.0) (filter_once (λ x. is_additional answers T u x.0) (members v))
+        names-map : additional_names answers S u v Q ≡ additional_names answers T u v Q
         names-map = λ j. map (λ x. x.0) (filter_once (λ x. is_additional-map u x.0 j) (members v))
 
-        matches-map : flat_map (λ x. map (λ e. x.0) (nodes_matching answers S u x.0)) (members v) ≡ flat_map (λ x. map (λ e. x.0) (nodes_matching answers T u x.0)) (members v)
-        matches-map = λ j. flat_map (λ x. (ap (map (λ e. x.0)) (nodes_matching-map u x.0) ∙ map-map (λ e. x.0) (λ e. x.0) h (λ y. refl) (nodes_matching answers T u x.0)) j) (members v)
+        matches-map : matched_names answers S u v Q ≡ matched_names answers T u v Q
+        matches-map = λ j. flat_map (λ x. (ap (map (λ e. x.0)) (nodes_matching-map u x.0) ∙ map-map _ _ h (λ y. refl) _) j) (members v)
 
         children-map : flat_map (λ x. map (λ e. t e x.1 (Q // x.0)) (nodes_asked answers S u x.0)) (members v) ≡ flat_map (λ x. map (λ e. s e x.1 (Q // x.0)) (nodes_asked answers T u x.0)) (members v)
-        children-map = λ j. flat_map (λ x. (ap (map (λ e. t e x.1 (Q // x.0))) (nodes_asked-map u x.0)
-            ∙ map-map (λ e. t e x.1 (Q // x.0)) (λ e. s e x.1 (Q // x.0)) h (λ y. shows y x.1 (Q // x.0)) (nodes_asked answers T u x.0)) j) (members v)
+        children-map = λ j. flat_map (λ x. (ap (map (λ e. t e x.1 (Q // x.0))) (nodes_asked-map u x.0) ∙ map-map _ _ h (λ y. shows y x.1 (Q // x.0)) _) j) (members v)
 
         pub additional_tree-map : additional_tree answers S u v Q declares has_patterns P M t more ≡ additional_tree answers T u v Q declares has_patterns P M s more
         additional_tree-map = λ j. result P Q

@@ -104,7 +104,7 @@ module _ {K R N : Type 0} (o : Kit K R) (m : N → Data → Question) (r : N →
       matching_answer i (p ∷ ps) (e ∷ es) h k = by (is_matched_by o.answers S a n u i p.0) (matches o.world u e.0 n) same (matching_answer (i + 1) ps es h.2 (recalls_later i p ps k))
         where
           same : is_matched_by o.answers S a n u i p.0 ≡ matches o.world u e.0 n
-          same = ap (reads_as u) (ap (λ s. known_or s (pattern_answers o.answers p.0 n)) (recalls_here i p ps k) ∙ recalled_is_said a (pattern_answers o.answers p.0 n) ∙ h.0.answers n)
+          same = ap (reads_as u) (ap (λ s. known_or s (pattern_answers o.answers p.0 n)) (recalls_here i p ps k) ∙ recalled_is_said a _ ∙ h.0.answers n)
 
           by : (b c : Bool) → b ≡ c → AnswerAs o m r t (matching_from o.answers S a n u (i + 1) ps) (map (λ e. (e.1, L // e.0)) (matching_at o.world u es n))
               → AnswerAs o m r t (put_if b p.1 (matching_from o.answers S a n u (i + 1) ps)) (map (λ e. (e.1, L // e.0)) (put_if c e (matching_at o.world u es n)))
@@ -116,46 +116,63 @@ module _ {K R N : Type 0} (o : Kit K R) (m : N → Data → Question) (r : N →
 
 -- ---- all that is asked of a member with this name
 
-module _ {K R N : Type 0} (o : Kit K R) (m : N → Data → Question) (r : N → Bool → Data → Path → List Fault)
-    (t : N → Bool → Data → Path → Tree) {S : Sides R N} {fs es : List (Name × Data)} {d : Data} {P : Path} (h : SidesStand o m r t S fs es d P) where
+module _ {K R N : Type 0} {o : Kit K R} {m : _} {r : _} {t : _} {S : Sides R N} {fs es : List (Name × Data)} {d : Data} {P : Path} (h : SidesStand o m r t S fs es d P) where
+  -- the places of the three keywords
+  abbrev at_properties : Path
+  at_properties = P // codes "properties"
+
+  abbrev at_patterns : Path
+  at_patterns = P // codes "patternProperties"
+
+  abbrev at_rest : Path
+  at_rest = P // codes "additionalProperties"
+
+  -- a schema under a pattern, with its place
+  abbrev pub pattern_schema : Name × Data → Data × Path
+  pattern_schema e = (e.1, at_patterns // e.0)
+
   pub is_rest : is_some S.rest ≡ is_object d
   is_rest = by S.rest h.rest
     where
-      by : (x : Option N) → RestAnswers o m r t x d (P // codes "additionalProperties") → is_some x ≡ is_object d
+      by : (x : Option N) → RestAnswers o m r t x d at_rest → is_some x ≡ is_object d
       by None g = sym (false_is_no_object d g)
       by (Some x) g = sym g.0
 
   pub is_no_rest : is_none S.rest ≡ is_truth false d
   is_no_rest = by S.rest h.rest
     where
-      by : (x : Option N) → RestAnswers o m r t x d (P // codes "additionalProperties") → is_none x ≡ is_truth false d
+      by : (x : Option N) → RestAnswers o m r t x d at_rest → is_none x ≡ is_truth false d
       by None g = sym g
       by (Some x) g = sym (object_is_not_false d g.0)
 
   module _ (n : Name) where
-    at_name_found : FoundFrom o m r t n (P // codes "properties") 0 fs (at_name S n) (lookup_name n fs)
+    at_name_found : FoundFrom o m r t n at_properties 0 fs (at_name S n) (lookup_name n fs)
     at_name_found =
-        subst (λ l. FoundFrom o m r t n (P // codes "properties") 0 fs (lookup_name n l) (lookup_name n fs)) (sym h.placed_zip) (found o m r t n (P // codes "properties") 0 h.nodes fs h.declared)
+        subst (λ l. FoundFrom o m r t n at_properties 0 fs (lookup_name n l) (lookup_name n fs)) (sym h.placed_zip) (found o m r t n at_properties 0 h.nodes fs h.declared)
 
     -- the name is declared where it has a node
     pub is_declared : is_some (at_name S n) ≡ is_declared_in fs n
-    is_declared = found_both o m r t n (P // codes "properties") fs (at_name S n) (lookup_name n fs) at_name_found ∙ sym (declared_found n fs)
+    is_declared = found_both o m r t n _ fs _ _ at_name_found ∙ sym (declared_found n fs)
 
-    recalls_if : (a : Option (ℕ × N)) (b : Option Data) → FoundFrom o m r t n (P // codes "properties") 0 fs a b → Recalls o m r t n S a 0 S.patterns
+    recalls_if : (a : Option (ℕ × N)) (b : Option Data) → FoundFrom o m r t n at_properties 0 fs a b → Recalls o m r t n S a 0 S.patterns
     recalls_if None b g j q c e f = refl
     recalls_if (Some x) None g j q c e f = absurd g
     recalls_if (Some x) (Some s) g j q c e f =
         let place : x.0 ≡ g.1 = (let p = g.2 in omega (arith, p)) in
         let index : q ≡ j = omega (arith, e) in
-        h.known x.0 q n c (ap (slice_get (map (λ e. e.0) fs)) place ∙ g.3) (ap (slice_get (map (λ p. p.0) S.patterns)) index ∙ f)
+        h.known x.0 q n c (ap (slice_get _) place ∙ g.3) (ap (slice_get _) index ∙ f)
 
     -- what is known of the patterns at the name is what they say of it
     pub recalls : Recalls o m r t n S (at_name S n) 0 S.patterns
-    recalls = recalls_if (at_name S n) (lookup_name n fs) at_name_found
+    recalls = recalls_if _ _ at_name_found
+
+    -- and one that is declared at the name
+    abbrev pub declared_schema : Data → Data × Path
+    declared_schema s = (s, at_properties // n)
 
     module _ (u : Bool) where
-      pub nodes_matching_answer : AnswerAs o m r t (nodes_matching o.answers S u n) (map (λ e. (e.1, P // codes "patternProperties" // e.0)) (matching_at o.world u es n))
-      nodes_matching_answer = matching_answer o m r t n S (at_name S n) u (P // codes "patternProperties") 0 S.patterns es h.patterns recalls
+      pub nodes_matching_answer : AnswerAs o m r t (nodes_matching o.answers S u n) (map pattern_schema (matching_at o.world u es n))
+      nodes_matching_answer = matching_answer o m r t n S (at_name S n) u at_patterns 0 S.patterns es h.patterns recalls
 
       pub is_additional_other : is_additional o.answers S u n ≡ is_other o.world u fs es n
       is_additional_other = λ i. none_declared i && none_matching i
@@ -165,48 +182,52 @@ module _ {K R N : Type 0} (o : Kit K R) (m : N → Data → Question) (r : N →
           not_some (Some x) = refl
 
           none_declared : is_none (at_name S n) ≡ not (is_declared_in fs n)
-          none_declared = not_some (at_name S n) ∙ ap not is_declared
+          none_declared = not_some _ ∙ ap not is_declared
 
           none_matching : is_empty (nodes_matching o.answers S u n) ≡ is_empty (matching_at o.world u es n)
           none_matching =
-              both_empty o m r t (nodes_matching o.answers S u n) (map (λ e. (e.1, P // codes "patternProperties" // e.0)) (matching_at o.world u es n)) nodes_matching_answer
-              ∙ is_empty-map _ (matching_at o.world u es n)
+              both_empty o m r t _ _ nodes_matching_answer
+              ∙ is_empty-map _ _
 
       -- the schemas that are asked, each with its place: the declared one, those whose pattern matches, and where there is neither the rest
       abbrev pub declared_schemas : List (Data × Path)
-      declared_schemas = map (λ s. (s, P // codes "properties" // n)) (declared_at fs n)
+      declared_schemas = map declared_schema (declared_at fs n)
 
       abbrev pub matching_schemas : List (Data × Path)
-      matching_schemas = map (λ e. (e.1, P // codes "patternProperties" // e.0)) (matching_at o.world u es n)
+      matching_schemas = map pattern_schema (matching_at o.world u es n)
 
       abbrev pub rest_schemas : List (Data × Path)
-      rest_schemas = put_if (is_object d && is_other o.world u fs es n) (d, P // codes "additionalProperties") []
+      rest_schemas = put_if (is_object d && is_other o.world u fs es n) (d, at_rest) []
 
       rest_answers : AnswerAs o m r t (cond (is_additional o.answers S u n) (option_to_list S.rest) []) rest_schemas
-      rest_answers = by S.rest h.rest (is_additional o.answers S u n) (is_other o.world u fs es n) is_additional_other
+      rest_answers = by S.rest h.rest _ _ is_additional_other
         where
-          by : (x : Option N) → RestAnswers o m r t x d (P // codes "additionalProperties") → (b c : Bool) → b ≡ c → AnswerAs o m r t (cond b (option_to_list x) [])
-              (put_if (is_object d && c) (d, P // codes "additionalProperties") [])
-          by None g b c q = none (is_object d) (false_is_no_object d g) b
+          by : (x : Option N) → RestAnswers o m r t x d at_rest → (b c : Bool) → b ≡ c → AnswerAs o m r t (cond b (option_to_list x) [])
+              (put_if (is_object d && c) (d, at_rest) [])
+          by None g b c q = none _ (false_is_no_object d g) b
             where
-              none : (object : Bool) → object ≡ false → (b : Bool) → AnswerAs o m r t (cond b [] []) (put_if (object && c) (d, P // codes "additionalProperties") [])
+              none : (object : Bool) → object ≡ false → (b : Bool) → AnswerAs o m r t (cond b [] []) (put_if (object && c) (d, at_rest) [])
               none true e b = absurd (true≢false e)
               none false e true = tt
               none false e false = tt
-          by (Some x) g b c q = one (is_object d) g.0 b c q
+          by (Some x) g b c q = one _ g.0 b c q
             where
-              one : (object : Bool) → object ≡ true → (b c : Bool) → b ≡ c → AnswerAs o m r t (cond b (x ∷ []) []) (put_if (object && c) (d, P // codes "additionalProperties") [])
+              one : (object : Bool) → object ≡ true → (b c : Bool) → b ≡ c → AnswerAs o m r t (cond b (x ∷ []) []) (put_if (object && c) (d, at_rest) [])
               one false e b c q = absurd (true≢false (sym e))
               one true e true true q = (g.1, tt)
               one true e true false q = absurd (true≢false q)
               one true e false true q = absurd (true≢false (sym q))
               one true e false false q = tt
 
-      -- zip what is declared
-      pub others_answer : AnswerAs o m r t (others_asked o.answers S u n) (matching_schemas ++ rest_schemas)
-      others_answer = answer_append o m r t (nodes_matching o.answers S u n) matching_schemas _ rest_schemas nodes_matching_answer rest_answers
+      abbrev pub other_schemas : List (Data × Path)
+      other_schemas = matching_schemas ++ rest_schemas
 
-      pub asked_answer : AnswerAs o m r t (nodes_asked o.answers S u n) (declared_schemas ++ (matching_schemas ++ rest_schemas))
-      asked_answer = answer_append o m r t _ declared_schemas _ (matching_schemas ++ rest_schemas)
-          (found_answers o m r t n (P // codes "properties") fs (at_name S n) (lookup_name n fs) at_name_found)
-          others_answer
+      abbrev pub asked_schemas : List (Data × Path)
+      asked_schemas = declared_schemas ++ other_schemas
+
+      -- zip what is declared
+      pub others_answer : AnswerAs o m r t (others_asked o.answers S u n) other_schemas
+      others_answer = answer_append o m r t _ matching_schemas _ rest_schemas nodes_matching_answer rest_answers
+
+      pub asked_answer : AnswerAs o m r t (nodes_asked o.answers S u n) asked_schemas
+      asked_answer = answer_append o m r t _ declared_schemas _ _ (found_answers o m r t n _ fs _ _ at_name_found) others_answer

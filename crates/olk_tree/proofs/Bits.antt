@@ -35,10 +35,10 @@ module _ (words : List ℕ) (i : ℕ) (within : i / 64 < length words) where
 -- no bit is set where all words are zero
 word_is_zero : (words : List ℕ) (k : ℕ) → list_all (λ w. w == 0) words ≡ true → get_or words k 0 ≡ 0
 word_is_zero words k zero =
-    elim (cases_lt k (length words)) [
-      | inl within ↦ eqb-true (get_or words k 0) 0 (true_from_ne_false (get_or words k 0 == 0) (λ is. true≢false (sym zero ∙ list_all_at (λ w. w == 0) words k 0 within is)))
+    elim (cases_lt k _) [
+      | inl within ↦ eqb-true _ 0 (true_from_ne_false _ (λ is. true≢false (sym zero ∙ list_all_at _ words k 0 within is)))
       | inr past ↦ get_or_past words k 0 past
     ]
 
 pub no_bit_is_set : (words : List ℕ) (i : ℕ) → list_all (λ w. w == 0) words ≡ true → has_bit words i ≡ false
-no_bit_is_set words i zero = ap (λ w. bit_at w (i % 64) == 1) (word_is_zero words (i / 64) zero) ∙ ap (λ b. b == 1) (bit_at-zero (i % 64))
+no_bit_is_set words i zero = ap (λ w. bit_at w (i % 64) == 1) (word_is_zero words _ zero) ∙ ap (λ b. b == 1) (bit_at-zero (i % 64))

@@ -45,7 +45,7 @@ module _ {R : Type 0} (answers : R → Name → Says) (names : List Name) (patte
     where
       by : (b : Bool) → is_empty names ≡ b → (b || (t.patterns == length patterns)) ≡ true
       by true e = refl
-      by false e = (Decides-eqb t.patterns (length patterns)).1 (h.count (ap is_empty declared ∙ e))
+      by false e = (Decides-eqb t.patterns _).1 (h.count (ap is_empty declared ∙ e))
 
   pub table_formed : is_table_formed answers names patterns t ≡ true
-  table_formed = and_from _ _ (and_from _ _ ((slice_eq-Decides bytes_eq-Decides t.names names (pointwise bytes_eq t.names names) refl).1 declared) counted) answers_there
+  table_formed = and_from _ _ (and_from _ _ ((slice_eq-Decides bytes_eq-Decides t.names names _ refl).1 declared) counted) answers_there

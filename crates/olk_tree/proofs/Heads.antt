@@ -33,7 +33,7 @@ scalar_below c e = grind (arith, nat_tests)
 
 bytes_of_one : (c : ℕ) → scalar c ≡ true → Bytes (encode c)
 unfolding encode
-bytes_of_one c e = by (nat_lt c 128) (nat_lt c 2048) (nat_lt c 65536) refl refl refl
+bytes_of_one c e = by (nat_lt c 128) _ _ refl refl refl
   where
     by : (x y z : Bool) → nat_lt c 128 ≡ x → nat_lt c 2048 ≡ y → nat_lt c 65536 ≡ z
         → Bytes (cond x (c ∷ []) (cond y ((192 + c / 64) ∷ next c ∷ []) (cond z ((224 + c / 4096) ∷ next (c / 64) ∷ next c ∷ []) ((240 + c / 262144) ∷ next (c / 4096) ∷ next (c / 64) ∷ next c ∷ []))))
@@ -44,13 +44,13 @@ bytes_of_one c e = by (nat_lt c 128) (nat_lt c 2048) (nat_lt c 65536) refl refl 
 
 bytes_of_all : (cs : List ℕ) → scalars cs ≡ true → Bytes (encodes cs)
 bytes_of_all [] e = tt
-bytes_of_all (c ∷ cs) e = bytes_append (encode c) (encodes cs) (bytes_of_one c (and_first (scalar c) (scalars cs) e)) (bytes_of_all cs (and_second (scalar c) (scalars cs) e))
+bytes_of_all (c ∷ cs) e = bytes_append (encode c) (encodes cs) (bytes_of_one c (and_first _ _ e)) (bytes_of_all cs (and_second _ _ e))
 
 bytes_of_utf8 : (n : Name) → IsUtf8 n → Bytes n
 bytes_of_utf8 n u = subst Bytes u.1.1 (bytes_of_all u.0 u.1.0)
 
 bytes_of_text : (s : String Global) → Bytes (string_bytes s)
-bytes_of_text s = bytes_of_utf8 (string_bytes s) (IsUtf8-string_bytes s)
+bytes_of_text s = bytes_of_utf8 _ (IsUtf8-string_bytes s)
 
 bytes_at : {N : Type 0} (es : List (Entry N)) (k : ℕ) → Bytes (get_or (names_of es) k [])
 bytes_at [] k = tt
@@ -69,10 +69,10 @@ some_power (suc k) = let h = some_power k in omega (arith, pow-suc 256 k)
 
 worth_below : (k : ℕ) (n : Name) → Bytes n → worth k n < 256 ^ k
 worth_below zero n h = omega arith
-worth_below (suc k) [] h = some_power (suc k)
+worth_below (suc k) [] h = some_power _
 worth_below (suc k) (b ∷ bs) h =
     let rest = worth_below k bs h.1 in
-    let most : suc b * 256 ^ k ≤ 256 * 256 ^ k = mul-le-mul_right (256 ^ k) h.0 in
+    let most : suc b * 256 ^ k ≤ 256 * 256 ^ k = mul-le-mul_right _ h.0 in
     grind (arith, pow-suc 256 k)
 
 worth_rises : (k : ℕ) (m n : Name) → Bytes m → Bytes n → slice_cmp nat_cmp m n ≡ Less → worth k m ≤ worth k n
@@ -80,13 +80,13 @@ worth_rises (suc k) (a ∷ m) [] g h e = absurd (greater_less e)
   where
     greater_less : Greater ≡ Less → ⊥
     greater_less e = grind arith
-worth_rises (suc k) (a ∷ m) (b ∷ n) g h e = by (worth_rises k m n g.1 h.1) (nat_cmp a b) refl e
+worth_rises (suc k) (a ∷ m) (b ∷ n) g h e = by (worth_rises k m n g.1 h.1) _ refl e
   where
     by : (slice_cmp nat_cmp m n ≡ Less → worth k m ≤ worth k n) → (o : Ordering) → nat_cmp a b ≡ o → ordering_then o (slice_cmp nat_cmp m n) ≡ Less
         → a * 256 ^ k + worth k m ≤ b * 256 ^ k + worth k n
     by rises Less p q =
         let lt : a < b = grind (arith, nat_tests) in
-        let more : suc a * 256 ^ k ≤ b * 256 ^ k = mul-le-mul_right (256 ^ k) lt in
+        let more : suc a * 256 ^ k ≤ b * 256 ^ k = mul-le-mul_right _ lt in
         let rest = worth_below k m g.1 in
         grind arith
     by rises Equal p q =
@@ -134,21 +134,21 @@ heads_rise es asc i j le lt = by (nat_lt i j) refl
         let lower = head_at i (omega arith) in
         let upper = head_at j inside in
         let rises = worth_rises 8 (get_or ks i []) (get_or ks j []) (bytes_at es i) (bytes_at es j) (asc i j less inside) in
-        let at_lower = worth_is (get_or ks i []) in
-        let at_upper = worth_is (get_or ks j []) in
+        let at_lower = worth_is _ in
+        let at_upper = worth_is _ in
         subst₂ (λ x y. x ≤ y) (sym (lower ∙ at_lower)) (sym (upper ∙ at_upper)) rises
     by false e = let same : i ≡ j = grind (arith, nat_tests) in subst (λ k. get_or (map first_bytes ks) i 0 ≤ get_or (map first_bytes ks) k 0) same (omega arith)
 
 -- ---- the place of the first
 
 pub head_read : {N : Type 0} (es : List (Entry N)) (k : ℕ) (x : Entry N) → k < length es → x ≡ get_or es k x → (d : ℕ) → x.name.head ≡ get_or (heads_of es) k d
-head_read es k x lt is d = ap (λ e. e.name.head) is ∙ sym (get_or-map (λ e. e.name.head) es k x d lt)
+head_read es k x lt is d = ap (λ e. e.name.head) is ∙ sym (get_or-map _ es k x d lt)
 
 pub head_at_place : {N : Type 0} (es : List (Entry N)) (k : ℕ) (x : Entry N) → k < length es → (get_or es k x).name.head ≡ get_or (heads_of es) k 0
-head_at_place es k x lt = sym (get_or-map (λ e. e.name.head) es k x 0 lt)
+head_at_place es k x lt = sym (get_or-map _ es k x 0 lt)
 
 as_long : {N : Type 0} (es : List (Entry N)) → length (heads_of es) ≡ length es
-as_long es = length-map es (λ e. e.name.head)
+as_long es = length-map es _
 
 module _ {N : Type 0} (es : List (Entry N)) {h : ℕ} where
   pub nothing_before : IsBefore (heads_of es) h 0
@@ -162,7 +162,7 @@ module _ {N : Type 0} (es : List (Entry N)) {h : ℕ} where
   }
 
   pub before_hint : {place : ℕ} (x : Entry N) → Rise (heads_of es) → 0 < place → place ≤ length es → x ≡ get_or es (place - 1) x → x.name.head < h → IsBefore (heads_of es) h place
-  before_hint {place} x rise some le is less = let at : place - 1 + 1 ≡ place = omega arith in subst (IsBefore (heads_of es) h) at (before_more x rise (omega arith) is less)
+  before_hint {place} x rise some le is less = let at : place - 1 + 1 ≡ place = omega arith in subst (IsBefore _ h) at (before_more x rise (omega arith) is less)
 
   pub first_here : {place : ℕ} (x : Entry N) → IsBefore (heads_of es) h place → place < length es → x ≡ get_or es place x → h ≤ x.name.head → IsFirst (heads_of es) h place
   first_here {place} x before lt is le = record { before = before; here = λ l. let here = head_read es place x lt is 0 in omega arith }
@@ -245,17 +245,17 @@ module _ {N : Type 0} (es : List (Entry N)) (asc : Ascend (names_of es)) where
 worth_same : (k : ℕ) (m n : Name) → Bytes m → Bytes n → length m ≡ length n → length m ≤ k → worth k m ≡ worth k n → m ≡ n
 worth_same k [] [] g h long few e = refl
 worth_same zero (a ∷ m) (b ∷ n) g h long few e = absurd (omega (arith, few))
-worth_same (suc k) (a ∷ m) (b ∷ n) g h long few e = by (worth_same k m n g.1 h.1 (omega (arith, long)) (omega (arith, few))) (nat_lt a b) (nat_lt b a) refl refl
+worth_same (suc k) (a ∷ m) (b ∷ n) g h long few e = by (worth_same k m n g.1 h.1 (omega (arith, long)) (omega (arith, few))) _ _ refl refl
   where
     by : (worth k m ≡ worth k n → m ≡ n) → (x y : Bool) → nat_lt a b ≡ x → nat_lt b a ≡ y → (a ∷ m) ≡ (b ∷ n)
     by rest true y p q =
         let lt : a < b = grind (arith, nat_tests) in
-        let more : suc a * 256 ^ k ≤ b * 256 ^ k = mul-le-mul_right (256 ^ k) lt in
+        let more : suc a * 256 ^ k ≤ b * 256 ^ k = mul-le-mul_right _ lt in
         let below = worth_below k m g.1 in
         absurd (grind arith)
     by rest false true p q =
         let lt : b < a = grind (arith, nat_tests) in
-        let more : suc b * 256 ^ k ≤ a * 256 ^ k = mul-le-mul_right (256 ^ k) lt in
+        let more : suc b * 256 ^ k ≤ a * 256 ^ k = mul-le-mul_right _ lt in
         let below = worth_below k n h.1 in
         absurd (grind arith)
     by rest false false p q =

@@ -46,7 +46,7 @@ module _ {X : Type 0} where
   pub read_at : (xs : List X) (i : ℕ) (o : Option (Bor X)) → IfSome o (λ x. x.now ≡ get_or xs i x.now) → MatchOption o (length xs ≤ i)
       (λ x. (i < length xs) × HoldsAt (λ y. x.now ≡ y) xs i) → option_copied o ≡ slice_get xs i
   read_at xs i None h m = sym (slice_get_past xs i m)
-  read_at xs i (Some x) h m = sym (slice_get_read xs (length xs) i x.now refl m.0 h)
+  read_at xs i (Some x) h m = sym (slice_get_read xs _ i x.now refl m.0 h)
 
   pub read_in : (xs slice : List X) (i : ℕ) (o : Option (Bor X)) → slice ≡ xs → IfSome o (λ x. x.now ≡ get_or slice i x.now)
       → MatchOption o (length slice ≤ i) (λ x. (i < length slice) × HoldsAt (λ y. x.now ≡ y) slice i) → option_copied o ≡ slice_get xs i
@@ -55,22 +55,22 @@ module _ {X : Type 0} where
   -- the place of a name leads to what stands zip it
   pub zip_place : (ks : List Name) (xs : List X) (n : Name) → option_and_then (slice_get xs) (position (λ k. bytes_eq k n) ks) ≡ lookup_name n (zip ks xs)
   zip_place [] xs n = refl
-  zip_place (k ∷ ks) [] n = nothing (position (λ k. bytes_eq k n) (k ∷ ks))
+  zip_place (k ∷ ks) [] n = nothing _
   zip_place (k ∷ ks) (x ∷ xs) n = by (slice_cmp nat_cmp n k) (same_name k n) (zip_place ks xs n)
     where
       by : (o : Ordering) → bytes_eq k n ≡ is_eq o → option_and_then (slice_get xs) (position (λ k. bytes_eq k n) ks) ≡ lookup_name n (zip ks xs)
           → option_and_then (slice_get (x ∷ xs)) (position (λ k. bytes_eq k n) (k ∷ ks)) ≡ first_if_equal o x (lookup_name n (zip ks xs))
-      by Less e h = ap (option_and_then (slice_get (x ∷ xs))) (position-later (λ k. bytes_eq k n) k ks e) ∙ later x xs (position (λ k. bytes_eq k n) ks) ∙ h
+      by Less e h = ap (option_and_then (slice_get (x ∷ xs))) (position-later _ k ks e) ∙ later x xs _ ∙ h
       by Equal e h = ap (option_and_then (slice_get (x ∷ xs))) (position-here (λ k. bytes_eq k n) k ks e)
-      by Greater e h = ap (option_and_then (slice_get (x ∷ xs))) (position-later (λ k. bytes_eq k n) k ks e) ∙ later x xs (position (λ k. bytes_eq k n) ks) ∙ h
+      by Greater e h = ap (option_and_then (slice_get (x ∷ xs))) (position-later _ k ks e) ∙ later x xs _ ∙ h
 
   -- what is read at the place of a name, and where the name has no place
   pub zip_found : (ks : List Name) (xs slice : List X) (n : Name) (i : ℕ) (o : Option (Bor X)) → slice ≡ xs → Some i ≡ position (λ k. bytes_eq k n) ks
       → IfSome o (λ x. x.now ≡ get_or slice i x.now) → MatchOption o (length slice ≤ i) (λ x. (i < length slice) × HoldsAt (λ y. x.now ≡ y) slice i) → option_copied o ≡ lookup_name n (zip ks xs)
-  zip_found ks xs slice n i o same e h m = read_in xs slice i o same h m ∙ ap (option_and_then (slice_get xs)) e ∙ zip_place ks xs n
+  zip_found ks xs slice n i o same e h m = read_in xs slice i o same h m ∙ ap (option_and_then _) e ∙ zip_place ks xs n
 
   pub zip_none : (ks : List Name) (xs : List X) (n : Name) → None ≡ position (λ k. bytes_eq k n) ks → None ≡ lookup_name n (zip ks xs)
-  zip_none ks xs n e = ap (option_and_then (slice_get xs)) e ∙ zip_place ks xs n
+  zip_none ks xs n e = ap (option_and_then _) e ∙ zip_place ks xs n
 
   numbered_get : (k : ℕ) (xs : List X) (i j : ℕ) → j ≡ k + i → slice_get (enumerate_from k xs) i ≡ option_map (λ x. (j, x)) (slice_get xs i)
   numbered_get k [] i j e = refl
@@ -80,7 +80,7 @@ module _ {X : Type 0} where
   -- what is read at an index, with the index
   pub numbered_at : (xs : List X) (i : ℕ) (o : Option (Bor X)) → IfSome o (λ x. x.now ≡ get_or xs i x.now) → MatchOption o (length xs ≤ i)
       (λ x. (i < length xs) × HoldsAt (λ y. x.now ≡ y) xs i) → option_map {U = ℕ × X} (λ x. (i, x.now)) o ≡ slice_get (placed xs) i
-  numbered_at xs i o h m = with_index o ∙ ap (option_map {U = ℕ × X} (λ x. (i, x))) (read_at xs i o h m) ∙ sym (numbered_get 0 xs i i (omega arith))
+  numbered_at xs i o h m = with_index o ∙ ap (option_map {U = ℕ × X} _) (read_at xs i o h m) ∙ sym (numbered_get 0 xs i i (omega arith))
     where
       with_index : (o : Option (Bor X)) → option_map {U = ℕ × X} (λ x. (i, x.now)) o ≡ option_map {U = ℕ × X} (λ x. (i, x)) (option_copied o)
       with_index None = refl

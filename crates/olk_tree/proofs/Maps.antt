@@ -42,7 +42,7 @@ module _ {X Y : Type 0} (p : X → Question) (q : Y → Question) (h : Y → X) 
 
 pub count_by-map : {X Y : Type 0} (p : X → Bool) (q : Y → Bool) (h : Y → X) → ((y : Y) → p (h y) ≡ q y) → (ys : List Y) → count_by p (map h ys) ≡ count_by q ys
 count_by-map p q h e [] = refl
-count_by-map p q h e (y ∷ ys) = sum_by-cons (λ x. cond (p x) 1 0) (h y) (map h ys) ∙ (λ i. cond (e y i) 1 0 + count_by-map p q h e ys i) ∙ sym (sum_by-cons (λ x. cond (q x) 1 0) y ys)
+count_by-map p q h e (y ∷ ys) = sum_by-cons (λ x. cond _ 1 0) (h y) (map h ys) ∙ (λ i. cond (e y i) 1 0 + count_by-map p q h e ys i) ∙ sym (sum_by-cons _ y ys)
 
 module _ {X Y : Type 0} (p : X → Question) (q : Y → Question) (h : Y → X) (same : (y : Y) → p (h y) ≡ q y) where
   pub how_many-map : (u : Bool) (ys : List Y) → how_many p u (map h ys) ≡ how_many q u ys
@@ -187,5 +187,5 @@ module _ {R X Y : Type 0} (answers : R → Name → Says) (h : Y → X) where
     patterns_tree-map t s same P Q es =
         λ i. result P Q (cond (is_object v) (Some (flat_map-map (λ e. map (λ x. x.0) (matched answers u e.0 v)) (λ e. map (λ x. x.0) (matched answers u e.0 v)) beside_pattern
         (λ e. refl) es i)) None) false []
-        (flat_map-map (λ e. map (λ x. t e.1 x.1 (Q // x.0)) (matched answers u e.0 v)) (λ e. map (λ x. s e.1 x.1 (Q // x.0)) (matched answers u e.0 v)) beside_pattern
+        (flat_map-map (λ e. map (λ x. t e.1 x.1 (Q // x.0)) (matched answers u e.0 v)) (λ e. map (λ x. s e.1 x.1 _) (matched answers u e.0 v)) beside_pattern
         (λ e i. map (λ x. same e.1 x.1 (Q // x.0) i) (matched answers u e.0 v)) es i)

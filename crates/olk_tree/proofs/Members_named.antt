@@ -33,11 +33,11 @@ ascending (e ∷ es) h (suc i) (suc j) l g = ascending es h.1 i j (omega arith) 
 ascending _ h _ _ l g = absurd (omega arith)
 
 -- the names so far, and those that are left, are all
-pub record NamesSoFar (names : List SortedName) (left all : List (String Global × Value)) : Type 0 where
+pub record NamesSoFar (names : List SortedName) (left all : List _) : Type 0 where
   pub are_all : map name_of names ++ names_in left ≡ names_in all
 
 pub so_far_end : {names : List SortedName} {left all : List (String Global × Value)} → NamesSoFar names left all → left ≡ [] → map name_of names ≡ names_in all
-so_far_end {names} {left} {all} h e = sym (append-nil (map name_of names)) ∙ ap (λ es. map name_of names ++ names_in es) (sym e) ∙ h.are_all
+so_far_end {names} {left} {all} h e = sym (append-nil _) ∙ ap (λ es. map name_of names ++ names_in es) (sym e) ∙ h.are_all
 
 pub so_far_ascends : (names : List SortedName) (all : List (String Global × Value)) → map name_of names ≡ names_in all → IsStrictlySortedBy string_cmp (keys_of all) → Ascend (map name_of names)
 so_far_ascends names all e h = subst Ascend (sym e) (ascending all h)

@@ -28,7 +28,7 @@ module _ {X : Type 0} (t : X → Bool) where
 
   pub first_of_those : (f : X → List Fault) (xs : List X) → first_of (λ x. cond (t x) (f x) []) xs ≡ first_of f (filter_once t xs)
   first_of_those f [] = refl
-  first_of_those f (x ∷ xs) = ap (or_else (cond (t x) (f x) [])) (first_of_those f xs) ∙ by (t x)
+  first_of_those f (x ∷ xs) = ap (or_else _) (first_of_those f xs) ∙ by (t x)
     where
       by : (b : Bool) → or_else (cond b (f x) []) (first_of f (filter_once t xs)) ≡ first_of f (put_if b x (filter_once t xs))
       by true = refl

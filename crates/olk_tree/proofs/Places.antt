@@ -38,7 +38,7 @@ rises x y n p = by (cmp y n) refl
     by : (o : Ordering) → cmp y n ≡ o → ordering_index (cmp x n) ≤ ordering_index o
     by Less q = subst (λ z. ordering_index z ≤ 0) (sym (nat_list_cmp_total.trans x y n p q)) (omega arith)
     by Equal q = subst (λ z. ordering_index z ≤ 1) (sym (below_equal x y n p q)) (omega arith)
-    by Greater q = at_most_two (cmp x n)
+    by Greater q = at_most_two _
 
 differs : (x n : Name) (o : Ordering) → cmp x n ≡ o → is_eq o ≡ false → bytes_eq x n ≡ false
 differs x n o e f = sym (is_eq-slice_cmp x n) ∙ ap is_eq e ∙ f
@@ -68,7 +68,7 @@ module _ {N : Type 0} (es : List (Entry N)) (n : Name) (asc : Ascend (names_of e
   comparisons_rise i j d le lt = by (nat_lt i j) refl
     where
       by : (b : Bool) → nat_lt i j ≡ b → ordering_index (ord (get_or es i d)) ≤ ordering_index (ord (get_or es j d))
-      by true e = rises (text_of (get_or es i d)) (text_of (get_or es j d)) n (pair i j d (grind (arith, nat_tests)) lt)
+      by true e = rises _ _ n (pair i j d (grind (arith, nat_tests)) lt)
       by false e = let same : i ≡ j = grind (arith, nat_tests) in let f = ap (λ z. ordering_index (ord (get_or es z d))) same in omega arith
 
   at : (k : ℕ) (d : Entry N) (o : Ordering) → k < length es → ord (get_or es k d) ≡ o → cmp (get_or (names_of es) k []) n ≡ o
@@ -98,8 +98,8 @@ module _ (ks : List Name) (n : Name) where
   parts_none {p} h = nowhere (λ k l. by k l (nat_lt k p) refl)
     where
       by : (k : ℕ) → k < length ks → (b : Bool) → nat_lt k p ≡ b → bytes_eq (get_or ks k []) n ≡ false
-      by k l true e = differs (get_or ks k []) n Less (h.below k (grind (arith, nat_tests)) l) refl
-      by k l false e = differs (get_or ks k []) n Greater (h.above k (grind (arith, nat_tests)) l) refl
+      by k l true e = differs _ n Less (h.below k (grind (arith, nat_tests)) l) refl
+      by k l false e = differs _ n Greater (h.above k (grind (arith, nat_tests)) l) refl
 
   module _ (asc : Ascend ks) where
     pub stands_some : {p : ℕ} → StandsAt ks n p → Some p ≡ position test ks
@@ -115,7 +115,7 @@ module _ (ks : List Name) (n : Name) where
     place_told (Err p) h = parts_none h
 
     pub equal_here : (p : ℕ) → p < length ks → true ≡ bytes_eq (get_or ks p []) n → Some p ≡ position test ks
-    equal_here p lt e = stands_some record { inside = lt; here = equal_by (cmp (get_or ks p []) n) (is_eq-slice_cmp (get_or ks p []) n ∙ sym e) }
+    equal_here p lt e = stands_some record { inside = lt; here = equal_by _ (is_eq-slice_cmp _ n ∙ sym e) }
       where
         equal_by : (o : Ordering) → is_eq o ≡ true → o ≡ Equal
         equal_by Equal h = refl

@@ -12,7 +12,7 @@ pub both_first : (m : Question) → both (always true) m ≡ m
 both_first m = alike (λ u. refl) (λ u. omega arith)
 
 pub both_last : (m : Question) → both m (always true) ≡ m
-both_last m = alike (λ u. and-true (m.accepts u)) (λ u. omega arith)
+both_last m = alike (λ u. and-true _) (λ u. omega arith)
 
 pub both_around : (m n p : Question) → both (both m n) p ≡ both m (both n p)
 both_around m n p = alike (λ u. and_assoc (m.accepts u) (n.accepts u) (p.accepts u)) (λ u. omega arith)

@@ -24,7 +24,7 @@ use Rattle.olk_tree.specs.Additional.{Sides, nodes_asked, is_unexpected, unexpec
 use Rattle.olk_tree.specs.AdditionalAgreement.{member_accepted}
 use Rattle.olk_tree.specs.Sides.{RestAnswers, SidesStand}
 use Rattle.olk_tree.proofs.Answering.{all_accept, all_find, all_show, same_marks}
-use Rattle.olk_tree.proofs.AskedSchemas.{is_rest, is_no_rest, nodes_matching_answer, is_additional_other, declared_schemas, matching_schemas, rest_schemas, asked_answer}
+use Rattle.olk_tree.proofs.AskedSchemas.{is_rest, is_no_rest, nodes_matching_answer, is_additional_other, pattern_schema, declared_schema, declared_schemas, matching_schemas, rest_schemas, other_schemas, asked_schemas, asked_answer}
 
 false_refuses : (W : World) (u : Bool) (d v : Data) → is_truth false d ≡ true → accepts W u d v ≡ false
 unfolding meaning
@@ -35,51 +35,53 @@ and_regroup : (a b c e : Bool) → ((a && (b && c)) && e) ≡ (a && b && (c && e
 and_regroup true true c e = refl
 and_regroup _ _ c e = refl
 
-module _ {K R N : Type 0} (o : Kit K R) (m : N → Data → Question) (r : N → Bool → Data → Path → List Fault)
-    (t : N → Bool → Data → Path → Tree) {S : Sides R N} {fs es : List (Name × Data)} {d : Data} {P : Path} (h : SidesStand o m r t S fs es d P) (u : Bool) where
+module _ {K R N : Type 0} {o : Kit K R} {m : _} {r : _} {t : _} {S : Sides R N} {fs es : List (Name × Data)} {d : Data} {P : Path} (h : SidesStand o m r t S fs es d P) (u : Bool) where
+  abbrev at_rest : Path
+  at_rest = P // codes "additionalProperties"
+
   -- ---- whether it accepts
 
-  pub rest_accepted : (n : Name) (v : Data) → (list_all (λ s. accepts o.world u s.0 v) (rest_schemas o m r t h n u) && not (is_unexpected o.answers S u n)) ≡
+  pub rest_accepted : (n : Name) (v : Data) → (list_all (λ s. accepts o.world u s.0 v) (rest_schemas h n u) && not (is_unexpected o.answers S u n)) ≡
       (not (is_other o.world u fs es n) || accepts o.world u d v)
-  rest_accepted n v =
-      (λ i. list_all (λ s. accepts o.world u s.0 v) (rest_schemas o m r t h n u) && not (is_none S.rest && is_additional_other o m r t h n u i)) ∙ by S.rest h.rest (is_other o.world u fs es n)
+  rest_accepted n v = (λ i. list_all accepted (rest_schemas h n u) && not (is_none S.rest && is_additional_other h n u i)) ∙ by S.rest h.rest (is_other o.world u fs es n)
     where
-      by : (x : Option N) → RestAnswers o m r t x d (P // codes "additionalProperties") → (b : Bool)
-          → (list_all (λ (s : Data × Path). accepts o.world u s.0 v) (put_if (is_object d && b) (d, P // codes "additionalProperties") []) && not (is_none x && b)) ≡ (not b || accepts o.world u d v)
-      by None g true =
-          (λ i. list_all (λ (s : Data × Path). accepts o.world u s.0 v) (put_if (false_is_no_object d g i && true) (d, P // codes "additionalProperties") []) && false)
-          ∙ sym (false_refuses o.world u d v g)
-      by None g false = λ i. list_all (λ (s : Data × Path). accepts o.world u s.0 v) (put_if (false_is_no_object d g i && false) (d, P // codes "additionalProperties") []) && true
-      by (Some x) g true = (λ i. list_all (λ (s : Data × Path). accepts o.world u s.0 v) (put_if (g.0 i && true) (d, P // codes "additionalProperties") []) && true) ∙ alone (accepts o.world u d v)
+      accepted : Data × Path → Bool
+      accepted s = accepts o.world u s.0 v
+
+      accepted_if : Bool → Bool
+      accepted_if b = list_all accepted (put_if b (d, at_rest) [])
+
+      by : (x : Option N) → RestAnswers o m r t x d at_rest → (b : Bool) → (accepted_if (is_object d && b) && not (is_none x && b)) ≡ (not b || accepts o.world u d v)
+      by None g true = (λ i. accepted_if (false_is_no_object d g i && true) && false) ∙ sym (false_refuses o.world u d v g)
+      by None g false = λ i. accepted_if (false_is_no_object d g i && false) && true
+      by (Some x) g true = (λ i. accepted_if (g.0 i && true) && true) ∙ alone _
         where
           alone : (a : Bool) → ((a && true) && true) ≡ a
           alone true = refl
           alone false = refl
-      by (Some x) g false = λ i. list_all (λ (s : Data × Path). accepts o.world u s.0 v) (put_if (g.0 i && false) (d, P // codes "additionalProperties") []) && true
+      by (Some x) g false = λ i. accepted_if (g.0 i && false) && true
 
   module _ (x : Name × Data) where
     abbrev pub accept : Data × Path → Bool
     accept s = accepts o.world u s.0 x.1
 
-    pub accepted_by_others : list_all accept (matching_schemas o m r t h x.0 u ++ rest_schemas o m r t h x.0 u) ≡ (matching_accept o.world u fs es x && list_all accept (rest_schemas o m r t h x.0 u))
+    pub accepted_by_others : list_all accept (other_schemas h x.0 u) ≡ (matching_accept o.world u fs es x && list_all accept (rest_schemas h x.0 u))
     accepted_by_others =
-        list_all-append accept (matching_schemas o m r t h x.0 u) (rest_schemas o m r t h x.0 u) ∙ ap (λ b. b && list_all accept (rest_schemas o m r t h x.0 u))
-        (list_all-map accept (λ e. (e.1, P // codes "patternProperties" // e.0)) (matching_at o.world u es x.0))
+        list_all-append accept (matching_schemas h x.0 u) _ ∙ ap (λ b. b && list_all accept (rest_schemas h x.0 u)) (list_all-map accept _ (matching_at o.world u es x.0))
 
-    accepted_by_part : list_all accept (declared_schemas o m r t h x.0 u ++ (matching_schemas o m r t h x.0 u ++ rest_schemas o m r t h x.0 u)) ≡
-        (declared_accepts o.world u fs es x && (matching_accept o.world u fs es x && list_all accept (rest_schemas o m r t h x.0 u)))
-    accepted_by_part = list_all-append accept (declared_schemas o m r t h x.0 u) (matching_schemas o m r t h x.0 u ++ rest_schemas o m r t h x.0 u)
-        ∙ (λ i. list_all-map accept (λ s. (s, P // codes "properties" // x.0)) (declared_at fs x.0) i && accepted_by_others i)
+    accepted_by_part : list_all accept (asked_schemas h x.0 u) ≡
+        (declared_accepts o.world u fs es x && (matching_accept o.world u fs es x && list_all accept (rest_schemas h x.0 u)))
+    accepted_by_part = list_all-append accept (declared_schemas h x.0 u) _ ∙ (λ i. list_all-map accept (declared_schema h x.0) (declared_at fs x.0) i && accepted_by_others i)
 
     accepted_each : (member_means o.answers o.costs m S x.0 x.1).accepts u ≡ each_accepts o.world u fs es d x
     accepted_each = member_accepted o.answers o.costs m S x.0 x.1 u
-        ∙ (λ i. (all_accept o m r t u x.1 _ _ (asked_answer o m r t h x.0 u) ∙ accepted_by_part) i && not (is_unexpected o.answers S u x.0))
-        ∙ and_regroup (declared_accepts o.world u fs es x) (matching_accept o.world u fs es x) (list_all accept (rest_schemas o m r t h x.0 u)) (not (is_unexpected o.answers S u x.0))
+        ∙ (λ i. (all_accept o m r t u x.1 _ _ (asked_answer h x.0 u) ∙ accepted_by_part) i && not (is_unexpected o.answers S u x.0))
+        ∙ and_regroup (declared_accepts o.world u fs es x) (matching_accept o.world u fs es x) _ _
         ∙ ap (λ b. declared_accepts o.world u fs es x && matching_accept o.world u fs es x && b) (rest_accepted x.0 x.1)
 
   -- it accepts where each member is accepted
   pub restricted_accepts : (v : Data) → (means_in_turn o.answers o.costs m S v).accepts u ≡ list_all (each_accepts o.world u fs es d) (members v)
-  restricted_accepts v = along (members v)
+  restricted_accepts v = along _
     where
       along : (xs : List (Name × Data)) → (every (λ x. member_means o.answers o.costs m S x.0 x.1) xs).accepts u ≡ list_all (each_accepts o.world u fs es d) xs
       along [] = refl
@@ -88,16 +90,15 @@ module _ {K R N : Type 0} (o : Kit K R) (m : N → Data → Question) (r : N →
   -- ---- which members are others
 
   pub restricted_names : (v : Data) (Q : Path) → additional_names o.answers S u v Q ≡ other_names o.world u fs es v
-  restricted_names v Q = λ i. map (λ x. x.0) (filter_once (λ x. is_additional_other o m r t h x.0 u i) (members v))
+  restricted_names v Q = λ i. map (λ x. x.0) (filter_once (λ x. is_additional_other h x.0 u i) (members v))
 
   pub restricted_matches : (v : Data) (Q : Path) → matched_names o.answers S u v Q ≡ names_matched o.world u fs es v
   restricted_matches v Q =
-      λ i. flat_map (λ x. (same_marks o m r t x.0 _ _ (nodes_matching_answer o m r t h x.0 u) ∙ map-map (λ s. x.0) (λ e. x.0)
-      (λ e. (e.1, P // codes "patternProperties" // e.0)) (λ e. refl) (matching_at o.world u es x.0)) i) (members v)
+      λ i. flat_map (λ x. (same_marks o m r t x.0 _ _ (nodes_matching_answer h x.0 u) ∙ map-map (λ s. x.0) (λ e. x.0) _ (λ e. refl) (matching_at o.world u es x.0)) i) (members v)
 
   -- where the rest is false, none of them is expected
   pub restricted_unexpected : (v : Data) → unexpected o.answers S u v ≡ cond (is_truth false d) (other_members o.world u fs es v) []
-  restricted_unexpected v = (λ i. filter_once (λ x. is_no_rest o m r t h i && is_additional_other o m r t h x.0 u i) (members v)) ∙ by (is_truth false d)
+  restricted_unexpected v = (λ i. filter_once (λ x. is_no_rest h i && is_additional_other h x.0 u i) (members v)) ∙ by (is_truth false d)
     where
       none : (xs : List (Name × Data)) → filter_once (λ x. false) xs ≡ []
       none [] = refl
@@ -108,11 +109,11 @@ module _ {K R N : Type 0} (o : Kit K R) (m : N → Data → Question) (r : N →
       by false = none (members v)
 
   module _ (named : Bool) (v : Data) (Q : Path) where
-    pub faults_of_others : unexpected_faults named (unexpected o.answers S u v) v (P // codes "additionalProperties") Q ≡ others_report o.world u fs es P Q named d v
-    faults_of_others = ap (λ xs. unexpected_faults named xs v (P // codes "additionalProperties") Q) (restricted_unexpected v) ∙ by (is_truth false d)
+    pub faults_of_others : unexpected_faults named (unexpected o.answers S u v) v at_rest Q ≡ others_report o.world u fs es P Q named d v
+    faults_of_others = ap (λ xs. unexpected_faults named xs v at_rest Q) (restricted_unexpected v) ∙ by (is_truth false d)
       where
-        by : (b : Bool) → unexpected_faults named (cond b (other_members o.world u fs es v) []) v (P // codes "additionalProperties") Q ≡ cond b
-            (unexpected_faults named (other_members o.world u fs es v) v (P // codes "additionalProperties") Q) []
+        by : (b : Bool) → unexpected_faults named (cond b (other_members o.world u fs es v) []) v at_rest Q ≡ cond b
+            (unexpected_faults named (other_members o.world u fs es v) v at_rest Q) []
         by true = refl
         by false = refl
 
@@ -122,30 +123,28 @@ module _ {K R N : Type 0} (o : Kit K R) (m : N → Data → Question) (r : N →
     abbrev pub finds : Data × Path → List Fault
     finds s = report o.world u s.0 x.1 s.1 (Q // x.0)
 
-    pub found_by_others : flat_map finds (matching_schemas o m r t h x.0 u ++ rest_schemas o m r t h x.0 u) ≡ matching_report o.world u fs es P Q x ++ rest_report o.world u fs es P Q d x
-    found_by_others = flat_map-append finds (matching_schemas o m r t h x.0 u) (rest_schemas o m r t h x.0 u)
-        ∙ (λ i. flat_map-map finds (λ e. finds (e.1, P // codes "patternProperties" // e.0)) (λ e. (e.1, P // codes "patternProperties" // e.0))
-        (λ e. refl) (matching_at o.world u es x.0) i ++ of_rest (is_object d) (is_other o.world u fs es x.0) i)
+    pub found_by_others : flat_map finds (other_schemas h x.0 u) ≡ matching_report o.world u fs es P Q x ++ rest_report o.world u fs es P Q d x
+    found_by_others = flat_map-append finds (matching_schemas h x.0 u) _
+        ∙ (λ i. flat_map-map finds _ (pattern_schema h) (λ e. refl) (matching_at o.world u es x.0) i ++ of_rest (is_object d) (is_other o.world u fs es x.0) i)
       where
-        of_rest : (a b : Bool) → flat_map finds (put_if (a && b) (d, P // codes "additionalProperties") []) ≡ cond b (cond a (finds (d, P // codes "additionalProperties")) []) []
+        of_rest : (a b : Bool) → flat_map finds (put_if (a && b) (d, at_rest) []) ≡ cond b (cond a (finds (d, at_rest)) []) []
         of_rest true true = append-nil _
         of_rest true false = refl
         of_rest false true = refl
         of_rest false false = refl
 
-    found_by_part : flat_map finds (declared_schemas o m r t h x.0 u ++ (matching_schemas o m r t h x.0 u ++ rest_schemas o m r t h x.0 u)) ≡ each_report o.world u fs es P Q d x
-    found_by_part = flat_map-append finds (declared_schemas o m r t h x.0 u) (matching_schemas o m r t h x.0 u ++ rest_schemas o m r t h x.0 u)
-        ∙ (λ i. flat_map-map finds (λ s. finds (s, P // codes "properties" // x.0)) (λ s. (s, P // codes "properties" // x.0)) (λ s. refl) (declared_at fs x.0) i ++ found_by_others i)
-        ∙ sym (append_assoc (declared_report o.world u fs es P Q x) (matching_report o.world u fs es P Q x) (rest_report o.world u fs es P Q d x))
+    found_by_part : flat_map finds (asked_schemas h x.0 u) ≡ each_report o.world u fs es P Q d x
+    found_by_part = flat_map-append finds (declared_schemas h x.0 u) _ ∙ (λ i. flat_map-map finds _ (declared_schema h x.0) (λ s. refl) (declared_at fs x.0) i ++ found_by_others i)
+        ∙ sym (append_assoc (declared_report o.world u fs es P Q x) _ _)
 
     found_each : (v : Data) → member_report o.answers S u v Q r x ∼ each_report o.world u fs es P Q d x
-    found_each v = like_through (all_find o m r t u x.1 (Q // x.0) _ _ (asked_answer o m r t h x.0 u)) (∼_same found_by_part)
+    found_each v = like_through (all_find o m r t u x.1 _ _ _ (asked_answer h x.0 u)) (∼_same found_by_part)
 
   -- it finds what is found in each member, and the members that are not expected
-  pub restricted_finds : (named : Bool) (v : Data) (Q : Path) → report_in_turn o.answers S u v Q named (P // codes "additionalProperties") r ∼ flat_map
+  pub restricted_finds : (named : Bool) (v : Data) (Q : Path) → report_in_turn o.answers S u v Q named at_rest r ∼ flat_map
       (each_report o.world u fs es P Q d) (members v) ++ others_report o.world u fs es P Q named d v
   restricted_finds named v Q =
-      ∼_append (∼_flat_map_any (member_report o.answers S u v Q r) (each_report o.world u fs es P Q d) (λ x. found_each x Q v) (members v)) (∼_same (faults_of_others named v Q))
+      ∼_append (∼_flat_map_any _ _ (λ x. found_each x Q v) (members v)) (∼_same (faults_of_others named v Q))
 
   -- ---- what it shows
 
@@ -153,39 +152,35 @@ module _ {K R N : Type 0} (o : Kit K R) (m : N → Data → Question) (r : N →
     abbrev showing : Data × Path → Tree
     showing s = tree o.world u s.0 x.1 s.1 (Q // x.0)
 
-    shown_by_part : map showing (declared_schemas o m r t h x.0 u ++ (matching_schemas o m r t h x.0 u ++ rest_schemas o m r t h x.0 u)) ≡ each_shown o.world u fs es P Q d x
-    shown_by_part = map-append showing (declared_schemas o m r t h x.0 u) (matching_schemas o m r t h x.0 u ++ rest_schemas o m r t h x.0 u)
-        ∙ ap (λ l. map showing (declared_schemas o m r t h x.0 u) ++ l) (map-append showing (matching_schemas o m r t h x.0 u) (rest_schemas o m r t h x.0 u))
-        ∙ sym (append_assoc (map showing (declared_schemas o m r t h x.0 u)) (map showing (matching_schemas o m r t h x.0 u)) (map showing (rest_schemas o m r t h x.0 u)))
-        ∙ (λ i. map-map showing (λ s. showing (s, P // codes "properties" // x.0)) (λ s. (s, P // codes "properties" // x.0)) (λ s. refl) (declared_at fs x.0) i
-        ++ map-map showing (λ e. showing (e.1, P // codes "patternProperties" // e.0)) (λ e. (e.1, P // codes "patternProperties" // e.0)) (λ e. refl) (matching_at o.world u es x.0) i
-        ++ of_rest (is_object d && is_other o.world u fs es x.0) i)
+    shown_by_part : map showing (asked_schemas h x.0 u) ≡ each_shown o.world u fs es P Q d x
+    shown_by_part = map-append showing (declared_schemas h x.0 u) _ ∙ ap (λ l. map showing (declared_schemas h x.0 u) ++ l) (map-append showing (matching_schemas h x.0 u) _)
+        ∙ sym (append_assoc (map showing (declared_schemas h x.0 u)) (map showing (matching_schemas h x.0 u)) _)
+        ∙ (λ i. map-map showing _ (declared_schema h x.0) (λ s. refl) (declared_at fs x.0) i ++ map-map showing _ (pattern_schema h) (λ e. refl) (matching_at o.world u es x.0) i ++ of_rest (is_object d && is_other o.world u fs es x.0) i)
       where
-        of_rest : (b : Bool) → map showing (put_if b (d, P // codes "additionalProperties") []) ≡ put_if b (showing (d, P // codes "additionalProperties")) []
+        of_rest : (b : Bool) → map showing (put_if b (d, at_rest) []) ≡ put_if b (showing (d, at_rest)) []
         of_rest true = refl
         of_rest false = refl
 
     shown_each : map (λ n. t n u x.1 (Q // x.0)) (nodes_asked o.answers S u x.0) ≡ each_shown o.world u fs es P Q d x
-    shown_each = all_show o m r t u x.1 (Q // x.0) _ _ (asked_answer o m r t h x.0 u) ∙ shown_by_part
+    shown_each = all_show o m r t u x.1 _ _ _ (asked_answer h x.0 u) ∙ shown_by_part
 
   pub restricted_children : (v : Data) (Q : Path) → flat_map (λ x. map (λ n. t n u x.1 (Q // x.0)) (nodes_asked o.answers S u x.0)) (members v) ≡ flat_map
       (each_shown o.world u fs es P Q d) (members v)
   restricted_children v Q = λ i. flat_map (λ x. shown_each x Q i) (members v)
 
 -- beside the members of a schema object it shows what is shown of them
-module _ {K R N : Type 0} (o : Kit K R) (m : N → Data → Question) (r : N → Bool → Data → Path → List Fault) (t : N → Bool → Data → Path → Tree)
-    (ms : Members) {S : Sides R N} {d : Data} {P : Path} (h : SidesStand o m r t S (declared_beside ms) (patterns_beside ms) d P) (u : Bool) (v : Data) (Q : Path) where
+module _ {K R N : Type 0} {o : Kit K R} {m : _} {r : _} {t : _} (ms : Members) {S : Sides R N} {d : Data} {P : Path} (h : SidesStand o m r t S (declared_beside ms) (patterns_beside ms) d P) (u : Bool) (v : Data) (Q : Path) where
   pub restricted_shows : (declares has_patterns : Bool) (A M : Path) (more : List Tree) → declares ≡ declares_beside ms → has_patterns ≡ matches_beside ms
       → A ≡ P // codes "additionalProperties" → M ≡ P // codes "patternProperties" → more ≡ required_child ms v P Q
       → additional_tree o.answers S u v Q declares has_patterns A M (λ n. t n u) more ≡ restriction_shown o.world u ms v d P Q
-  restricted_shows declares has_patterns A M more declares_same patterns_same at_rest at_patterns more_same =
-      (λ i. additional_tree o.answers S u v Q (declares_same i) (patterns_same i) (at_rest i) (at_patterns i) (λ n. t n u) (more_same i))
+  restricted_shows declares has_patterns A M more declares_same patterns_same rest_place patterns_place more_same =
+      (λ i. additional_tree o.answers S u v Q (declares_same i) (patterns_same i) (rest_place i) (patterns_place i) (λ n. t n u) (more_same i))
       ∙ (λ i. result (P // codes "additionalProperties") Q
-      (cond (is_object v && (is_rest o m r t h i && (cond (declares_beside ms) (matches_beside ms) (not (matches_beside ms)) || not (is_empty (restricted_names o m r t h u v Q i)))))
-      (Some (restricted_names o m r t h u v Q i)) None)
+      (cond (is_object v && (is_rest h i && (cond (declares_beside ms) (matches_beside ms) (not (matches_beside ms)) || not (is_empty (restricted_names h u v Q i)))))
+      (Some (restricted_names h u v Q i)) None)
       false
-      (described (faults_of_others o m r t h u (declares_beside ms || matches_beside ms) v Q i))
-      (restricted_children o m r t h u v Q i
-      ++ put_if (matches_beside ms && not (declares_beside ms) && not (is_empty (restricted_matches o m r t h u v Q i)))
-      (node (P // codes "patternProperties") Q true (Some (restricted_matches o m r t h u v Q i)) [] no_tree) []
+      (described (faults_of_others h u (declares_beside ms || matches_beside ms) v Q i))
+      (restricted_children h u v Q i
+      ++ put_if (matches_beside ms && not (declares_beside ms) && not (is_empty (restricted_matches h u v Q i)))
+      (node (P // codes "patternProperties") Q true (Some (restricted_matches h u v Q i)) [] no_tree) []
       ++ required_child ms v P Q))

@@ -22,7 +22,7 @@ use Rattle.olk_tree.specs.Additional.{Sides, known_at, known_or_asked, is_matche
 use Rattle.olk_tree.specs.AdditionalAgreement.{match_is_said}
 use Rattle.olk_tree.specs.Sides.{PatternsAnswer, SidesStand}
 use Rattle.olk_tree.proofs.Answering.{more_within, all_ask}
-use Rattle.olk_tree.proofs.AskedSchemas.{Recalls, recalls_here, recalls_later, recalls, is_declared, declared_schemas, matching_schemas, rest_schemas, asked_answer}
+use Rattle.olk_tree.proofs.AskedSchemas.{Recalls, recalls_here, recalls_later, recalls, is_declared, declared_schema, declared_schemas, matching_schemas, rest_schemas, other_schemas, asked_schemas, asked_answer}
 
 -- ---- what a member asks is what its nodes ask, and the matchers that are asked for its name
 
@@ -40,8 +40,20 @@ module _ {R N : Type 0} (answers : R → Name → Says) (costs : R → Bool) (S 
     abbrev pub nodes_ask : Bool → List N → ℕ
     nodes_ask alone ns = (every (λ e. m e x) (ns ++ cond alone (option_to_list S.rest) [])).asks u
 
-    pub patterns_ask : (spoken : Bool) (i : ℕ) (ps : List (CompiledPattern R × N)) → (patterns_mean_from answers costs m S a n x spoken i ps).asks u ≡ nodes_ask
-        (not spoken && is_empty (matching_from answers S a n u i ps)) (matching_from answers S a n u i ps) + matchers_asked i ps
+    -- these nodes, and where they are none and nothing else speaks of the member the rest
+    abbrev pub nodes_or_rest : Bool → List N → ℕ
+    nodes_or_rest spoken ns = nodes_ask (not spoken && is_empty ns) ns
+
+    one_more : (spoken b : Bool) (e : N) (ns : List N) (c k a later : ℕ) → a ≡ nodes_ask false ns + k → later ≡ nodes_or_rest spoken ns + k
+        → c + cond b ((m e x).asks u + a) later ≡ nodes_or_rest spoken (put_if b e ns) + (c + k)
+    one_more true true e ns c k a later h g = omega (arith, h)
+    one_more false true e ns c k a later h g = omega (arith, h)
+    one_more spoken false e ns c k a later h g = omega (arith, g)
+
+    abbrev pub asks_from : Bool → ℕ → List (CompiledPattern R × N) → ℕ
+    asks_from spoken i ps = (patterns_mean_from answers costs m S a n x spoken i ps).asks u
+
+    pub patterns_ask : (spoken : Bool) (i : ℕ) (ps : List (CompiledPattern R × N)) → asks_from spoken i ps ≡ nodes_or_rest spoken (matching_from answers S a n u i ps) + matchers_asked i ps
     patterns_ask true i [] = omega arith
     patterns_ask false i [] = by S.rest
       where
@@ -49,18 +61,8 @@ module _ {R N : Type 0} (answers : R → Name → Says) (costs : R → Bool) (S 
         by None = omega arith
         by (Some y) = omega arith
     patterns_ask spoken i (p ∷ ps) =
-        ap {B = ℕ} (λ b. matcher_asked i p.0 + cond b ((m p.1 x).asks u + (patterns_mean_from answers costs m S a n x true (i + 1) ps).asks u)
-        ((patterns_mean_from answers costs m S a n x spoken (i + 1) ps).asks u)) (match_is_said u (pattern_costs costs p.0) (known_at S a i) (pattern_answers answers p.0 n))
-        ∙ by spoken (is_matched_by answers S a n u i p.0) (matcher_asked i p.0) (patterns_ask true (i + 1) ps) (patterns_ask spoken (i + 1) ps)
-      where
-        by : (spoken b : Bool) (c : ℕ) → (patterns_mean_from answers costs m S a n x true (i + 1) ps).asks u ≡ nodes_ask false (matching_from answers S a n u (i + 1) ps) + matchers_asked (i + 1) ps
-            → (patterns_mean_from answers costs m S a n x spoken (i + 1) ps).asks u ≡ nodes_ask (not spoken && is_empty (matching_from answers S a n u (i + 1) ps))
-            (matching_from answers S a n u (i + 1) ps) + matchers_asked (i + 1) ps
-            → c + cond b ((m p.1 x).asks u + (patterns_mean_from answers costs m S a n x true (i + 1) ps).asks u) ((patterns_mean_from answers costs m S a n x spoken (i + 1) ps).asks u)
-            ≡ nodes_ask (not spoken && is_empty (put_if b p.1 (matching_from answers S a n u (i + 1) ps))) (put_if b p.1 (matching_from answers S a n u (i + 1) ps)) + (c + matchers_asked (i + 1) ps)
-        by true true c h g = omega (arith, h)
-        by false true c h g = omega (arith, h)
-        by spoken false c h g = omega (arith, g)
+        ap {B = ℕ} (λ b. matcher_asked i p.0 + cond b ((m p.1 x).asks u + asks_from true (i + 1) ps) (asks_from spoken (i + 1) ps))
+        (match_is_said u (pattern_costs costs p.0) (known_at S a i) (pattern_answers answers p.0 n)) ∙ one_more spoken _ p.1 _ _ _ _ _ (patterns_ask true _ ps) (patterns_ask spoken _ ps)
 
 module _ {R N : Type 0} (answers : R → Name → Says) (costs : R → Bool) (m : N → Data → Question) (S : Sides R N) (n : Name) (x : Data) (u : Bool) where
   member_asks_at : (a : Option (ℕ × N)) → (member_means_at answers costs m S a n x).asks u ≡
@@ -78,12 +80,12 @@ module _ {R N : Type 0} (answers : R → Name → Says) (costs : R → Bool) (m 
 -- where what a text says is known, its matcher is asked if it left the name unfinished
 asked_if_unfinished : (W : World) (u : Bool) (text : Text) (n : Name) → (known_or_asked (pattern_says W text n) (said_to (is_open W text) (pattern_says W text n))).asks u ≡ cond
     (is_open W text) (cond (is_unfinished (W.says text n)) 1 0) 0
-asked_if_unfinished W u text n = by (literal text) (W.says text n)
+asked_if_unfinished W u text n = by (literal text) _
   where
     by : (l : Option Literal) (s : Says) → (known_or_asked (option_map_or (λ l. literal_says W l n) l s)
         (said_to (is_none l) (option_map_or (λ l. literal_says W l n) l s))).asks u ≡ cond (is_none l) (cond (is_unfinished s) 1 0) 0
     by None matched = refl
-    by (Some l) s = test (passes l n)
+    by (Some l) s = test _
       where
         test : (b : Bool) → (known_or_asked (cond b matched unmatched) (said_to false (cond b matched unmatched))).asks u ≡ 0
         test true = refl
@@ -92,11 +94,11 @@ asked_if_unfinished W u text n = by (literal text) (W.says text n)
 
 -- a test is never left unfinished, so that it counts exactly where its matcher is asked
 pub open_counts : (W : World) (text : Text) (n : Name) → cond {A = ℕ} (is_open W text || is_unfinished (pattern_says W text n)) 1 0 ≡ cond (is_open W text) 1 0
-open_counts W text n = by (literal text) (W.says text n)
+open_counts W text n = by (literal text) _
   where
     by : (l : Option Literal) (s : Says) → cond {A = ℕ} (is_none l || is_unfinished (option_map_or (λ l. literal_says W l n) l s)) 1 0 ≡ cond (is_none l) 1 0
     by None s = refl
-    by (Some l) s = test (passes l n)
+    by (Some l) s = test _
       where
         test : (b : Bool) → cond {A = ℕ} (false || is_unfinished (cond b matched unmatched)) 1 0 ≡ 0
         test true = refl
@@ -140,27 +142,24 @@ module _ {K R N : Type 0} (o : Kit K R) (m : N → Data → Question) (r : N →
 
 -- ---- all
 
-module _ {K R N : Type 0} (o : Kit K R) (m : N → Data → Question) (r : N → Bool → Data → Path → List Fault)
-    (t : N → Bool → Data → Path → Tree) {S : Sides R N} {fs es : List (Name × Data)} {d : Data} {P : Path} (h : SidesStand o m r t S fs es d P) (u : Bool) where
+module _ {K R N : Type 0} {o : Kit K R} {m : _} {r : _} {t : _} {S : Sides R N} {fs es : List (Name × Data)} {d : Data} {P : Path} (h : SidesStand o m r t S fs es d P) (u : Bool) where
   pub matchers_for : (n : Name) → matchers_asked o.answers o.costs S n u (at_name S n) 0 S.patterns ≡ patterns_asked o.world fs es n
-  matchers_for n = matchers_counted o m r t n u S (P // codes "patternProperties") (at_name S n) S.patterns es h.patterns (recalls o m r t h n)
-      ∙ ap {B = ℕ} (λ b. cond b (count_by (λ x. is_unfinished (o.world.says x n)) (open_among o.world es)) (length (open_among o.world es))) (is_declared o m r t h n)
+  matchers_for n = matchers_counted o m r t n u S (P // codes "patternProperties") (at_name S n) S.patterns es h.patterns (recalls h n)
+      ∙ ap {B = ℕ} (λ b. cond b (count_by (λ x. is_unfinished (o.world.says x n)) (open_among o.world es)) (length (open_among o.world es))) (is_declared h n)
 
   module _ (x : Name × Data) where
     abbrev pub asking : Data × Path → ℕ
     asking s = asks o.world u s.0 x.1
 
-    pub asked_by_others : sum_by asking (matching_schemas o m r t h x.0 u ++ rest_schemas o m r t h x.0 u) ≡ matching_asks o.world u fs es x + sum_by asking (rest_schemas o m r t h x.0 u)
+    pub asked_by_others : sum_by asking (other_schemas h x.0 u) ≡ matching_asks o.world u fs es x + sum_by asking (rest_schemas h x.0 u)
     asked_by_others =
-        sum_by-append asking (matching_schemas o m r t h x.0 u) (rest_schemas o m r t h x.0 u) ∙ ap (λ k. k + sum_by asking (rest_schemas o m r t h x.0 u))
-        (sum_by-map asking (λ e. (e.1, P // codes "patternProperties" // e.0)) (matching_at o.world u es x.0))
+        sum_by-append asking (matching_schemas h x.0 u) _ ∙ ap (λ k. k + sum_by asking (rest_schemas h x.0 u)) (sum_by-map asking _ (matching_at o.world u es x.0))
 
-    asked_by_part : sum_by asking (declared_schemas o m r t h x.0 u ++ (matching_schemas o m r t h x.0 u ++ rest_schemas o m r t h x.0 u)) ≡ declared_asks o.world u fs es x +
-        (matching_asks o.world u fs es x + sum_by asking (rest_schemas o m r t h x.0 u))
-    asked_by_part = sum_by-append asking (declared_schemas o m r t h x.0 u) (matching_schemas o m r t h x.0 u ++ rest_schemas o m r t h x.0 u)
-        ∙ (λ i. sum_by-map asking (λ s. (s, P // codes "properties" // x.0)) (declared_at fs x.0) i + asked_by_others i)
+    asked_by_part : sum_by asking (asked_schemas h x.0 u) ≡ declared_asks o.world u fs es x +
+        (matching_asks o.world u fs es x + sum_by asking (rest_schemas h x.0 u))
+    asked_by_part = sum_by-append asking (declared_schemas h x.0 u) _ ∙ (λ i. sum_by-map asking (declared_schema h x.0) (declared_at fs x.0) i + asked_by_others i)
 
-    pub rest_within : sum_by asking (rest_schemas o m r t h x.0 u) ≤ rest_asks o.world u fs es d x
+    pub rest_within : sum_by asking (rest_schemas h x.0 u) ≤ rest_asks o.world u fs es d x
     rest_within = by (is_object d) (is_other o.world u fs es x.0)
       where
         by : (a b : Bool) → sum_by asking (put_if (a && b) (d, P // codes "additionalProperties") []) ≤ cond b (asks o.world u d x.1) 0
@@ -172,7 +171,7 @@ module _ {K R N : Type 0} (o : Kit K R) (m : N → Data → Question) (r : N →
     asked_each : (member_means o.answers o.costs m S x.0 x.1).asks u ≤ each_asks o.world u fs es d x
     asked_each =
         let whole = member_asks o.answers o.costs m S x.0 x.1 u in
-        let nodes = all_ask o m r t u x.1 _ _ (asked_answer o m r t h x.0 u) in
+        let nodes = all_ask o m r t u x.1 _ _ (asked_answer h x.0 u) in
         let parts = asked_by_part in
         let rest = rest_within in
         let matchers = matchers_for x.0 in

@@ -62,15 +62,14 @@ module _ {K R N : Type 0} (o : Kit K R) (m : N → Data → Question) (r : N →
 
 -- ---- all
 
-module _ {K R N : Type 0} (o : Kit K R) (m : N → Data → Question) (r : N → Bool → Data → Path → List Fault)
-    (t : N → Bool → Data → Path → Tree) {S : Sides R N} {fs es : List (Name × Data)} {d : Data} {P : Path} (h : SidesStand o m r t S fs es d P) (u : Bool) where
+module _ {K R N : Type 0} {o : Kit K R} {m : _} {r : _} {t : _} {S : Sides R N} {fs es : List (Name × Data)} {d : Data} {P : Path} (h : SidesStand o m r t S fs es d P) (u : Bool) where
   -- ---- whether it accepts
 
   others_accept : (x : Name × Data) → (others_mean o.answers o.costs m S x.0 x.1).accepts u ≡ (matching_accept o.world u fs es x && rest_accepts o.world u fs es d x)
   others_accept x = others_accepted o.answers o.costs m S x.0 x.1 u
-      ∙ (λ i. (all_accept o m r t u x.1 _ _ (others_answer o m r t h x.0 u) ∙ accepted_by_others o m r t h u x) i && not (is_unexpected o.answers S u x.0))
-      ∙ and_assoc (matching_accept o.world u fs es x) (list_all (λ s. accepts o.world u s.0 x.1) (rest_schemas o m r t h x.0 u)) (not (is_unexpected o.answers S u x.0))
-      ∙ ap (λ b. matching_accept o.world u fs es x && b) (rest_accepted o m r t h u x.0 x.1)
+      ∙ (λ i. (all_accept o m r t u x.1 _ _ (others_answer h x.0 u) ∙ accepted_by_others h u x) i && not (is_unexpected o.answers S u x.0))
+      ∙ and_assoc (matching_accept o.world u fs es x) (list_all (λ s. accepts o.world u s.0 x.1) (rest_schemas h x.0 u)) (not (is_unexpected o.answers S u x.0))
+      ∙ ap (λ b. matching_accept o.world u fs es x && b) (rest_accepted h u x.0 x.1)
 
   -- it accepts where the declared schemas accept the members of their names, and each member is accepted by the patterns and the rest
   pub named_accepts : (v : Data) → (named_means o.answers o.costs m S v).accepts u ≡ (list_all (λ e. list_all (accepts o.world u e.1) (at e.0 v)) fs
@@ -86,17 +85,17 @@ module _ {K R N : Type 0} (o : Kit K R) (m : N → Data → Question) (r : N →
   -- ---- what it finds
 
   others_find : (v : Data) (Q : Path) (x : Name × Data) → others_found o.answers S u v Q r x ∼ matching_report o.world u fs es P Q x ++ rest_report o.world u fs es P Q d x
-  others_find v Q x = like_through (all_find o m r t u x.1 (Q // x.0) _ _ (others_answer o m r t h x.0 u)) (∼_same (found_by_others o m r t h u x Q))
+  others_find v Q x = like_through (all_find o m r t u x.1 (Q // x.0) _ _ (others_answer h x.0 u)) (∼_same (found_by_others h u x Q))
 
   -- it finds what the declared schemas find, what the patterns and the rest find in each member, and the members that are not expected
   pub named_finds : (named : Bool) (v : Data) (Q : Path) → named_report o.answers S u v Q named (P // codes "additionalProperties") r
       ∼ flat_map (λ e. flat_map (λ x. report o.world u e.1 x (P // codes "properties" // e.0) (Q // e.0)) (at e.0 v)) fs
       ++ flat_map (λ x. matching_report o.world u fs es P Q x ++ rest_report o.world u fs es P Q d x) (members v) ++ others_report o.world u fs es P Q named d v
   named_finds named v Q = like_through
-      (∼_append (like_through (∼_same (ap (flat_map (λ e. flat_map (λ w. r e.1.1 u w (Q // e.0)) (at e.0 v))) h.placed_zip))
-      (declared_find o m r t (P // codes "properties") u v Q 0 h.nodes fs h.declared))
-      (∼_append (∼_flat_map_any (others_found o.answers S u v Q r) (λ x. matching_report o.world u fs es P Q x ++ rest_report o.world u fs es P Q d x) (others_find v Q) (members v)) (∼_same (faults_of_others o m r t h u named v Q))))
-      (∼_same (sym (append_assoc (flat_map (λ e. flat_map (λ x. report o.world u e.1 x (P // codes "properties" // e.0) (Q // e.0)) (at e.0 v)) fs)
+      (∼_append (like_through (∼_same (ap (flat_map _) h.placed_zip))
+      (declared_find o m r t _ u v Q 0 h.nodes fs h.declared))
+      (∼_append (∼_flat_map_any (others_found o.answers S u v Q r) (λ x. matching_report o.world u fs es P Q x ++ rest_report o.world u fs es P Q d x) (others_find v Q) (members v)) (∼_same (faults_of_others h u named v Q))))
+      (∼_same (sym (append_assoc (flat_map _ fs)
       (flat_map (λ x. matching_report o.world u fs es P Q x ++ rest_report o.world u fs es P Q d x) (members v)) (others_report o.world u fs es P Q named d v))))
 
   -- ---- how many matchers are asked
@@ -104,10 +103,10 @@ module _ {K R N : Type 0} (o : Kit K R) (m : N → Data → Question) (r : N →
   others_ask : (x : Name × Data) → (others_mean o.answers o.costs m S x.0 x.1).asks u ≤ (matching_asks o.world u fs es x + patterns_asked o.world fs es x.0) + rest_asks o.world u fs es d x
   others_ask x =
       let whole = patterns_ask o.answers o.costs S x.0 u (at_name S x.0) m x.1 (is_some (at_name S x.0)) 0 S.patterns in
-      let nodes = all_ask o m r t u x.1 _ _ (others_answer o m r t h x.0 u) in
-      let parts = asked_by_others o m r t h u x in
-      let rest = rest_within o m r t h u x in
-      let matchers = matchers_for o m r t h u x.0 in
+      let nodes = all_ask o m r t u x.1 _ _ (others_answer h x.0 u) in
+      let parts = asked_by_others h u x in
+      let rest = rest_within h u x in
+      let matchers = matchers_for h u x.0 in
       omega (arith, whole, nodes, parts, rest, matchers)
 
   -- it asks at most what the declared schemas ask, and what the patterns and the rest ask of each member

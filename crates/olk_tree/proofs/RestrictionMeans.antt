@@ -82,8 +82,8 @@ module _ {K R N : Type 0} (o : Kit K R) (m : N → Data → Question) (r : N →
       where
         by : (b : Bool) → repeats v ≡ b → ((cond b (named_means o.answers o.costs m (sides_of k.value) v) (means_in_turn o.answers o.costs m (sides_of k.value) v)).accepts u
             && is_empty (missing (required_text k.value.required) v)) ≡ list_all (λ x. member_accepts o.world ms x (keyword_named o.world x.0) u v) claimed
-        by true q = (λ i. named_accepts o m r t h.sides u v i && is_empty (missing (h.requires i) v)) ∙ sym (claims_accept o.world ms d distinct there restricted u v)
-        by false q = (λ i. restricted_accepts o m r t h.sides u v i && is_empty (missing (h.requires i) v)) ∙ sym (claims_accept_each o.world ms d distinct there restricted u v h.declared_once q)
+        by true q = (λ i. named_accepts h.sides u v i && is_empty (missing (h.requires i) v)) ∙ sym (claims_accept o.world ms d distinct there restricted u v)
+        by false q = (λ i. restricted_accepts h.sides u v i && is_empty (missing (h.requires i) v)) ∙ sym (claims_accept_each o.world ms d distinct there restricted u v h.declared_once q)
 
     -- it asks at most what these ask
     pub restriction_asks : (u : Bool) (v : Data) → (validator_means o m (keyword.AdditionalProperties k) v).asks u ≤ sum_by (λ x. member_asks o.world ms x (keyword_named o.world x.0) u v) claimed
@@ -93,11 +93,11 @@ module _ {K R N : Type 0} (o : Kit K R) (m : N → Data → Question) (r : N →
         by : (b : Bool) → repeats v ≡ b → (cond b (named_means o.answers o.costs m (sides_of k.value) v) (means_in_turn o.answers o.costs m (sides_of k.value) v)).asks u + 0 ≤ sum_by
             (λ x. member_asks o.world ms x (keyword_named o.world x.0) u v) claimed
         by true q =
-            let within = named_asks o m r t h.sides u v in
+            let within = named_asks h.sides u v in
             let all = claims_ask o.world ms d distinct there restricted u v in
             omega (arith, within, all)
         by false q =
-            let within = restricted_asks o m r t h.sides u v in
+            let within = restricted_asks h.sides u v in
             let all = claims_ask_each o.world ms d distinct there restricted u v h.declared_once q in
             omega (arith, within, all)
 
@@ -113,10 +113,10 @@ module _ {K R N : Type 0} (o : Kit K R) (m : N → Data → Question) (r : N →
         by : (b : Bool) → repeats v ≡ b → reported u v Q b (has_beside ms) (P // codes "additionalProperties") ++ required_faults (required_beside ms) v
             (P // codes "required") Q ∼ flat_map (λ x. member_report o.world ms x (keyword_named o.world x.0) u v P Q) claimed
         by true q =
-            like_through (∼_behind (required_faults (required_beside ms) v (P // codes "required") Q) (named_finds o m r t h.sides u (has_beside ms) v Q))
+            like_through (∼_behind (required_faults _ v _ Q) (named_finds h.sides u _ v Q))
             (∼_sym (claims_find o.world ms d distinct there restricted u v P Q))
         by false q =
-            like_through (∼_behind (required_faults (required_beside ms) v (P // codes "required") Q) (restricted_finds o m r t h.sides u (has_beside ms) v Q))
+            like_through (∼_behind (required_faults _ v _ Q) (restricted_finds h.sides u _ v Q))
             (∼_sym (claims_find_each o.world ms d distinct there restricted u v P Q h.declared_once q))
 
     -- and it shows the child of `additionalProperties`
@@ -125,6 +125,6 @@ module _ {K R N : Type 0} (o : Kit K R) (m : N → Data → Question) (r : N →
     unfolding answers_of
     restriction_shows u v Q fused = ap (λ x. x ∷ [])
         (patterns_placed o.answers (sides_of k.value) u v Q (is_some k.value.properties) (is_some k.value.patterns) k.value.location (λ n. t n u)
-        (missing_trees (required_text k.value.required) v (required_place k.value.required) Q) h.patterns_place
-        ∙ restricted_shows o m r t ms h.sides u v Q (is_some k.value.properties) (is_some k.value.patterns) k.value.location (P // codes "patternProperties") (missing_trees (required_text k.value.required) v (required_place k.value.required) Q) h.declares h.has_patterns h.place refl (required_shown v Q))
+        (missing_trees _ v _ Q) h.patterns_place
+        ∙ restricted_shows ms h.sides u v Q _ _ k.value.location _ (missing_trees _ v _ Q) h.declares h.has_patterns h.place refl (required_shown v Q))
         ∙ sym (additional_shows o.world ms u v P Q d restricted fused)

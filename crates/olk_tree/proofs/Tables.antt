@@ -31,7 +31,7 @@ pub no_asks : (c : Counts) → count_asks 0 c ≡ c
 no_asks c = raised_by_none c
 
 pub asks_asks : (m n : ℕ) (c : Counts) → count_asks n (count_asks m c) ≡ count_asks (m + n) c
-asks_asks m n c = raised_by_sum c (record no_counts { asked = m }) (record no_counts { asked = n })
+asks_asks m n c = raised_by_sum c _ _
 
 ask_counts : (b : Bool) (c : Counts) → count_ask b c ≡ count_asks (cond b 1 0) c
 ask_counts true c = count_asked_is c
@@ -73,7 +73,7 @@ module _ {R : Type 0} (answers : R → Name → Says) (costs : R → Bool) (patt
 
   one_more : (k : ℕ) (d : CompiledPattern R) → k < length patterns → (b : Bool) → pattern_costs costs (get_or patterns k d) ≡ b → how_many_cost costs
       (take k patterns) + cond b 1 0 ≡ how_many_cost costs (take (k + 1) patterns)
-  one_more k d lt true e = sym (count_by_more_yes (pattern_costs costs) patterns k d lt e)
+  one_more k d lt true e = sym (count_by_more_yes _ patterns k d lt e)
   one_more k d lt false e = omega (arith, count_by_more_no (pattern_costs costs) patterns k d lt e)
 
   module _ (old : Counts) (k : ℕ) (row row' : Row) (new new' : Counts) (e : CompiledPattern R) (so_far : IsAskedTo old k row new) (lt : k < length patterns) (is : e ≡ get_or patterns k e) where
@@ -148,7 +148,7 @@ row_told answers patterns names k name rows row lt is so_far more =
     let next : map name_of (take (k + 1) names) ≡ map name_of (take k names) ++ name_of name ∷ [] =
     ap (map name_of) (take_more names k name lt ∙ ap (λ s. take k names ++ s ∷ []) (sym is)) ∙ map-append name_of (take k names) (name ∷ []) in
     subst (λ ns. AllZip (IsRowOf answers patterns) ns (rows ++ row ∷ [])) (sym next)
-    (all_zipped_more (IsRowOf answers patterns) (map name_of (take k names)) rows (name_of name) row so_far more)
+    (all_zipped_more _ _ rows _ row so_far more)
 
 -- what is so where nothing is given
 pub on_err : {T E P : Type 0} (r : Result T E) → P → OnErr r P

@@ -34,7 +34,7 @@ module _ {N : Type 0} where
         node = x;
         value = view v;
       } ∷ members_declared es (listed (members_view rest))
-      member_met x e = step (Some x) e
+      member_met x e = step _ e
 
       pub member_passed : None ≡ lookup_name n es → members_declared es (listed (members_view left)) ≡ members_declared es (listed (members_view rest))
       member_passed e = step None e
@@ -68,8 +68,8 @@ module _ {N : Type 0} where
   zip_parts (e ∷ es) = ap (λ l. e ∷ l) (zip_parts es)
 
   pub keys_rising : (es : List (Name × N)) → Ascend (keys_in es) → Rising es
-  keys_rising es ascend = subst Rising (zip_parts es) (ascending_rising (keys_in es) (nodes_in es) ascend)
+  keys_rising es ascend = subst Rising (zip_parts es) (ascending_rising _ _ ascend)
 
   pub walks_agree : (declared : List (Name × N)) (es : List (String Global × Value)) → Ascend (keys_in declared) → IsStrictlySortedBy string_cmp (keys_of es)
       → names_met declared (listed (members_view es)) ≡ members_declared declared (listed (members_view es))
-  walks_agree declared es ascend sorted = in_step declared_as declared (listed (members_view es)) (keys_rising declared ascend) (sorted_rising es sorted)
+  walks_agree declared es ascend sorted = in_step declared_as declared _ (keys_rising declared ascend) (sorted_rising es sorted)

@@ -9,13 +9,13 @@ pub returns-in-Some-member : goal.returns-in-Some-member
 returns-in-Some-member g c =
     let member = view c.in-Some-member.value.now in
     c.loop-entry.invariant
-    ∙ name_met (listed (members_view c.args.members.now.entries)) _ _ (entries_more c.loop-entry.entries.rest.now c.next.new.self.rest.now c.in-Some.entry.now c.in-Some.ensures.steps c.as_str-name.result.now c.as_str-name.ensures) member (Some member) refl c.in-Some-member.ensures
+    ∙ name_met _ _ _ (entries_more c.loop-entry.entries.rest.now c.next.new.self.rest.now c.in-Some.entry.now c.in-Some.ensures.steps c.as_str-name.result.now c.as_str-name.ensures) member _ refl c.in-Some-member.ensures
 
 pub loop-entry-preserved : goal.loop-entry-preserved
 loop-entry-preserved g c =
     c.loop-entry.invariant
-    ∙ name_passed (listed (members_view c.args.members.now.entries)) _ _
+    ∙ name_passed (listed _) _ _
     (entries_more c.loop-entry.entries.rest.now c.next.new.self.rest.now c.in-Some.entry.now c.in-Some.ensures.steps c.as_str-name.result.now c.as_str-name.ensures) c.in_default-member.ensures
 
 pub returns : goal.returns
-returns g c = c.loop-entry.invariant ∙ no_name_left (listed (members_view c.args.members.now.entries)) c.loop-entry.entries.rest.now (nil_from_length _ c.in_default.ensures.steps.0)
+returns g c = c.loop-entry.invariant ∙ no_name_left _ c.loop-entry.entries.rest.now (nil_from_length _ c.in_default.ensures.steps.0)

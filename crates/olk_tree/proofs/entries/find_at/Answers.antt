@@ -5,7 +5,7 @@ use Rattle.olk_tree.proofs.Places.{place_told}
 use Rattle.olk_tree.proofs.entries.find_at.Goals as goal
 
 pub returns : goal.returns
-returns g c = place_told (names_of c.args.entries.now) c.args.name.now c.requires.ascend c.place_of.result c.place_of.ensures
+returns g c = place_told _ c.args.name.now c.requires.ascend c.place_of.result c.place_of.ensures
 
 pub returns-then-place-entries : goal.returns-then-place-entries
 returns-then-place-entries g c =

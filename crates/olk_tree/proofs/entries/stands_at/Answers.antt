@@ -13,5 +13,5 @@ returns-then-place-entries g c =
       λ same. sym (equal_here ks n c.requires c.args.place (omega (arith, as_many_names es, inside))
           (equal_at es c.args.place c.index-entries-place.result _ n c.as_str.ensures (omega (arith, inside)) (sym same ∙ c.is_same_text.ensures))),
       λ at. c.is_same_text.ensures ∙ seen_at es c.args.place c.index-entries-place.result _ n c.as_str.ensures (omega (arith, inside))
-          ∙ (position-Some (λ k. bytes_eq k n) ks c.args.place [] at).1,
+          ∙ (position-Some _ ks c.args.place [] at).1,
     )

@@ -9,12 +9,12 @@ returns-then-count-le8 g c =
     let es = c.args.entries.now in
     let here = text_at es c.args.place c.index-entries-place.result _ c.as_str-found.ensures c.requires.inside in
     let inside : c.args.place < length (names_of es) = omega (arith, as_many_names es, c.requires.inside) in
-    λ few. equal_here (names_of es) c.args.name.now c.requires.ascend c.args.place inside
+    λ few. equal_here _ c.args.name.now c.requires.ascend c.args.place inside
     (short_stands es c.args.name.now c.args.place inside c.utf8.name
     (ap length (sym here) ∙ c.if-found-count.false ∙ c.as_bytes-count.ensures.len) (omega (arith, c.as_bytes-count.ensures.len)) c.requires.head)
 
 pub returns-else-count-le8 : goal.returns-else-count-le8
 returns-else-count-le8 g c =
     let es = c.args.entries.now in
-    λ same. equal_here (names_of es) c.args.name.now c.requires.ascend c.args.place (omega (arith, as_many_names es, c.requires.inside))
+    λ same. equal_here _ c.args.name.now c.requires.ascend c.args.place (omega (arith, as_many_names es, c.requires.inside))
     (equal_at es c.args.place c.index-entries-place.result _ c.args.name.now c.as_str-found.ensures c.requires.inside (sym same ∙ c.eq.ensures))

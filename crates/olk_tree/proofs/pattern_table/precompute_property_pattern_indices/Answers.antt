@@ -19,7 +19,7 @@ returns-clause-names g c =
 
 pub returns-clause-answers : goal.returns-clause-answers
 returns-clause-answers g c =
-    is_table g.R.RegexEngine.answers c.args.patterns.now (record { names = keys_in c.in_ok-of.field-0; patterns = length c.args.patterns.now; rows = nodes_in c.in_ok-of.field-0 })
+    is_table g.R.RegexEngine.answers c.args.patterns.now _
     (rows_joined g.R.RegexEngine.answers c.args.patterns.now c.in_ok-names.names c.in_ok-rows.rows.items c.in_ok-of.ensures
     (subst (λ ns. AllZip (IsRowOf g.R.RegexEngine.answers c.args.patterns.now) ns c.in_ok-rows.rows.items) c.as_slice.ensures c.in_ok-rows.ensures.answers)) refl
 

@@ -8,19 +8,19 @@ use Rattle.olk_tree.proofs.pattern_table.rows_of.Goals as goal
 
 pub returns-in_err-row_of-clause-asked_at_most : goal.returns-in_err-row_of-clause-asked_at_most
 returns-in_err-row_of-clause-asked_at_most g c =
-    on_err _ (stops_before (how_many_cost g.R.RegexEngine.costs c.args.patterns.now) _ c.args.meter.now c.loop-name.meter c.row_of.new.meter c.loop-name.name-index c.loop-name.invariant.asked c.loop-name-test.true c.in_err-row_of.ensures.unasked)
+    on_err _ (stops_before _ _ c.args.meter.now c.loop-name.meter c.row_of.new.meter c.loop-name.name-index c.loop-name.invariant.asked c.loop-name-test.true c.in_err-row_of.ensures.unasked)
 
 pub returns-in_err-push-clause-asked_at_most : goal.returns-in_err-push-clause-asked_at_most
 returns-in_err-push-clause-asked_at_most g c =
-    on_err _ (stops_behind (how_many_cost g.R.RegexEngine.costs c.args.patterns.now) _ c.args.meter.now c.loop-name.meter c.row_of.new.meter c.loop-name.name-index c.loop-name.invariant.asked c.loop-name-test.true c.in_ok-row_of.ensures.asked)
+    on_err _ (stops_behind _ _ c.args.meter.now c.loop-name.meter c.row_of.new.meter c.loop-name.name-index c.loop-name.invariant.asked c.loop-name-test.true c.in_ok-row_of.ensures.asked)
 
 pub loop-name-preserved : goal.loop-name-preserved
 loop-name-preserved g c = record {
   rows =
-      subst (AllZip (IsRowOf g.R.RegexEngine.answers c.args.patterns.now) (map name_of (take (c.loop-name.name-index + 1) c.args.names.now))) (sym c.in_ok-push.ensures.items)
+      subst (AllZip _ _) (sym c.in_ok-push.ensures.items)
       (row_told g.R.RegexEngine.answers c.args.patterns.now c.args.names.now c.loop-name.name-index c.name-item.result c.loop-name.rows.items c.in_ok-row_of.field-0 c.loop-name-test.true c.name-item.is c.loop-name.invariant.rows (subst (λ n. IsRowOf g.R.RegexEngine.answers c.args.patterns.now n c.in_ok-row_of.field-0) c.as_str.ensures c.in_ok-row_of.ensures.answers));
   asked =
-      asks_a_name (how_many_cost g.R.RegexEngine.costs c.args.patterns.now) 0 c.args.meter.now c.loop-name.meter c.row_of.new.meter c.loop-name.name-index c.loop-name.invariant.asked c.in_ok-row_of.ensures.asked;
+      asks_a_name _ 0 c.args.meter.now c.loop-name.meter c.row_of.new.meter c.loop-name.name-index c.loop-name.invariant.asked c.in_ok-row_of.ensures.asked;
 }
 
 pub returns-clause-answers : goal.returns-clause-answers

@@ -6,4 +6,4 @@ use Rattle.olk_tree.proofs.entries.SortedEntries.find.Goals as goal
 
 pub returns : goal.returns
 returns g c =
-    c.ok.ensures.value ∙ c.find_apart.ensures ∙ ap (position (λ k. bytes_eq k c.args.name.now)) (keys_are c.as_slice.result.now ∙ ap keys_in c.as_slice.ensures.entries)
+    c.ok.ensures.value ∙ c.find_apart.ensures ∙ ap (position _) (keys_are c.as_slice.result.now ∙ ap keys_in c.as_slice.ensures.entries)

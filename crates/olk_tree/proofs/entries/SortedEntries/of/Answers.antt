@@ -12,7 +12,7 @@ loop-name-preserved g c =
     record {
       joined =
           joined_more c.loop-name.entries.items c.push.new.self.items c.loop-name.name-iterator.a.rest.items c.next.new.self.a.rest.items c.loop-name.name-iterator.b.rest.items c.next.new.self.b.rest.items
-          (record { name = c.in-Some.name; node = c.in-Some.node }) _ c.in_ok-push.ensures.items names.0 nodes.0 c.loop-name.invariant.joined;
+          _ _ c.in_ok-push.ensures.items names.0 nodes.0 c.loop-name.invariant.joined;
       names = let e = ap length names.0 in omega (arith, e, names.1, c.loop-name.invariant.names);
       nodes = let e = ap length nodes.0 in omega (arith, e, nodes.1, c.loop-name.invariant.nodes);
       next = (tt, tt);

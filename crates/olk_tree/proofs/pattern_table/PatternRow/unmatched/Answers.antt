@@ -10,7 +10,7 @@ all_zero zero = refl
 all_zero (suc n) = all_zero n
 
 unset : (words : List ℕ) (n i : ℕ) → words ≡ replicate n 0 → has_bit words i ≡ false
-unset words n i e = no_bit_is_set words i (ap (list_all (λ w. w == 0)) e ∙ all_zero n)
+unset words n i e = no_bit_is_set words i (ap (list_all _) e ∙ all_zero n)
 
 pub returns-clause-unmatched : goal.returns-clause-unmatched
 returns-clause-unmatched c i j =

@@ -8,7 +8,7 @@ use Rattle.olk_tree.proofs.pattern_table.PatternTable.matches_nothing.Goals as g
 
 row_is : (c : goal.After-is_blank) → Some c.in-Some.entry.now.node ≡ slice_get c.args.self.now.rows c.args.place
 row_is c =
-    sym (ap (option_map (λ e. e.now.node)) c.in-Some.is) ∙ node_in c.as_slice.result.now _ c.args.self.now.rows c.args.place c.get.result
+    sym (ap (option_map _) c.in-Some.is) ∙ node_in c.as_slice.result.now _ c.args.self.now.rows c.args.place c.get.result
     c.as_slice.ensures.entries (ap (λ t. t.rows) c.self.view_is) c.get.ensures.lookup.1 c.get.ensures.lookup.3
 
 pub returns-in-Some-clause-value : goal.returns-in-Some-clause-value
@@ -19,5 +19,5 @@ returns-in-Some-clause-unmatched c blank i = ap (λ o. option_map_or (λ r. row_
 
 pub returns-in-None-clause-value : goal.returns-in-None-clause-value
 returns-in-None-clause-value c =
-    ap (λ o. option_map_or is_blank o false) (sym (ap (option_map (λ e. e.now.node)) c.in-None.is) ∙ node_in c.as_slice.result.now _ c.args.self.now.rows c.args.place c.get.result
+    ap (λ o. option_map_or is_blank o false) (sym (ap (option_map _) c.in-None.is) ∙ node_in c.as_slice.result.now _ c.args.self.now.rows c.args.place c.get.result
     c.as_slice.ensures.entries (ap (λ t. t.rows) c.self.view_is) c.get.ensures.lookup.1 c.get.ensures.lookup.3)
