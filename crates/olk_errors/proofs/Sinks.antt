@@ -63,15 +63,15 @@ Taking old new o b = Took b (held old) (held new) o
 abbrev Keeping : ErrorSink → ErrorSink → Bool → Type 0
 Keeping old new b = Kept b (held old) (held new)
 
--- of what passes
-pub goes_past : (s : ErrorSink) {o : Outcome} → Passes o → o.all ≡ [] → GoesOn s s o
-goes_past s {o} passes none = record {
+pub goes_nowhere : (s : ErrorSink) → GoesOn s s unasked
+goes_nowhere s = record {
   same = refl;
-  took = elim (wants_one s) as (Taking s s o) [ false ↦ subst (Appends (held s) (held s)) (sym none) (appends_nothing (held s)) | true ↦ (passes, refl) ];
+  took = elim (wants_one s) as (Taking s s unasked) [ false ↦ appends_nothing (held s) | true ↦ (record { verdict = refl; nothing = refl }, refl) ];
 }
 
-pub goes_nowhere : (s : ErrorSink) → GoesOn s s unasked
-goes_nowhere s = goes_past s (record { verdict = refl; nothing = refl }) refl
+-- what comes to nothing
+pub goes_past : (s : ErrorSink) {o : Outcome} → o ≡ unasked → GoesOn s s o
+goes_past s nothing = subst (GoesOn s s) (sym nothing) (goes_nowhere s)
 
 module _ {old mid new : ErrorSink} where
   pub goes_after : {o p : Outcome} → GoesOn old mid o → GoesOn mid new p → GoesOn old new (after o p)
@@ -197,12 +197,12 @@ module _ {T : Type 0} {r : Result T Stop} where
 
 -- ---- of walks
 
-pub ends_past : {T : Type 0} {x : T} {s : ErrorSink} {o : Outcome} → Passes o → o.all ≡ [] → Ends (Ok x) s s o
-ends_past {s = s} passes none = record { so = goes_past s passes none }
+module _ {T : Type 0} {x : T} {s : ErrorSink} {o : Outcome} where
+  pub ends_past : o ≡ unasked → Ends (Ok x) s s o
+  ends_past nothing = record { so = goes_past s nothing }
 
--- nothing is asked
-pub walks_past : {T : Type 0} {x : T} {s : ErrorSink} {a b : Asking} {o : Outcome} → OnlyAsks a b → Passes o → o.all ≡ [] → Walks (Ok x) s s a b o
-walks_past only passes none = record { ends = ends_past passes none; only = only }
+  pub walks_past : {a b : Asking} → OnlyAsks a b → o ≡ unasked → Walks (Ok x) s s a b o
+  walks_past only nothing = record { ends = ends_past nothing; only = only }
 
 module _ {T : Type 0} {r : Result T Stop} where
   module _ {old new : ErrorSink} {a b : Asking} {o : Outcome} where
