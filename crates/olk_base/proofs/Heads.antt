@@ -108,31 +108,29 @@ module _ (a b : List ℕ) (p : IsBytes a) (q : IsBytes b) (e : head_of a ≡ hea
       let hb : length b < 4 = let l = same_len in omega arith in
       low_first-injective a b same_len (omega arith) p q (ap (λ r. r.first) (sym (head_short a h) ∙ e ∙ head_short b hb))
 
+  -- where the head is of the first k and of the last k
+  module _ (k : ℕ) (small : k ≤ 8) (long : k ≤ length a)
+      (head_is : (bs : List ℕ) → length bs ≡ length a → head_of bs ≡ record { len = length bs; first = low_first (take k bs); last = low_first (drop (length bs - k) bs) }) where
+    ends : (take k a ≡ take k b) × (drop (length a - k) a ≡ drop (length a - k) b)
+    ends =
+        let l = same_len in
+        let r = sym (head_is a refl) ∙ e ∙ head_is b (sym l) in
+        let first : take k a ≡ take k b = low_first-injective (take k a) (take k b) (grind (arith, common_steps)) (grind (arith, common_steps)) (IsBytes-take k a p) (IsBytes-take k b q) (ap (λ r. r.first) r) in
+        let last : drop (length a - k) a ≡ drop (length b - k) b =
+        low_first-injective (drop (length a - k) a) (drop (length b - k) b) (grind (arith, common_steps)) (grind (arith, common_steps))
+        (IsBytes-drop (length a - k) a p) (IsBytes-drop (length b - k) b q) (ap (λ r. r.last) r) in
+        (first, last ∙ ap (λ n. drop (n - k) b) (sym l))
+
   same_middle : 4 ≤ length a → length a < 8 → a ≡ b
   same_middle h k =
-      let l = same_len in
-      let hb : 4 ≤ length b = omega arith in
-      let kb : length b < 8 = omega arith in
-      let r = sym (head_middle a h k) ∙ e ∙ head_middle b hb kb in
-      let first : take 4 a ≡ take 4 b = low_first-injective (take 4 a) (take 4 b) (grind (arith, common_steps)) (grind (arith, common_steps)) (IsBytes-take 4 a p) (IsBytes-take 4 b q) (ap (λ r. r.first) r) in
-      let last : drop (length a - 4) a ≡ drop (length b - 4) b =
-      low_first-injective (drop (length a - 4) a) (drop (length b - 4) b) (grind (arith, common_steps)) (grind (arith, common_steps))
-      (IsBytes-drop (length a - 4) a p) (IsBytes-drop (length b - 4) b q) (ap (λ r. r.last) r) in
-      overlap 4 (length a - 4) a b (omega arith) first (last ∙ ap (λ n. drop (n - 4) b) (sym l))
+      let parts = ends 4 (omega arith) h (λ bs l. head_middle bs (omega arith) (omega arith)) in
+      overlap 4 (length a - 4) a b (omega arith) parts.0 parts.1
 
-  ends : 8 ≤ length a → (take 8 a ≡ take 8 b) × (drop (length a - 8) a ≡ drop (length a - 8) b)
-  ends h =
-      let l = same_len in
-      let hb : 8 ≤ length b = omega arith in
-      let r = sym (head_long a h) ∙ e ∙ head_long b hb in
-      let first : take 8 a ≡ take 8 b = low_first-injective (take 8 a) (take 8 b) (grind (arith, common_steps)) (grind (arith, common_steps)) (IsBytes-take 8 a p) (IsBytes-take 8 b q) (ap (λ r. r.first) r) in
-      let last : drop (length a - 8) a ≡ drop (length b - 8) b =
-      low_first-injective (drop (length a - 8) a) (drop (length b - 8) b) (grind (arith, common_steps)) (grind (arith, common_steps))
-      (IsBytes-drop (length a - 8) a p) (IsBytes-drop (length b - 8) b q) (ap (λ r. r.last) r) in
-      (first, last ∙ ap (λ n. drop (n - 8) b) (sym l))
+  long_ends : 8 ≤ length a → (take 8 a ≡ take 8 b) × (drop (length a - 8) a ≡ drop (length a - 8) b)
+  long_ends h = ends 8 (omega arith) h (λ bs l. head_long bs (omega arith))
 
   same_long : 8 ≤ length a → length a ≤ 16 → a ≡ b
-  same_long h k = overlap 8 (length a - 8) a b (omega arith) (ends h).0 (ends h).1
+  same_long h k = overlap 8 (length a - 8) a b (omega arith) (long_ends h).0 (long_ends h).1
 
   pub same_up_to_16 : length b ≤ 16 → a ≡ b
   same_up_to_16 k =
@@ -147,4 +145,4 @@ module _ (a b : List ℕ) (p : IsBytes a) (q : IsBytes b) (e : head_of a ≡ hea
       let l = same_len in
       let h : 8 ≤ length a = omega arith in
       let j : 8 + (length a - 8 - 8) ≡ length a - 8 = omega arith in
-      three_parts 8 (length a - 8 - 8) a b (ends h).0 (ap (λ n. middle n a) l ∙ m ∙ ap (λ n. middle n b) (sym l)) (ap (λ n. drop n a) j ∙ (ends h).1 ∙ sym (ap (λ n. drop n b) j))
+      three_parts 8 (length a - 8 - 8) a b (long_ends h).0 (ap (λ n. middle n a) l ∙ m ∙ ap (λ n. middle n b) (sym l)) (ap (λ n. drop n a) j ∙ (long_ends h).1 ∙ sym (ap (λ n. drop n b) j))

@@ -138,7 +138,7 @@ module _ {R N : Type 0} (w : Asked R N) where
 
   pub named_turn : (Q : Path) {a b : Asking} {old new : ErrorSink} {spoken : Bool} {T : Type 0} {r : Result T Stop} → spoken ≡ is_some w.declared
       → Walks r old new a b (outcome a.answer Q (declared_nodes w.declared)) → Turns r (WalkingMember Q spoken 0 old new a b) (Walks r old new a b (whole a.answer Q))
-  named_turn Q {a} {b} {old} {new} {r = r} e h = turns_as r _ _ _ _ (λ walking. subst (λ s. WalkingMember Q s 0 old new a b) (sym e) (record { walking = walking; so_far = refl })) (λ left. left)
+  named_turn Q {a} {b} {old} {new} {r = r} e h = turns_as r (λ walking. subst (λ s. WalkingMember Q s 0 old new a b) (sym e) (record { walking = walking; so_far = refl })) (λ left. left)
       (several_turn {q = asks_at} {s = first_at Q} {f = report_at Q} walking_start (declared_nodes w.declared) (asked_left a.answer (is_some w.declared) 0) refl h)
 
   module _ {Q : Path} {a : Asking} {old : ErrorSink} {spoken : Bool} {i : ℕ} {new : ErrorSink} {b : Asking} (loop : WalkingMember Q spoken i old new a b) where
@@ -146,7 +146,7 @@ module _ {R N : Type 0} (w : Asked R N) where
         → {m : Bool} → m ≡ reads_as b.answer (known_or known (pattern_answers w.answers e.0 w.name)) → {newer : ErrorSink} {c : Asking} {T : Type 0} {r : Result T Stop}
         → Walks r new newer b c (outcome b.answer Q (if_matched w.answers b.answer known e.0 e.1 w.name))
         → Turns r (WalkingMember Q (spoken || m) (i + 1) old newer a c) (Walks r old newer a c (whole a.answer Q))
-    pattern_turn {e} here {known} is {m} told {r = r} h = turns_as r _ _ _ _
+    pattern_turn {e} here {known} is {m} told {r = r} h = turns_as r
         (λ walking. record { walking = walking; so_far = loop.so_far ∙ alone_here a.answer spoken i here is loop.walking.only.answer told }) (λ left. left)
         (several_turn loop.walking (if_matched w.answers b.answer known e.0 e.1 w.name) (asked_left a.answer (spoken || m) (i + 1))
         (asked_here a.answer spoken i here is loop.walking.only.answer told) h)

@@ -31,8 +31,8 @@ use Rattle.olk_errors.specs.Outcomes.{of_branches, declared_nodes, unspoken_from
 use Rattle.olk_errors.specs.Sinks.{wants_one, GoesOn, Stopped, Ends, EndsAlone, Walks}
 use Rattle.olk_errors.specs.declared.sink.ErrorSink.{ErrorSink}
 use Rattle.olk_errors.specs.declared.sink.Stop.{Stop}
-use Rattle.olk_errors.proofs.Missing.{one_first, other_lacks_none, other_lacks_nothing}
-use Rattle.olk_errors.proofs.Sinks.{after, contains_first, pass_both, goes_after, goes_same, goes_keeping, goes_passing, goes_either, stopped_where, stopped_same, stopped_before, stopped_after, ends_left, ends_past, ends_through}
+use Rattle.olk_errors.proofs.Missing.{one_first, other_lacks_nothing}
+use Rattle.olk_errors.proofs.Sinks.{after, unasked, contains_first, goes_after, goes_same, goes_keeping, goes_passing, goes_either, stopped_where, stopped_same, stopped_before, stopped_after, ends_left, ends_past, ends_through}
 use Rattle.olk_errors.proofs.Unexpected.{told_of_one, kept_of_first}
 
 not_some : {A : Type 0} (o : Option A) → not (is_some o) ≡ is_none o
@@ -66,7 +66,7 @@ module _ {R N : Type 0} (answers : R → Name → Says) (u : Bool) (S : Sides R 
 -- ---- the name that is wanted
 
 pub nothing_wanted : (v : Data) (Q : Path) {T : Type 0} {y : T} {k : ErrorSink} {name : Option RequiredName} → name ≡ None → Ends (Ok y) k k (of_names (required_text name) v (required_place name) Q)
-nothing_wanted v Q {y = y} {k} none = subst (λ o. Ends (Ok y) k k (of_names (required_text o) v (required_place o) Q)) (sym none) (ends_past (record { verdict = refl; nothing = refl }) refl)
+nothing_wanted v Q none = ends_past (ap (λ o. of_names (required_text o) v (required_place o) Q) none)
 
 wanted : (v : Data) (Q : Path) (name : Option RequiredName) → of_names (required_text name) v (required_place name) Q
     ≡ record { accepts = is_empty (missing (required_text name) v); first = lacks name v Q; all = lacks name v Q }
@@ -283,12 +283,6 @@ module _ {R N : Type 0} (answers : R → Name → Says) (costs : R → Bool) (m 
       no_repeats : repeats v ≡ false
       no_repeats = ap (λ ms. has_repeat (map (λ x. x.0) ms)) (no_members v none)
 
-      pub other_passes : Passes of_keyword
-      other_passes = subst Passes same_keyword (pass_both
-          (subst Passes (in_turn u no_repeats) (record { verdict = ap (λ ms. (every asked_of ms).accepts u) (no_members v none); nothing = ap (first_of (first_found u)) (no_members v none) }))
-          (other_lacks_none (required_text k.required) v (required_place k.required) Q none))
-
-      pub other_finds_nothing : of_keyword.all ≡ []
-      other_finds_nothing = λ i.
-          (ap (λ o. o.all) (sym (in_turn u no_repeats)) ∙ ap (λ ms. flat_map (all_found u) ms ++ told (filter_once (not_expected u) ms)) (no_members v none)) i
-          ++ other_lacks_nothing (required_text k.required) v (required_place k.required) Q none i
+      pub other_unasked : of_keyword ≡ unasked
+      other_unasked = sym same_keyword
+          ∙ (λ i. after ((sym (in_turn u no_repeats) ∙ ap (of_left u []) (no_members v none)) i) (other_lacks_nothing (required_text k.required) v (required_place k.required) Q none i))

@@ -1,5 +1,5 @@
 -- What asking the nodes of a dependency comes to, over what a walk has left at its start.
-use Rattle.std.proofs.Common.{◌≡◌, Bool, List, [], ◌∷◌, refl, sym, subst, Ok}
+use Rattle.std.proofs.Common.{◌≡◌, Bool, List, [], ◌∷◌, ap, Ok}
 use Rattle.serde_json.specs.Data.{Data, Members, object}
 use Rattle.olk_spec.specs.Names.{Name, Path}
 use Rattle.olk_spec.specs.Faults.{Fault}
@@ -44,4 +44,4 @@ module _ {N : Type 0} (m : N → Data → Question) (s r : N → Bool → Data �
 
   -- where nothing is asked
   pub past_none : {T : Type 0} {y : T} {ns : List N} {sink : ErrorSink} {a b : Asking} → OnlyAsks a b → ns ≡ [] → Walks (Ok y) sink sink a b (of_branches m s r u ns v Q)
-  past_none {y = y} {sink = sink} {a} {b} only none = subst (λ l. Walks (Ok y) sink sink a b (of_branches m s r u l v Q)) (sym none) (walks_past only (record { verdict = refl; nothing = refl }) refl)
+  past_none only none = walks_past only (ap (λ l. of_branches m s r u l v Q) none)

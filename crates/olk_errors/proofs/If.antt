@@ -17,14 +17,14 @@ module _ (o : Outcome) where
 
   module _ {T : Type 0} {y : T} {sink : ErrorSink} {s t : Asking} (only : OnlyAsks s t) {b : Bool} where
     pub past_then : b ≡ false → Walks (Ok y) sink sink s t (if_so b)
-    past_then e = walks_past only (record { verdict = ap (λ x. cond x o.accepts true) e; nothing = ap (λ x. cond x o.first []) e }) (ap (λ x. cond x o.all []) e)
+    past_then e = walks_past only (ap if_so e)
 
     pub past_else : b ≡ true → Walks (Ok y) sink sink s t (if_not_so b)
-    past_else e = walks_past only (record { verdict = ap (λ x. cond x true o.accepts) e; nothing = ap (λ x. cond x [] o.first) e }) (ap (λ x. cond x [] o.all) e)
+    past_else e = walks_past only (ap if_not_so e)
 
   module _ {T : Type 0} {r : Result T Stop} {old new : ErrorSink} {s t : Asking} {b : Bool} where
     pub walks_then : b ≡ true → Walks r old new s t o → Walks r old new s t (if_so b)
-    walks_then e = walks_same (λ i. record { accepts = cond (sym e i) o.accepts true; first = cond (sym e i) o.first []; all = cond (sym e i) o.all [] })
+    walks_then e = walks_same (ap if_so (sym e))
 
     pub walks_else : b ≡ false → Walks r old new s t o → Walks r old new s t (if_not_so b)
-    walks_else e = walks_same (λ i. record { accepts = cond (sym e i) true o.accepts; first = cond (sym e i) [] o.first; all = cond (sym e i) [] o.all })
+    walks_else e = walks_same (ap if_not_so (sym e))

@@ -24,9 +24,9 @@ abbrev pub Turns : {T : Type 0} → Result T Stop → Type 0 → Type 0 → Type
 Turns (Ok y) On Left = On
 Turns (Err t) On Left = Left
 
-pub turns_as : {T : Type 0} (r : Result T Stop) (On Then Left Gone : Type 0) → (On → Then) → (Left → Gone) → Turns r On Left → Turns r Then Gone
-turns_as (Ok y) On Then Left Gone k l h = k h
-turns_as (Err t) On Then Left Gone k l h = l h
+pub turns_as : {T : Type 0} (r : Result T Stop) {On Then Left Gone : Type 0} → (On → Then) → (Left → Gone) → Turns r On Left → Turns r Then Gone
+turns_as (Ok y) k l h = k h
+turns_as (Err t) k l h = l h
 
 -- ---- outcomes
 
@@ -92,7 +92,7 @@ module _ {X : Type 0} {q : X → Question} {s f : Bool → X → List Fault} {al
   module _ {rest : List X} {old new : ErrorSink} {b : Asking} (loop : Walking q s f all rest old new a b) where
     pub several_turn : (xs more : List X) → rest ≡ xs ++ more → {newer : ErrorSink} {c : Asking} {T : Type 0} {r : Result T Stop} → Walks r new newer b c (of_each b.answer q (s b.answer) (f b.answer) xs)
         → Turns r (Walking q s f all more old newer a c) (Walks r old newer a c (of_each a.answer q (s a.answer) (f a.answer) all))
-    several_turn xs more next {newer} {r = r} h = turns_as r _ _ _ _ (λ so. record { so_far = so; only = only_then loop.only h.only }) (λ ends. record { ends = ends; only = only_then loop.only h.only })
+    several_turn xs more next {newer} {r = r} h = turns_as r (λ so. record { so_far = so; only = only_then loop.only h.only }) (λ ends. record { ends = ends; only = only_then loop.only h.only })
         (walked_turn loop.so_far xs more next (subst (λ u. Ends r new newer (of_each u q (s u) (f u) xs)) loop.only.answer h.ends))
 
     pub walking_turn : {x : X} {more : List X} {newer : ErrorSink} {c : Asking} {T : Type 0} {r : Result T Stop} → rest ≡ x ∷ more → Walks r new newer b c (of_one q b.answer (s b.answer) (f b.answer) x)

@@ -12,11 +12,15 @@ use Rattle.olk_tree.specs.Maps.{texts_of}
 use Rattle.olk_tree.specs.Firsts.{or_else, first_of, head_of}
 use Rattle.olk_tree.specs.Questions.{Question, always, every}
 use Rattle.olk_errors.specs.Outcomes.{of_each, of_names}
-use Rattle.olk_errors.specs.Found.{Passes}
+use Rattle.olk_errors.specs.Found.{Outcome}
 use Rattle.olk_errors.specs.Sinks.{Ends}
 use Rattle.olk_errors.specs.declared.sink.ErrorSink.{ErrorSink}
-use Rattle.olk_errors.proofs.Sinks.{ends_past}
+use Rattle.olk_errors.proofs.Sinks.{unasked, ends_past}
 use Rattle.olk_errors.proofs.Own.{IsOwn, is_own, like_at}
+
+-- where these names are missing
+abbrev wanting : Data → Path → Path → List Name → Outcome
+wanting v P Q ns = record { accepts = is_empty ns; first = head_of (map (λ n. fault (Required n) v Q P) ns); all = map (λ n. fault (Required n) v Q P) ns }
 
 module _ (v : Data) where
   -- whether the one name is there
@@ -69,16 +73,11 @@ module _ (ms : Members) (v : Data) (is : v ≡ object ms) (n : Name) {found : Bo
 
   module _ (P Q : Path) where
     pub there_past : {T : Type 0} {y : T} {sink : ErrorSink} → found ≡ true → Ends (Ok y) sink sink (of_names (n ∷ []) v P Q)
-    there_past t = ends_past (record { verdict = ap is_empty (there t); nothing = ap (λ ns. head_of (map (λ m. fault (Required m) v Q P) ns)) (there t) })
-        (ap (map (λ m. fault (Required m) v Q P)) (there t))
+    there_past t = ends_past (ap (wanting v P Q) (there t))
 
     pub lacked_own : found ≡ false → {k : Kind} → k ≡ Required n → IsOwn (fault k v Q P) (of_names (n ∷ []) v P Q)
     lacked_own f {k} kind =
-        subst (λ ns. IsOwn (fault k v Q P) (record {
-          accepts = is_empty ns;
-          first = head_of (map (λ m. fault (Required m) v Q P) ns);
-          all = map (λ m. fault (Required m) v Q P) ns;
-        })) (sym (not_there f))
+        subst (λ ns. IsOwn (fault k v Q P) (wanting v P Q ns)) (sym (not_there f))
         (is_own (Required n) v P Q {case = true} refl refl refl (like_at kind itself refl refl))
 
 module _ (v : Data) (P Q : Path) (names : List (String Global)) where
@@ -101,9 +100,5 @@ module _ (v : Data) (P Q : Path) (name : String Global) where
 
 -- ---- of what is no object
 
-module _ (ns : List Name) (v : Data) (P Q : Path) (none : None ≡ as_object v) where
-  pub other_lacks_none : Passes (of_names ns v P Q)
-  other_lacks_none = record { verdict = ap is_empty (nothing_missing ns v none); nothing = ap (λ ms. head_of (map (λ n. fault (Required n) v Q P) ms)) (nothing_missing ns v none) }
-
-  pub other_lacks_nothing : (of_names ns v P Q).all ≡ []
-  other_lacks_nothing = ap (map (λ n. fault (Required n) v Q P)) (nothing_missing ns v none)
+pub other_lacks_nothing : (ns : List Name) (v : Data) (P Q : Path) → None ≡ as_object v → of_names ns v P Q ≡ unasked
+other_lacks_nothing ns v P Q none = ap (wanting v P Q) (nothing_missing ns v none)

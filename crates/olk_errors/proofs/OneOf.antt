@@ -9,8 +9,9 @@ use Rattle.olk_reports.specs.declared.error.ValidationErrorKind.{ValidationError
 use Rattle.olk_reports.specs.declared.error.ValidationErrorKind as the
 use Rattle.olk_reports.proofs.Errors.{Contexts, context_faults, kind_of_one_of_not_valid, kind_of_one_of_multiple_valid}
 use Rattle.olk_tree.proofs.OneOf.{none_accepts, one_accepts, several_accept, several_is_not_one}
-use Rattle.olk_errors.specs.Found.{AreLike, Outcome, Passes}
+use Rattle.olk_errors.specs.Found.{AreLike, Outcome}
 use Rattle.olk_errors.specs.Outcomes.{own, of_one_of, IsKindOfOneOf}
+use Rattle.olk_errors.proofs.Sinks.{unasked}
 use Rattle.olk_errors.proofs.Own.{IsOwn, is_own, like_at, kind_like, not_valid_like, multiple_like}
 
 -- an outcome that is one fault, of a kind that is kept whole
@@ -42,15 +43,9 @@ module _ (n : ℕ) (fss : List (List Fault)) (v : Data) (P Q : Path) where
       let h = one_fault k (subst (IsKindOfOneOf n fss) is told) in
       subst (λ w. IsOwn (fault (kind_of k) v Q O) w) (sym h.is) (is_own h.kind v P Q {accepts = false} {case = true} refl refl h.uncut (like_at refl h.alike refl place))
 
-  module _ {o : Option ValidationErrorKind} (is : o ≡ None) (told : IsKindOfOneOf n fss o) where
-    just_one : n ≡ 1
-    just_one = subst (IsKindOfOneOf n fss) is told
-
-    pub one_of_passes : Passes (of_one_of n (context fss) v P Q)
-    one_of_passes = record { verdict = ap (λ m. m == 1) just_one; nothing = one_accepts n (context fss) v P Q just_one }
-
-    pub one_of_nothing : (of_one_of n (context fss) v P Q).all ≡ []
-    one_of_nothing = one_accepts n (context fss) v P Q just_one
+  pub one_of_nothing : {o : Option ValidationErrorKind} → o ≡ None → IsKindOfOneOf n fss o → of_one_of n (context fss) v P Q ≡ unasked
+  one_of_nothing is told = let just_one = subst (IsKindOfOneOf n fss) is told in
+      λ i. record { accepts = just_one i == 1; first = one_accepts n (context fss) v P Q just_one i; all = one_accepts n (context fss) v P Q just_one i }
 
 -- the kinds of error with this context
 module _ (c : Contexts) (fss : List (List Fault)) (alike : AreLike (context_faults c) fss) where

@@ -12,10 +12,10 @@ use Rattle.olk_base.specs.declared.pattern.CompiledPattern.{CompiledPattern}
 use Rattle.olk_tree.specs.Questions.{Question, always, conditional, every}
 use Rattle.olk_tree.specs.Matched.{is_match, match_question}
 use Rattle.olk_tree.specs.PatternProperties.{inside_out}
-use Rattle.olk_tree.proofs.Patterns.{each_of_those, first_of_those, matched_nothing, patterns_nothing, matched_first_nothing, patterns_first_nothing}
+use Rattle.olk_tree.proofs.Patterns.{each_of_those, first_of_those, matched_nothing, patterns_nothing, matched_finds_nothing, patterns_find_nothing, matched_first_nothing, patterns_first_nothing}
 use Rattle.olk_errors.specs.Found.{Outcome, Passes, IsErrorOf}
 use Rattle.olk_errors.specs.Outcomes.{of_each, of_node, of_match, of_matched, of_matching, of_patterns}
-use Rattle.olk_errors.proofs.Sinks.{contains_none}
+use Rattle.olk_errors.proofs.Sinks.{unasked, contains_none}
 
 -- ---- each item of one list with each of another
 
@@ -48,11 +48,8 @@ module _ {R N : Type 0} (answers : R → Name → Says) (costs : R → Bool) (m 
   -- ---- a pattern and a member
 
   module _ (p : CompiledPattern R) (n : N) (x : Name) (w : Data) where
-    pub unmatched_passes : false ≡ is_match answers u p x → Passes (of_match answers costs m s r u p n x w Q)
-    unmatched_passes unmatched = record { verdict = λ i. cond (sym unmatched i) ((m n w).accepts u) true; nothing = λ i. cond (sym unmatched i) (s n u w (Q // x)) [] }
-
-    pub unmatched_nothing : false ≡ is_match answers u p x → (of_match answers costs m s r u p n x w Q).all ≡ []
-    unmatched_nothing unmatched = λ i. cond (sym unmatched i) (r n u w (Q // x)) []
+    pub unmatched : false ≡ is_match answers u p x → of_match answers costs m s r u p n x w Q ≡ unasked
+    unmatched no = λ i. record { accepts = cond (sym no i) ((m n w).accepts u) true; first = cond (sym no i) (s n u w (Q // x)) []; all = cond (sym no i) (r n u w (Q // x)) [] }
 
     -- where it matches, the node is asked, with the same answer
     pub matched_as_node : {t : Bool} → t ≡ u → true ≡ is_match answers u p x → of_node m s r t n w (Q // x) ≡ of_match answers costs m s r u p n x w Q
@@ -111,8 +108,16 @@ module _ {R N : Type 0} (answers : R → Name → Says) (costs : R → Bool) (m 
   -- ---- of what is no object
 
   module _ (v : Data) (none : None ≡ as_object v) where
-    pub other_matched_passes : (p : CompiledPattern R) (n : N) → Passes (of_matched answers costs m s r u p n v Q)
-    other_matched_passes p n = record { verdict = ap (λ q. q.accepts u) (matched_nothing answers v none costs m p n); nothing = matched_first_nothing answers v none s u Q p n }
+    pub other_matched : (p : CompiledPattern R) (n : N) → of_matched answers costs m s r u p n v Q ≡ unasked
+    other_matched p n = λ i. record {
+      accepts = (matched_nothing answers v none costs m p n i).accepts u;
+      first = matched_first_nothing answers v none s u Q p n i;
+      all = matched_finds_nothing answers v none r u Q p n i;
+    }
 
-    pub other_patterns_pass : (es : List (CompiledPattern R × N)) → Passes (of_patterns answers costs m s r u es v Q)
-    other_patterns_pass es = record { verdict = ap (λ q. q.accepts u) (patterns_nothing answers v none costs m es); nothing = patterns_first_nothing answers v none s u Q es }
+    pub other_patterns : (es : List (CompiledPattern R × N)) → of_patterns answers costs m s r u es v Q ≡ unasked
+    other_patterns es = λ i. record {
+      accepts = (patterns_nothing answers v none costs m es i).accepts u;
+      first = patterns_first_nothing answers v none s u Q es i;
+      all = patterns_find_nothing answers v none r u Q es i;
+    }

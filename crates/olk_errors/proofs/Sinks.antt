@@ -54,105 +54,88 @@ error_after {o} {p} {f} passes e = record {
   of_all = record { whole = e.of_all.whole; among = Contains-append_right o.all p.all e.of_all.whole e.of_all.among; like = e.of_all.like };
 }
 
--- ---- by lists
+-- ---- where a walk went on
 
-took_nothing : (b : Bool) (l : List ValidationError) → Took b l l unasked
-took_nothing false l = appends_nothing l
-took_nothing true l = (record { verdict = refl; nothing = refl }, refl)
+-- what was taken, and what was kept, by whether one error is wanted
+abbrev Taking : ErrorSink → ErrorSink → Outcome → Bool → Type 0
+Taking old new o b = Took b (held old) (held new) o
 
-took_after : (b : Bool) (old mid new : List ValidationError) (o p : Outcome) → Took b old mid o → Took b mid new p → Took b old new (after o p)
-took_after false old mid new o p h k = appends_more h k
-took_after true old mid new o p h k = (pass_both h.0 k.0, k.1 ∙ h.1)
-
-took_passing : (b : Bool) (l : List ValidationError) (o : Outcome) → Passes o → o.all ≡ [] → Took b l l o
-took_passing false l o passes none = subst (Appends l l) (sym none) (appends_nothing l)
-took_passing true l o passes none = (passes, refl)
-
-took_kept : (b : Bool) (old new : List ValidationError) (o : Outcome) → Took b old new o → Kept b old new
-took_kept false old new o h = record { added = h.added; is = h.is }
-took_kept true old new o h = h.1
-
-took_passed : (b : Bool) (old new : List ValidationError) (o : Outcome) → b ≡ true → Took b old new o → Passes o
-took_passed true old new o e h = h.0
-took_passed false old new o e h = absurd (true≢false (sym e))
-
-took_all : (b : Bool) (old new : List ValidationError) (o : Outcome) → b ≡ false → Took b old new o → Appends old new o.all
-took_all false old new o e h = h
-took_all true old new o e h = absurd (true≢false e)
-
-from_all : (b : Bool) (old new : List ValidationError) (o : Outcome) → b ≡ false → Appends old new o.all → Took b old new o
-from_all false old new o e h = h
-from_all true old new o e h = absurd (true≢false e)
-
-took_either : (b : Bool) (old new : List ValidationError) (o p : Outcome) → (b ≡ true → Passes o → Passes p) → o.all ≡ p.all → Took b old new o → Took b old new p
-took_either false old new o p one all h = subst (Appends old new) all h
-took_either true old new o p one all h = (one refl h.0, h.1)
-
-took_first : (b : Bool) (old new : List ValidationError) (o p : Outcome) → b ≡ true → (Passes o → Passes p) → Took b old new o → Took b old new p
-took_first true old new o p e k h = (k h.0, h.1)
-took_first false old new o p e k h = absurd (true≢false (sym e))
-
-took_own : (b : Bool) (old new : List ValidationError) (o : Outcome) (f : Fault) → (Appends old new (f ∷ []) → Appends old new o.all) → Took b old new (one_error f) → Took b old new o
-took_own false old new o f k h = k h
-took_own true old new o f k h = absurd (true≢false (sym h.0.verdict))
-
-kept_same : (b : Bool) (l : List ValidationError) → Kept b l l
-kept_same false l = record { added = []; is = sym (append-nil l) }
-kept_same true l = refl
-
-kept_more : (b : Bool) (old mid new : List ValidationError) → Kept b old mid → Kept b mid new → Kept b old new
-kept_more false old mid new h k = record { added = h.added ++ k.added; is = k.is ∙ ap (λ l. l ++ k.added) h.is ∙ append_assoc old h.added k.added }
-kept_more true old mid new h k = k ∙ h
-
--- ---- of sinks
+abbrev Keeping : ErrorSink → ErrorSink → Bool → Type 0
+Keeping old new b = Kept b (held old) (held new)
 
 pub goes_nowhere : (s : ErrorSink) → GoesOn s s unasked
-goes_nowhere s = record { same = refl; took = took_nothing (wants_one s) (held s) }
+goes_nowhere s = record {
+  same = refl;
+  took = elim (wants_one s) as (Taking s s unasked) [ false ↦ appends_nothing (held s) | true ↦ (record { verdict = refl; nothing = refl }, refl) ];
+}
 
--- of what passes
-pub goes_past : (s : ErrorSink) {o : Outcome} → Passes o → o.all ≡ [] → GoesOn s s o
-goes_past s {o} passes none = record { same = refl; took = took_passing (wants_one s) (held s) o passes none }
-
-pub keeps_same : (s : ErrorSink) → Keeps s s
-keeps_same s = record { same = refl; kept = kept_same (wants_one s) (held s) }
+-- what comes to nothing
+pub goes_past : (s : ErrorSink) {o : Outcome} → o ≡ unasked → GoesOn s s o
+goes_past s nothing = subst (GoesOn s s) (sym nothing) (goes_nowhere s)
 
 module _ {old mid new : ErrorSink} where
   pub goes_after : {o p : Outcome} → GoesOn old mid o → GoesOn mid new p → GoesOn old new (after o p)
-  goes_after {o} {p} h k = record { same = k.same ∙ h.same; took = took_after (wants_one old) (held old) (held mid) (held new) o p h.took (subst (λ b. Took b (held mid) (held new) p) h.same k.took) }
+  goes_after {o} {p} h k = record {
+    same = k.same ∙ h.same;
+    took = (elim (wants_one old) as (λ b. Taking old mid o b → Taking mid new p b → Taking old new (after o p) b) [
+      | false ↦ λ a b. appends_more a b
+      | true ↦ λ a b. (pass_both a.0 b.0, b.1 ∙ a.1)
+    ]) h.took (subst (Taking mid new p) h.same k.took);
+  }
 
   pub keeps_more : Keeps old mid → Keeps mid new → Keeps old new
-  keeps_more h k = record { same = k.same ∙ h.same; kept = kept_more (wants_one old) (held old) (held mid) (held new) h.kept (subst (λ b. Kept b (held mid) (held new)) h.same k.kept) }
+  keeps_more h k = record {
+    same = k.same ∙ h.same;
+    kept = (elim (wants_one old) as (λ b. Keeping old mid b → Keeping mid new b → Keeping old new b) [
+      | false ↦ λ a b. record { added = a.added ++ b.added; is = b.is ∙ ap (λ l. l ++ b.added) a.is ∙ append_assoc (held old) a.added b.added }
+      | true ↦ λ a b. b ∙ a
+    ]) h.kept (subst (Keeping mid new) h.same k.kept);
+  }
 
-module _ {old new : ErrorSink} where
-  pub goes_keeping : {o : Outcome} → GoesOn old new o → Keeps old new
-  goes_keeping {o} h = record { same = h.same; kept = took_kept (wants_one old) (held old) (held new) o h.took }
+module _ {old new : ErrorSink} {o : Outcome} where
+  pub goes_keeping : GoesOn old new o → Keeps old new
+  goes_keeping h = record {
+    same = h.same;
+    kept = (elim (wants_one old) as (λ b. Taking old new o b → Keeping old new b) [ false ↦ λ k. record { added = k.added; is = k.is } | true ↦ λ k. k.1 ]) h.took;
+  }
 
-  pub goes_same : {o p : Outcome} → o ≡ p → GoesOn old new o → GoesOn old new p
-  goes_same e h = subst (GoesOn old new) e h
+  pub goes_same : {p : Outcome} → o ≡ p → GoesOn old new o → GoesOn old new p
+  goes_same = subst (GoesOn old new)
 
   -- one error is wanted, and there is none
-  pub goes_passing : {o : Outcome} → wants_one old ≡ true → GoesOn old new o → Passes o
-  goes_passing {o} one h = took_passed (wants_one old) (held old) (held new) o one h.took
+  pub goes_passing : wants_one old ≡ true → GoesOn old new o → Passes o
+  goes_passing one h = (subst (Taking old new o) one h.took).0
 
   -- all are wanted
-  pub goes_appending : {o : Outcome} → wants_one old ≡ false → GoesOn old new o → Appends (held old) (held new) o.all
-  goes_appending {o} all h = took_all (wants_one old) (held old) (held new) o all h.took
+  pub goes_appending : wants_one old ≡ false → GoesOn old new o → Appends (held old) (held new) o.all
+  goes_appending all h = subst (Taking old new o) all h.took
 
-  -- where one is wanted, that it passes is what matters, and where all are, what these are
-  pub goes_either : {o : Outcome} (p : Outcome) → (wants_one old ≡ true → Passes o → Passes p) → o.all ≡ p.all → GoesOn old new o → GoesOn old new p
-  goes_either {o} p one all h = record { same = h.same; took = took_either (wants_one old) (held old) (held new) o p one all h.took }
+  -- where one is wanted, that it passes is what matters, and where all are, what was appended
+  pub goes_by : (p : Outcome) → (wants_one old ≡ true → Passes o → Passes p) → (wants_one old ≡ false → Appends (held old) (held new) o.all → Appends (held old) (held new) p.all)
+      → GoesOn old new o → GoesOn old new p
+  goes_by p one all h = record { same = h.same; took = took (wants_one old) refl h.took }
+    where
+      took : (b : Bool) → wants_one old ≡ b → Taking old new o b → Taking old new p b
+      took false is k = all is k
+      took true is k = (one is k.0, k.1)
 
-  pub goes_all : {o : Outcome} (p : Outcome) → wants_one old ≡ false → o.all ≡ p.all → GoesOn old new o → GoesOn old new p
-  goes_all p all e = goes_either p (λ one. absurd (true≢false (sym one ∙ all))) e
+  pub goes_either : (p : Outcome) → (wants_one old ≡ true → Passes o → Passes p) → o.all ≡ p.all → GoesOn old new o → GoesOn old new p
+  goes_either p one all = goes_by p one (λ w. subst (Appends (held old) (held new)) all)
 
-  pub goes_first : {o : Outcome} (p : Outcome) → wants_one old ≡ true → (Passes o → Passes p) → GoesOn old new o → GoesOn old new p
-  goes_first {o} p one k h = record { same = h.same; took = took_first (wants_one old) (held old) (held new) o p one k h.took }
+  pub goes_all : (p : Outcome) → wants_one old ≡ false → o.all ≡ p.all → GoesOn old new o → GoesOn old new p
+  goes_all p all = goes_either p (λ one. absurd (cc))
 
-  -- one error of its own
-  pub goes_own : (o : Outcome) {f : Fault} → (Appends (held old) (held new) (f ∷ []) → Appends (held old) (held new) o.all) → GoesOn old new (one_error f) → GoesOn old new o
-  goes_own o {f} k h = record { same = h.same; took = took_own (wants_one old) (held old) (held new) o f k h.took }
+  pub goes_first : (p : Outcome) → wants_one old ≡ true → (Passes o → Passes p) → GoesOn old new o → GoesOn old new p
+  goes_first p one k = goes_by p (λ w. k) (λ all. absurd (cc))
+
+-- one error of its own
+pub goes_own : {old new : ErrorSink} (o : Outcome) {f : Fault} → (Appends (held old) (held new) (f ∷ []) → Appends (held old) (held new) o.all) → GoesOn old new (one_error f) → GoesOn old new o
+goes_own o k = goes_by o (λ one h. absurd (true≢false (sym h.verdict))) (λ all. k)
 
 -- ---- stopped
+
+pub keeps_same : (s : ErrorSink) → Keeps s s
+keeps_same s = goes_keeping (goes_nowhere s)
 
 module _ {old new : ErrorSink} {So Then : Fault → Type 0} where
   -- what is so of the error is so of one that is wanted
@@ -160,18 +143,20 @@ module _ {old new : ErrorSink} {So Then : Fault → Type 0} where
   stopped_where k (inl h) = inl (record { one = h.one; same = h.same; error = h.error; is = h.is; found = k h.one (fault_of h.error) h.found })
   stopped_where k (inr h) = inr h
 
-pub stopped_same : {old new : ErrorSink} {o p : Outcome} → o ≡ p → Stopped old new (IsErrorOf o) → Stopped old new (IsErrorOf p)
-stopped_same e = stopped_where (λ w f is. subst (λ o. IsErrorOf o f) e is)
+  -- where all are wanted, no error stops the walk
+  pub stopped_all : wants_one old ≡ false → Stopped old new So → Stopped old new Then
+  stopped_all all = stopped_where (λ one. absurd (cc))
 
--- where all are wanted, no error stops the walk
-pub stopped_all : {old new : ErrorSink} {So Then : Fault → Type 0} → wants_one old ≡ false → Stopped old new So → Stopped old new Then
-stopped_all all = stopped_where (λ one f x. absurd (true≢false (sym one ∙ all)))
+module _ {old new : ErrorSink} {o : Outcome} where
+  pub stopped_same : {p : Outcome} → o ≡ p → Stopped old new (IsErrorOf o) → Stopped old new (IsErrorOf p)
+  stopped_same = subst (λ q. Stopped old new (IsErrorOf q))
 
-pub stopped_before : {old new : ErrorSink} {o : Outcome} (p : Outcome) → Stopped old new (IsErrorOf o) → Stopped old new (IsErrorOf (after o p))
-stopped_before p = stopped_where (λ w f e. error_before p e)
+  pub stopped_before : (p : Outcome) → Stopped old new (IsErrorOf o) → Stopped old new (IsErrorOf (after o p))
+  stopped_before p = stopped_where (λ w f. error_before p)
 
 pub stopped_after : {old mid new : ErrorSink} {o p : Outcome} → GoesOn old mid o → Stopped mid new (IsErrorOf p) → Stopped old new (IsErrorOf (after o p))
-stopped_after h (inl k) = inl (record { one = sym h.same ∙ k.one; same = k.same ∙ h.same; error = k.error; is = k.is; found = error_after (goes_passing (sym h.same ∙ k.one) h) k.found })
+stopped_after h (inl k) = let one = sym h.same ∙ k.one in
+    inl (record { one = one; same = k.same ∙ h.same; error = k.error; is = k.is; found = error_after (goes_passing one h) k.found })
 stopped_after h (inr k) = inr (keeps_more (goes_keeping h) k)
 
 -- ---- by results
@@ -179,74 +164,68 @@ stopped_after h (inr k) = inr (keeps_more (goes_keeping h) k)
 module _ {T : Type 0} {r : Result T Stop} where
   -- what the sink has where the walk went on, and where it was stopped
   pub ends_through : {a b c d : ErrorSink} {o p : Outcome} {So Then : Fault → Type 0} → (GoesOn a b o → GoesOn c d p) → (Stopped a b So → Stopped c d Then) → EndsBy r a b o So → EndsBy r c d p Then
-  ends_through {a} {b} {c} {d} {o} {p} {So} {Then} goes stops h = record { so = ended r h.so }
-    where
-      ended : (r : Result T Stop) → Ended r a b o So → Ended r c d p Then
-      ended (Ok x) k = goes k
-      ended (Err s) k = stops k
+  ends_through {a} {b} {c} {d} {o} {p} {So} {Then} goes stops h = record { so = (elim r as (λ q. Ended q a b o So → Ended q c d p Then) [ Ok x ↦ goes | Err s ↦ stops ]) h.so }
 
   -- it was stopped, and its result is that
   pub ends_left : {old new : ErrorSink} {o : Outcome} {So : Fault → Type 0} → IsErr r → Stopped old new So → EndsBy r old new o So
-  ends_left {old} {new} {o} {So} h k = record { so = ended r h }
-    where
-      ended : (r : Result T Stop) → IsErr r → Ended r old new o So
-      ended (Ok x) h = absurd (true≢false (sym h))
-      ended (Err s) h = k
+  ends_left {old} {new} {o} {So} h k = record { so = (elim r as (λ q. IsErr q → Ended q old new o So) [ Ok x ↦ λ e. absurd (true≢false (sym e)) | Err s ↦ λ e. k ]) h }
 
   -- there was no memory, and nothing was taken
   pub ends_nowhere : {s : ErrorSink} {o : Outcome} {So : Fault → Type 0} → IsErr r → EndsBy r s s o So
-  ends_nowhere {s = s} e = ends_left e (inr (keeps_same s))
+  ends_nowhere {s} e = ends_left e (inr (keeps_same s))
 
-  module _ {old new : ErrorSink} where
-    pub ends_same : {o p : Outcome} → o ≡ p → Ends r old new o → Ends r old new p
+  module _ {old new : ErrorSink} {o : Outcome} where
+    pub ends_same : {p : Outcome} → o ≡ p → Ends r old new o → Ends r old new p
     ends_same = subst (Ends r old new)
 
     -- where all are wanted, what all are is what matters
-    pub ends_all : {o : Outcome} (p : Outcome) → wants_one old ≡ false → o.all ≡ p.all → Ends r old new o → Ends r old new p
+    pub ends_all : (p : Outcome) → wants_one old ≡ false → o.all ≡ p.all → Ends r old new o → Ends r old new p
     ends_all p all e = ends_through (goes_all p all e) (stopped_all all)
 
     -- where one is wanted, whether it passes and what the error is matter
-    pub ends_first : {o : Outcome} (p : Outcome) → wants_one old ≡ true → (Passes o → Passes p) → ((f : Fault) → IsErrorOf o f → IsErrorOf p f) → Ends r old new o → Ends r old new p
+    pub ends_first : (p : Outcome) → wants_one old ≡ true → (Passes o → Passes p) → ((f : Fault) → IsErrorOf o f → IsErrorOf p f) → Ends r old new o → Ends r old new p
     ends_first p one passes errs = ends_through (goes_first p one passes) (stopped_where (λ w. errs))
 
+  module _ {old new : ErrorSink} {f : Fault} where
     -- a fault alone
-    pub ends_one : {f : Fault} (o : Outcome) → (Appends (held old) (held new) (f ∷ []) → Appends (held old) (held new) o.all) → (wants_one old ≡ true → IsErrorOf o f) → Takes r old new f → Ends r old new o
+    pub ends_one : (o : Outcome) → (Appends (held old) (held new) (f ∷ []) → Appends (held old) (held new) o.all) → (wants_one old ≡ true → IsErrorOf o f) → Takes r old new f → Ends r old new o
     ends_one o k err = ends_through (goes_own o k) (stopped_where (λ w g is. subst (IsErrorOf o) (sym is) (err w)))
 
     -- an error of it, where one is wanted
-    pub ends_wanted : {o : Outcome} {f : Fault} → wants_one old ≡ true → IsErrorOf o f → Takes r old new f → Ends r old new o
+    pub ends_wanted : {o : Outcome} → wants_one old ≡ true → IsErrorOf o f → Takes r old new f → Ends r old new o
     ends_wanted {o} one err = ends_through (λ h. absurd (true≢false (sym (goes_passing one h).verdict))) (stopped_where (λ w g is. subst (IsErrorOf o) (sym is) err))
 
 -- ---- of walks
 
-pub ends_past : {T : Type 0} {x : T} {s : ErrorSink} {o : Outcome} → Passes o → o.all ≡ [] → Ends (Ok x) s s o
-ends_past {s = s} passes none = record { so = goes_past s passes none }
+module _ {T : Type 0} {x : T} {s : ErrorSink} {o : Outcome} where
+  pub ends_past : o ≡ unasked → Ends (Ok x) s s o
+  ends_past nothing = record { so = goes_past s nothing }
 
--- nothing is asked
-pub walks_past : {T : Type 0} {x : T} {s : ErrorSink} {a b : Asking} {o : Outcome} → OnlyAsks a b → Passes o → o.all ≡ [] → Walks (Ok x) s s a b o
-walks_past only passes none = record { ends = ends_past passes none; only = only }
+  pub walks_past : {a b : Asking} → OnlyAsks a b → o ≡ unasked → Walks (Ok x) s s a b o
+  walks_past only nothing = record { ends = ends_past nothing; only = only }
 
 module _ {T : Type 0} {r : Result T Stop} where
-  pub walks_same : {old new : ErrorSink} {a b : Asking} {o p : Outcome} → o ≡ p → Walks r old new a b o → Walks r old new a b p
-  walks_same {old} {new} {a} {b} e h = subst (Walks r old new a b) e h
+  module _ {old new : ErrorSink} {a b : Asking} {o : Outcome} where
+    pub walks_same : {p : Outcome} → o ≡ p → Walks r old new a b o → Walks r old new a b p
+    walks_same = subst (Walks r old new a b)
 
-  pub walks_by : {old new : ErrorSink} {a b : Asking} {o p : Outcome} → (Ends r old new o → Ends r old new p) → Walks r old new a b o → Walks r old new a b p
-  walks_by k h = record { ends = k h.ends; only = h.only }
+    pub walks_by : {p : Outcome} → (Ends r old new o → Ends r old new p) → Walks r old new a b o → Walks r old new a b p
+    walks_by k h = record { ends = k h.ends; only = h.only }
 
-  -- a walk that asks the context nothing
-  pub walks_alone : {old new : ErrorSink} {a b : Asking} {o : Outcome} → OnlyAsks a b → Ends r old new o → Walks r old new a b o
-  walks_alone only h = record { ends = h; only = only }
+    -- a walk that asks the context nothing
+    pub walks_alone : OnlyAsks a b → Ends r old new o → Walks r old new a b o
+    walks_alone only h = record { ends = h; only = only }
+
+    -- one that leaves by a `?`
+    pub walks_left : {S : Type 0} {s : Stop} → IsErr r → Walks {T = S} (Err s) old new a b o → Walks r old new a b o
+    walks_left e h = record { ends = ends_left e h.ends.so; only = h.only }
 
   -- one walk after another, or after a question
   pub walks_after : {old mid new : ErrorSink} {a b c : Asking} {o p : Outcome} → GoesOn old mid o → OnlyAsks a b → Walks r mid new b c p → Walks r old new a c (after o p)
   walks_after on only h = record { ends = ends_through (goes_after on) (stopped_after on) h.ends; only = only_then only h.only }
 
   pub walks_asked : {old new : ErrorSink} {a b c : Asking} (o : Bool → Outcome) → OnlyAsks a b → Walks r old new b c (o b.answer) → Walks r old new a c (o a.answer)
-  walks_asked {old} {new} {b = b} {c} o only h = let same = subst (λ u. Walks r old new b c (o u)) only.answer h in record { ends = same.ends; only = only_then only same.only }
-
-  -- one that leaves by a `?`
-  pub walks_left : {S : Type 0} {s : Stop} {old new : ErrorSink} {a b : Asking} {o : Outcome} → IsErr r → Walks {T = S} (Err s) old new a b o → Walks r old new a b o
-  walks_left e h = record { ends = ends_left e h.ends.so; only = h.only }
+  walks_asked {old} {new} o only h = record { ends = subst (λ u. Ends r old new (o u)) only.answer h.ends; only = only_then only h.only }
 
   -- there was no memory, and nothing was taken before
   pub walks_nowhere : {s : ErrorSink} {a b : Asking} {o : Outcome} → IsErr r → OnlyAsks a b → Walks r s s a b o
@@ -270,38 +249,23 @@ module _ {old : ErrorSink} (e : ValidationError) where
   takes_more {fs = fs} is more = record {
     so = record {
       same = sym (ap is_first is);
-      took = from_all (wants_one old) (held old) fs.items (one_error (fault_of e)) (ap is_first is) (appends_one e (more ∙ ap (λ l. l ++ e ∷ []) (sym (ap errors_in is))) refl);
+      took = subst (λ b. Took b (held old) fs.items (one_error (fault_of e))) (sym (ap is_first is)) (appends_one e (more ∙ ap (λ l. l ++ e ∷ []) (sym (ap errors_in is))) refl);
     };
   }
 
 -- ---- what a stop leaves in the sink
 
-kept_one : (b : Bool) (old new : List ValidationError) → b ≡ true → Kept b old new → new ≡ old
-kept_one true old new e h = h
-kept_one false old new e h = absurd (true≢false (sym e))
-
-kept_all : (b : Bool) (old new : List ValidationError) → b ≡ false → Kept b old new → IsLonger old new
-kept_all false old new e h = h
-kept_all true old new e h = absurd (true≢false e)
-
-longer_kept : (b : Bool) (old new : List ValidationError) → b ≡ false → new ≡ old → Kept b old new
-longer_kept false old new e same = record { added = []; is = same ∙ sym (append-nil old) }
-longer_kept true old new e same = absurd (true≢false e)
-
 only_error : {x y : ValidationError} → x ∷ [] ≡ y ∷ [] → x ≡ y
 only_error h = cc
 
-none_is_some : {X : Type 0} {x : X} → x ∷ [] ≡ [] → ⊥
-none_is_some h = cc
-
 module _ {old new : ErrorSink} {So : Fault → Type 0} where
   error_is : {e : ValidationError} → wants_one old ≡ true → held old ≡ [] → e ∷ [] ≡ held new → Stopped old new So → So (fault_of e)
-  error_is {e} one none is (inl h) = subst So (ap fault_of (sym (only_error (is ∙ h.is)))) h.found
-  error_is {e} one none is (inr h) = absurd (none_is_some (is ∙ kept_one (wants_one old) (held old) (held new) one h.kept ∙ none))
+  error_is one none is (inl h) = subst So (ap fault_of (sym (only_error (is ∙ h.is)))) h.found
+  error_is {e} one none is (inr h) = let nothing : e ∷ [] ≡ [] = is ∙ subst (Keeping old new) one h.kept ∙ none in absurd (cc)
 
   all_kept : wants_one old ≡ false → Stopped old new So → IsLonger (held old) (held new)
   all_kept all (inl h) = absurd (true≢false (sym h.one ∙ all))
-  all_kept all (inr h) = kept_all (wants_one old) (held old) (held new) all h.kept
+  all_kept all (inr h) = subst (Keeping old new) all h.kept
 
   wants_same : Stopped old new So → wants_one new ≡ wants_one old
   wants_same (inl h) = h.same
@@ -322,4 +286,7 @@ module _ {old new : ErrorSink} {So : Fault → Type 0} where
 pub takes_none : {T : Type 0} {r : Result T Stop} {old : ErrorSink} {o : Outcome} {So : Fault → Type 0} {es fs : Vec ValidationError Global} → IsErr r → old.held ≡ All es → fs.items ≡ es.items
     → EndsBy r old (record { alloc = old.alloc; held = All fs }) o So
 takes_none {old = old} {fs = fs} e is same =
-    ends_left e (inr (record { same = sym (ap is_first is); kept = longer_kept (wants_one old) (held old) fs.items (ap is_first is) (same ∙ ap errors_in (sym is)) }))
+    ends_left e (inr (record {
+      same = sym (ap is_first is);
+      kept = subst (λ b. Kept b (held old) fs.items) (sym (ap is_first is)) (record { added = []; is = same ∙ ap errors_in (sym is) ∙ sym (append-nil (held old)) });
+    }))

@@ -9,20 +9,14 @@ use Rattle.olk_errors.specs.declared.sink.ErrorSink.{ErrorSink}
 use Rattle.olk_errors.specs.declared.sink.Stop.{Stop}
 use Rattle.olk_reports.specs.declared.error.ValidationError.{ValidationError}
 use Rattle.olk_errors.proofs.Appending.{appends_like}
-use Rattle.olk_errors.proofs.Sinks.{goes_all, stopped_all}
+use Rattle.olk_errors.proofs.Sinks.{goes_by, goes_all, stopped_all}
 use Rattle.olk_errors.proofs.Loops.{Turns, Walked, walked_start, walked_turn, walked_end}
 
 -- ---- by what the sink wants
 
 -- where all are wanted, what all are up to order is what matters
 pub goes_alike : {old new : ErrorSink} {o : Outcome} (p : Outcome) → wants_one old ≡ false → o.all ∼ p.all → GoesOn old new o → GoesOn old new p
-goes_alike {old} {new} {o} p all alike h =
-    let whole : Outcome = record { accepts = p.accepts; first = p.first; all = o.all } in
-    record { same = h.same; took = took_alike (wants_one old) (held old) (held new) whole p all alike (goes_all whole all refl h).took }
-  where
-    took_alike : (b : Bool) (old new : List ValidationError) (o p : Outcome) → b ≡ false → o.all ∼ p.all → Took b old new o → Took b old new p
-    took_alike false old new o p e alike h = appends_like alike h
-    took_alike true old new o p e alike h = absurd (true≢false e)
+goes_alike p all alike = goes_by p (λ one. absurd (cc)) (λ w. appends_like alike)
 
 -- ---- each of a list
 

@@ -92,7 +92,7 @@ module _ {A : Type 0} (g : A → Name × Data) (name : A → Name) (same : (x : 
 
 module _ {R N : Type 0} (k : keyword.AdditionalProperties R N) (v : Data) (Q : Path) {T : Type 0} where
   pub none_unexpected : {y : T} {old : ErrorSink} {xs : List (Name × Data)} → xs ≡ [] → EndsAlone (Ok y) old old (of_unexpected k xs v Q)
-  none_unexpected {y} {old} none = subst (λ l. EndsAlone (Ok y) old old (of_unexpected k l v Q)) (sym none) (record { so = goes_past old (record { verdict = refl; nothing = refl }) refl })
+  none_unexpected {y} {old} none = record { so = goes_past old (ap (λ l. of_unexpected k l v Q) none) }
 
   -- where this is the fault of these members
   pub told : (xs : List (Name × Data)) {f g : Fault} {r : Result T Stop} {old new : ErrorSink} → unexpected_faults (has_neighbours k) xs v k.location Q ≡ g ∷ [] → f ≡ g → Takes r old new f

@@ -13,15 +13,10 @@ use Rattle.std.specs.Float.Ieee.{up, down, lt, eq, neg, is_nan, to_unsigned}
 use Rattle.olk_vocabulary.specs.Numbers.{of_whole, is_integral}
 
 same_lt : (a b c d : ℕ) → (a < b → c < d) → (c < d → a < b) → nat_lt a b ≡ nat_lt c d
-same_lt a b c d f g = go (nat_lt a b) refl
-  where
-    go : (t : Bool) → nat_lt a b ≡ t → t ≡ nat_lt c d
-    go true e = sym (lt-ltb c d (f (ltb-true a b e)))
-    go false e =
-        elim (cases_lt c d) [
-          | inl h ↦ absurd (omega (arith, g h, ltb-false a b e))
-          | inr h ↦ sym (le-ltb c d h)
-        ]
+same_lt a b c d f g = elim (cases_lt a b) [
+  | inl h ↦ lt-ltb a b h ∙ sym (lt-ltb c d (f h))
+  | inr h ↦ elim (cases_lt c d) [ inl k ↦ absurd (omega (arith, g k, h)) | inr k ↦ le-ltb a b h ∙ sym (le-ltb c d k) ]
+]
 
 pub same_eq : (a b c d : ℕ) → (a ≡ b → c ≡ d) → (c ≡ d → a ≡ b) → nat_eq a b ≡ nat_eq c d
 same_eq a b c d f g = go (nat_eq a b) refl
@@ -171,10 +166,7 @@ quotient_order a d t n p q r =
 -- the whole part of a double that is not negative, and below 2 ^ 64
 pub to_unsigned-whole : (m : ℕ) (e : ℤ) (t : ℕ) → lt (fin false m e) (two_to 64) ≡ true → t ≡ to_unsigned 64 (fin false m e) → t ≡ m * up e / down e
 unfolding lt to_unsigned
-to_unsigned-whole m e t h c =
-    let room : m * up e < 2 ^ 64 * down e = omega (arith, ltb-true _ _ h) in
-    let small : m * up e / down e < 2 ^ 64 = (div-lt_iff_lt-mul (down_pos e)).1 room in
-    omega (arith, c)
+to_unsigned-whole m e t h c = let small : m * up e / down e < 2 ^ 64 = (div-lt_iff_lt-mul (down_pos e)).1 (omega (arith, ltb-true _ _ h)) in omega (arith, c)
 
 zero_of_not-lt : (m : ℕ) (e : ℤ) → lt (fin true m e) float_zero ≡ false → m * up e ≡ 0
 unfolding lt

@@ -41,11 +41,9 @@ integral_small : (m : ℕ) (e : ℤ) (w : ℕ) → lt (fin false m e) (two_to 53
     → eq (of_int binary64 (pos w)) (fin false m e) ≡ is_integral (fin false m e)
 unfolding lt to_unsigned
 integral_small m e w h c =
-    let room : m * up e < 2 ^ 53 * down e = omega (arith, ltb-true _ _ h) in
-    let small : m * up e / down e < 2 ^ 53 = (div-lt_iff_lt-mul (down_pos e)).1 room in
+    let small : m * up e / down e < 2 ^ 53 = (div-lt_iff_lt-mul (down_pos e)).1 (omega (arith, ltb-true _ _ h)) in
     let whole : w ≡ m * up e / down e = omega (arith, c) in
-    let value = of_int-exact (m * up e / down e) (omega (arith, small)) in
-    ap (λ k. eq (of_int binary64 (pos k)) (fin false m e)) whole ∙ eq_by_value _ (m * up e / down e) m e value ∙ nothing_remains (m * up e) (down e)
+    ap (λ k. eq (of_int binary64 (pos k)) (fin false m e)) whole ∙ eq_by_value _ _ m e (of_int-exact _ (omega (arith, small))) ∙ nothing_remains (m * up e) (down e)
 
 -- below 2 ^ 53 a double has no fraction where its whole part is all of it
 pub integral_below : (x y : Float) (w : ℕ) → y ≡ float_with_sign false x → lt y (two_to 53) ≡ true → w ≡ to_unsigned 64 y → eq (of_int binary64 (pos w)) y ≡ is_integral x

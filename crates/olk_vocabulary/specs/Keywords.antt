@@ -183,40 +183,34 @@ length_for limit.MinLength v = characters v
 length_for limit.MaxLength v = characters v
 length_for limit.MinItems v = items v
 length_for limit.MaxItems v = items v
-length_for limit.MinProperties v = members v
-length_for limit.MaxProperties v = members v
+length_for l v = members v
 
 abbrev pub is_allowed : Limit → ℕ → ℕ → Bool
-is_allowed limit.MinLength m n = nat_le m n
 is_allowed limit.MaxLength m n = nat_le n m
-is_allowed limit.MinItems m n = nat_le m n
 is_allowed limit.MaxItems m n = nat_le n m
-is_allowed limit.MinProperties m n = nat_le m n
 is_allowed limit.MaxProperties m n = nat_le n m
+is_allowed l m n = nat_le m n
 
 abbrev pub limit_words : Limit → Text
 limit_words limit.MinLength = codes " is shorter than "
 limit_words limit.MaxLength = codes " is longer than "
-limit_words limit.MinItems = codes " has less than "
 limit_words limit.MaxItems = codes " has more than "
-limit_words limit.MinProperties = codes " has less than "
 limit_words limit.MaxProperties = codes " has more than "
+limit_words l = codes " has less than "
 
 abbrev pub one_thing : Limit → Text
 one_thing limit.MinLength = codes " character"
 one_thing limit.MaxLength = codes " character"
 one_thing limit.MinItems = codes " item"
 one_thing limit.MaxItems = codes " item"
-one_thing limit.MinProperties = codes " property"
-one_thing limit.MaxProperties = codes " property"
+one_thing l = codes " property"
 
 abbrev pub many_things : Limit → Text
 many_things limit.MinLength = codes " characters"
 many_things limit.MaxLength = codes " characters"
 many_things limit.MinItems = codes " items"
 many_things limit.MaxItems = codes " items"
-many_things limit.MinProperties = codes " properties"
-many_things limit.MaxProperties = codes " properties"
+many_things l = codes " properties"
 
 abbrev pub limit_text : Limit → ℕ → Data → Text
 limit_text l m v = shown v ++ limit_words l ++ decimal m ++ cond (m == 1) (one_thing l) (many_things l)

@@ -13,7 +13,7 @@ use Rattle.olk_errors.proofs.node.walk_other.Goals as goal
 pub returns-in-True : goal.returns-in-True
 returns-in-True g c = subst (λ b. Walks (Ok tt) c.args.sink.now c.args.sink.now c.args.ctx.now c.args.ctx.now
     (of_body g.W.Means.means g.W.Reports.first g.W.Reports.report c.args.ctx.now.answer c.args.location.now b (data_of c.args.node) (path_at c.args.trail.now))) (sym c.in-True.is)
-    (walks_past (only_same c.args.ctx.now) (record { verdict = refl; nothing = refl }) refl)
+    (walks_past (only_same c.args.ctx.now) refl)
 
 pub returns-in-False : goal.returns-in-False
 returns-in-False g c = subst (λ b. Walks c.report.result c.args.sink.now c.report.new.self c.args.ctx.now c.args.ctx.now

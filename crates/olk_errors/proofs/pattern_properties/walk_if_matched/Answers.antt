@@ -2,16 +2,14 @@ use Rattle.std.proofs.Common.{refl}
 use Rattle.serde_json.specs.View.{view}
 use Rattle.olk_spec.specs.Names.{◌//◌}
 use Rattle.olk_paths.specs.Trails.{path_at}
-use Rattle.olk_errors.proofs.Patterns.{unmatched_passes, unmatched_nothing, matched_as_node}
+use Rattle.olk_errors.proofs.Patterns.{unmatched, matched_as_node}
 use Rattle.olk_errors.proofs.Sinks.{walks_past, walks_same, walks_asked}
 use Rattle.olk_errors.specs.Outcomes.{of_node}
 use Rattle.olk_errors.proofs.pattern_properties.walk_if_matched.Goals as goal
 
 pub returns-then-not-matches : goal.returns-then-not-matches
 returns-then-not-matches g c = walks_past c.if-not-matches.ensures.only
-    (unmatched_passes g.R.RegexEngine.answers g.R.RegexEngine.costs g.N.Means.means g.N.Reports.first g.N.Reports.report c.args.ctx.now.answer (path_at c.args.trail.now)
-    c.args.pattern.now c.args.subschema.now c.args.name.now (view c.args.value.now) c.if-not-matches.ensures.verdict)
-    (unmatched_nothing g.R.RegexEngine.answers g.R.RegexEngine.costs g.N.Means.means g.N.Reports.first g.N.Reports.report c.args.ctx.now.answer (path_at c.args.trail.now)
+    (unmatched g.R.RegexEngine.answers g.R.RegexEngine.costs g.N.Means.means g.N.Reports.first g.N.Reports.report c.args.ctx.now.answer (path_at c.args.trail.now)
     c.args.pattern.now c.args.subschema.now c.args.name.now (view c.args.value.now) c.if-not-matches.ensures.verdict)
 
 pub returns : goal.returns

@@ -1,7 +1,7 @@
 use Rattle.olk_base.specs.Nodes.{data_of}
 use Rattle.olk_paths.specs.Trails.{path_at}
 use Rattle.olk_check.proofs.Asked.{only_same}
-use Rattle.olk_errors.proofs.AdditionalMembers.{by_wanted, same_keyword, other_finds_nothing, other_passes}
+use Rattle.olk_errors.proofs.AdditionalMembers.{by_wanted, same_keyword, other_unasked}
 use Rattle.olk_errors.proofs.Sinks.{walks_past, walks_same, walks_alone, walks_after, walks_left, walks_before}
 use Rattle.olk_errors.proofs.additional_properties.AdditionalPropertiesWalk.walk.Goals as goal
 
@@ -20,9 +20,6 @@ returns-in_ok-walk_members-in-Some g c = walks_same (same_keyword g.R.RegexEngin
 
 pub returns-in-None : goal.returns-in-None
 returns-in-None g c = walks_past (only_same c.args.ctx.now)
-    (other_passes g.R.RegexEngine.answers g.R.RegexEngine.costs g.N.Means.means g.N.Reports.first g.N.Reports.report c.args.self.now (data_of c.args.node)
-    (path_at c.args.trail.now)
-    c.args.ctx.now.answer c.in-None.ensures)
-    (other_finds_nothing g.R.RegexEngine.answers g.R.RegexEngine.costs g.N.Means.means g.N.Reports.first g.N.Reports.report c.args.self.now (data_of c.args.node)
+    (other_unasked g.R.RegexEngine.answers g.R.RegexEngine.costs g.N.Means.means g.N.Reports.first g.N.Reports.report c.args.self.now (data_of c.args.node)
     (path_at c.args.trail.now)
     c.args.ctx.now.answer c.in-None.ensures)

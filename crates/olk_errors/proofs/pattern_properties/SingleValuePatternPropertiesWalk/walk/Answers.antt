@@ -1,14 +1,11 @@
 use Rattle.olk_base.specs.Nodes.{data_of}
 use Rattle.olk_paths.specs.Trails.{path_at}
-use Rattle.olk_tree.proofs.Patterns.{matched_finds_nothing}
 use Rattle.olk_check.proofs.Asked.{only_same}
-use Rattle.olk_errors.proofs.Patterns.{other_matched_passes}
+use Rattle.olk_errors.proofs.Patterns.{other_matched}
 use Rattle.olk_errors.proofs.Sinks.{walks_past}
 use Rattle.olk_errors.proofs.pattern_properties.SingleValuePatternPropertiesWalk.walk.Goals as goal
 
 pub returns-in-None : goal.returns-in-None
 returns-in-None g c = walks_past (only_same c.args.ctx.now)
-    (other_matched_passes g.R.RegexEngine.answers g.R.RegexEngine.costs g.N.Means.means g.N.Reports.first g.N.Reports.report c.args.ctx.now.answer (path_at c.args.trail.now)
+    (other_matched g.R.RegexEngine.answers g.R.RegexEngine.costs g.N.Means.means g.N.Reports.first g.N.Reports.report c.args.ctx.now.answer (path_at c.args.trail.now)
     (data_of c.args.node) c.in-None.ensures c.args.self.now.regex c.args.self.now.node)
-    (matched_finds_nothing g.R.RegexEngine.answers (data_of c.args.node) c.in-None.ensures g.N.Reports.report c.args.ctx.now.answer
-    (path_at c.args.trail.now) c.args.self.now.regex c.args.self.now.node)

@@ -1,15 +1,15 @@
-use Rattle.std.proofs.Common.{[], ◌∷◌, refl, ◌++◌, string_bytes}
+use Rattle.std.proofs.Common.{[], ◌∷◌, refl, string_bytes}
 use Rattle.serde_json.specs.Data.{object}
 use Rattle.serde_json.specs.View.{members_view}
 use Rattle.olk_base.specs.Nodes.{data_of}
 use Rattle.olk_paths.specs.Trails.{path_at}
-use Rattle.olk_tree.proofs.Members_met.{object_is, reports_nothing}
+use Rattle.olk_tree.proofs.Members_met.{object_is}
 use Rattle.olk_tree.specs.Maps.{named, two_texts}
 use Rattle.olk_check.proofs.Asked.{only_same}
 use Rattle.olk_errors.proofs.Fused.{two_then_members}
-use Rattle.olk_errors.proofs.Members.{other_passes}
-use Rattle.olk_errors.proofs.Missing.{other_lacks_none, other_lacks_nothing}
-use Rattle.olk_errors.proofs.Sinks.{pass_both, goes_after, walks_past, walks_same, walks_alone, walks_after, walks_left, walks_before}
+use Rattle.olk_errors.proofs.Members.{other_unasked}
+use Rattle.olk_errors.proofs.Missing.{other_lacks_nothing}
+use Rattle.olk_errors.proofs.Sinks.{after, goes_after, walks_past, walks_same, walks_alone, walks_after, walks_left, walks_before}
 use Rattle.olk_errors.specs.Outcomes.{of_names, of_properties}
 use Rattle.olk_errors.proofs.properties.SmallPropertiesWithRequired2Walk.walk.Goals as goal
 
@@ -40,12 +40,7 @@ returns-in_ok-report_if_missing-in-Some-2 g c =
     (walks_after (goes_after c.in_ok-report_if_missing-in-Some.ensures.so c.in_ok-report_if_missing-in-Some-2.ensures.so) (only_same c.args.ctx.now) c.walk_members.ensures)
 
 pub returns-in-None : goal.returns-in-None
-returns-in-None g c =
-    let names = two_texts c.args.self.now.first c.args.self.now.second in
-    let place = c.args.self.now.required_location in
-    walks_past (only_same c.args.ctx.now)
-    (pass_both (other_lacks_none names (data_of c.args.node) place (path_at c.args.trail.now) c.in-None.ensures)
-    (other_passes g.N.Means.means g.N.Reports.first g.N.Reports.report c.args.ctx.now.answer (named c.args.self.now.properties) (path_at c.args.trail.now)
-    (data_of c.args.node) c.in-None.ensures))
-    (λ i. other_lacks_nothing names (data_of c.args.node) place (path_at c.args.trail.now) c.in-None.ensures i ++ reports_nothing (named c.args.self.now.properties)
-    (data_of c.args.node) c.in-None.ensures g.N.Reports.report c.args.ctx.now.answer (path_at c.args.trail.now) i)
+returns-in-None g c = walks_past (only_same c.args.ctx.now) (λ i. after
+    (other_lacks_nothing (two_texts c.args.self.now.first c.args.self.now.second) (data_of c.args.node) c.args.self.now.required_location (path_at c.args.trail.now) c.in-None.ensures i)
+    (other_unasked g.N.Means.means g.N.Reports.first g.N.Reports.report c.args.ctx.now.answer (named c.args.self.now.properties) (path_at c.args.trail.now)
+    (data_of c.args.node) c.in-None.ensures i))
