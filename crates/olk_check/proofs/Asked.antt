@@ -1,5 +1,5 @@
 -- One question after another.
-use Rattle.std.proofs.Common.{◌≡◌, ◌+◌, ◌≤◌, Bool, refl, ap, ◌∙◌, arith}
+use Rattle.std.proofs.Common.{◌≡◌, ◌+◌, ◌≤◌, Bool, refl, ap, subst, ◌∙◌, arith}
 use Rattle.olk_base.specs.Lawful.{Asking}
 use Rattle.olk_tree.specs.Questions.{Question, always}
 use Rattle.olk_check.specs.Asks.{OnlyAsks, Asks}
@@ -44,6 +44,10 @@ module _ {a b : Asking} {p : Question} {r : Bool} where
     verdict = verdict a.answer h.verdict;
     certain = λ e l u. verdict u (h.certain e l u);
   }
+
+-- an equal question is answered alike
+pub asks_as : {a b : Asking} {p q : Question} {r : Bool} → p ≡ q → Asks a b p r → Asks a b q r
+asks_as {a} {b} {r = r} e h = subst (λ x. Asks a b x r) e h
 
 -- nothing is asked
 pub unasked : (a : Asking) (b : Bool) → Asks a a (always b) b

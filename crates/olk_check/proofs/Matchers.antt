@@ -12,16 +12,13 @@ module _ (a : Asking) where
   only_matches _ _ = record { answer = refl; compiled = refl; leaves = refl; made = refl; asked = omega arith; unfinished = omega arith }
 
   asks_matcher : (costs : Bool) (s : Says) → Asks a (asked_of costs s a) (said_to costs s) (reads_as a.answer s)
-  asks_matcher true matched = record { only = only_matches true matched; asked_to = omega arith; unfinished_to = omega arith; verdict = refl; certain = λ e l u. refl }
-  asks_matcher true unmatched = record { only = only_matches true unmatched; asked_to = omega arith; unfinished_to = omega arith; verdict = refl; certain = λ e l u. refl }
   asks_matcher true unfinished = record { only = only_matches true unfinished; asked_to = omega arith; unfinished_to = omega arith; verdict = refl; certain = λ e l u. absurd (omega arith) }
-  asks_matcher false matched = record { only = only_matches false matched; asked_to = omega arith; unfinished_to = omega arith; verdict = refl; certain = λ e l u. refl }
-  asks_matcher false unmatched = record { only = only_matches false unmatched; asked_to = omega arith; unfinished_to = omega arith; verdict = refl; certain = λ e l u. refl }
   asks_matcher false unfinished = record { only = only_matches false unfinished; asked_to = omega arith; unfinished_to = omega arith; verdict = refl; certain = λ e l u. absurd (omega arith) }
+  asks_matcher costs s = record { only = only_matches costs s; asked_to = omega arith; unfinished_to = omega arith; verdict = refl; certain = λ e l u. refl }
 
 -- the answer of a call, with what it leaves of the context
 pub match_answers : (costs : Bool) (s : Says) (a b : Asking) (r : Bool) → r ≡ reads_as a.answer s → b ≡ asked_of costs s a → Asks a b (said_to costs s) r
-match_answers costs s a b r answer counts = subst (λ x. Asks a x (said_to costs s) r) (sym counts) (subst (λ x. Asks a (asked_of costs s a) (said_to costs s) x) (sym answer) (asks_matcher a costs s))
+match_answers costs s a b r answer counts = rw (counts, answer) (asks_matcher a costs s)
 
 -- a test answers at once, and is not counted
 pub test_answers : (a : Asking) (b r : Bool) → r ≡ b → Asks a a (said_to false (cond b matched unmatched)) r

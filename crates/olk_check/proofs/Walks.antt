@@ -85,7 +85,3 @@ pub ruleset conditional_answers = (accepted_then, refused_then, accepted_alone, 
 pub keywords_asked : {W : Type 0} (q : W → Data → Question) (v : Data) {body : Body W} {ks : Vec W Global} {l : List W} {a b : Asking} {r : Bool} → body ≡ Keywords ks
     → l ≡ ks.items → Asks a b (every (λ k. q k v) l) r → Asks a b (body_means q body v) r
 keywords_asked q v {a = a} {b} {r} is same h = subst (λ x. Asks a b (body_means q x v) r) (sym is) (subst (λ x. Asks a b (every (λ k. q k v) x) r) same h)
-
--- what is found under a name, as another look-up finds it
-pub found_asked : {N : Type 0} (f : N → Question) {o p : Option N} {a b : Asking} {r : Bool} → o ≡ p → Asks a b (every f (option_to_list o)) r → Asks a b (every f (option_to_list p)) r
-found_asked f {a = a} {b} {r} e h = subst (λ x. Asks a b (every f (option_to_list x)) r) e h

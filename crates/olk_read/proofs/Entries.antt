@@ -7,12 +7,19 @@ use Rattle.std.proofs.lemmas.List.{append-nil, append_assoc, map-append}
 use Rattle.serde_json.specs.Data.{Data}
 use Rattle.serde_json.specs.View.{view, members_view}
 use Rattle.serde_json.specs.declared.value.Value.{Value}
-use Rattle.olk_spec.specs.Names.{Name}
+use Rattle.olk_spec.specs.Names.{Name, Path, ◌//◌}
 use Rattle.olk_spec.specs.Faults.{Fault}
 use Rattle.olk_spec.specs.Schemas.{listed}
 use Rattle.olk_reports.specs.declared.error.BuildError.{BuildError}
 use Rattle.olk_read.specs.Refusing.{TellsOneOf}
 use Rattle.olk_read.proofs.Spending.{tells_left, tells_same}
+
+-- a place below another, under a name
+pub below : (P : Path) {L : Path} {m n : Name} → L ≡ P // m → m ≡ n → L ≡ P // n
+below P e f = e ∙ ap (λ k. P // k) f
+
+pub listed_alike : {xs ys : List (String Global × Value)} → xs ≡ ys → listed (members_view xs) ≡ listed (members_view ys)
+listed_alike e = ap (λ l. listed (members_view l)) e
 
 -- each entry gives an item and is right, and shows the item
 module _ {T Y : Type 0} (show : T → Y) (gives : Name × Data → Y) (wrong : Name × Data → List Fault) where

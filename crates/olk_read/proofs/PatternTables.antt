@@ -24,7 +24,8 @@ use Rattle.olk_read.specs.Refusing.{Spends, SpendsWithin}
 use Rattle.olk_read.specs.Patterns.{ArePatterns, PatternsAreRead, RefusesPatterns}
 use Rattle.olk_read.specs.Reading.{IsRead, RefusesKeyword}
 use Rattle.olk_read.specs.declared.shape.Shape.TheVariants as shape
-use Rattle.olk_read.proofs.Read.{own_pattern_properties, object_is_right}
+use Rattle.olk_read.proofs.Read.{own_for, object_is_right}
+use Rattle.olk_read.specs.declared.reading.KeywordFor.TheVariants as for
 use Rattle.olk_read.proofs.Spending.{spends_append, within_before, within_after, tells_same, refuses_memory}
 
 -- each that costs is one that is open
@@ -52,30 +53,30 @@ within_asks n m a b e h = record {
 }
 
 -- d is the keyword's value, and stands at L
-module _ {K R : Type 0} (o : Kit K R) (c : Known) (d : Data) (L : Path) (is_map : is_object d ≡ true) (a m : Counts) where
-  pub refuses_patterns : (e : BuildError) → RefusesPatterns o (members d) L a m e → RefusesKeyword o c (codes "patternProperties") d L a m e
-  refuses_patterns e h = record {
-    tells = tells_same (sym (own_pattern_properties o.world d L ∙ (λ i. object_is_right d L is_map i ++ flat_map (λ x. pattern_faults o.world L x.0) (members d)))) e h.tells;
+module _ {K R : Type 0} (o : Kit K R) (c : Known) (d : Data) (L : Path) (is_map : is_object d ≡ true) {a m : Counts} where
+  pub refuses_patterns : {e : BuildError} → RefusesPatterns o (members d) L a m e → RefusesKeyword o c (codes "patternProperties") d L a m e
+  refuses_patterns {e} h = record {
+    tells = tells_same (sym (own_for o.world d L (codes "patternProperties") for.PatternProperties refl ∙ (λ i. object_is_right d L is_map i ++ flat_map (λ x. pattern_faults o.world L x.0) (members d)))) e h.tells;
     spends = within_before a m (matchers_made o.world d) (names_asked o.world c.declared d) (subst (SpendsWithin a m) (made_together o.world (members d)) h.spends);
   }
 
   -- the table is made of the patterns ps, which are those of v
-  module _ (v : Vec (CompiledPattern R) Global) (h : PatternsAreRead o v.items (members d) L a m) (ps : List (CompiledPattern R)) (all : ps ≡ v.items) (b : Counts) where
+  module _ (v : Vec (CompiledPattern R) Global) (h : PatternsAreRead o v.items (members d) L a m) {ps : List (CompiledPattern R)} (all : ps ≡ v.items) where
     made : Spends a m (matchers_made o.world d)
     made = subst (Spends a m) (made_together o.world (members d)) h.spends
 
     times : length c.declared * how_many_cost o.costs ps ≡ length c.declared * length (open_names o.world d)
     times = ap (λ n. length c.declared * n) (ap (how_many_cost o.costs) all ∙ open_cost o v.items (members d) h.stand)
 
-    pub patterns_are_read : (t : Table) → t.names ≡ map (λ e. e.0) c.declared → IsTableOf o.answers ps t → b ≡ count_asks (length c.declared * how_many_cost o.costs ps) m
+    pub patterns_are_read : {b : Counts} {t : Table} → t.names ≡ map (λ e. e.0) c.declared → IsTableOf o.answers ps t → b ≡ count_asks (length c.declared * how_many_cost o.costs ps) m
         → IsRead o (shape.PatternProperties v t) c (codes "patternProperties") d L a b
-    patterns_are_read t names says asked = record {
+    patterns_are_read {b} {t} names says asked = record {
       shape = (refl, is_map, h.stand);
       fits = (names, subst (λ qs. IsTableOf o.answers qs t) all says);
-      clean = own_pattern_properties o.world d L ∙ (λ i. object_is_right d L is_map i ++ h.clean i);
+      clean = own_for o.world d L (codes "patternProperties") for.PatternProperties refl ∙ (λ i. object_is_right d L is_map i ++ h.clean i);
       spends = spends_append a m b (matchers_made o.world d) (names_asked o.world c.declared d) made (spends_asks _ _ m b times asked);
     }
 
-    pub table_without_memory : AsksAtMost (length c.declared * how_many_cost o.costs ps) m b → {w : AllocError} (e : BuildError) → e ≡ Memory w
+    pub table_without_memory : {b : Counts} → AsksAtMost (length c.declared * how_many_cost o.costs ps) m b → {w : AllocError} (e : BuildError) → e ≡ Memory w
         → RefusesKeyword o c (codes "patternProperties") d L a b e
-    table_without_memory asked e q = refuses_memory (within_after a m b (matchers_made o.world d) (names_asked o.world c.declared d) made (within_asks _ _ m b times asked)) e q
+    table_without_memory {b} asked e q = refuses_memory (within_after a m b (matchers_made o.world d) (names_asked o.world c.declared d) made (within_asks _ _ m b times asked)) e q

@@ -70,22 +70,19 @@ module _ {K R : Type 0} (o : Kit K R) (L : Path) where
 
 module _ {K R : Type 0} {o : Kit K R} {L : Path} {all : List (Name × Data)} {a : Counts} {ps : List (CompiledPattern R)} {left : List (Name × Data)} where
   pub no_patterns : ps ≡ [] → left ≡ all → PatternsSoFar o L all a ps left a
-  no_patterns e w = record { so_far = none_so_far _ _ (stand o L) all a ps left (subst (λ x. stand o L x []) (sym e) tt) w }
+  no_patterns e w = record { so_far = none_so_far (rw e tt) w }
 
   module _ {m : Counts} (h : PatternsSoFar o L all a ps left m) where
     pub patterns_read : left ≡ [] → PatternsAreRead o ps all L a m
-    patterns_read e = let r = all_so_far _ _ (stand o L) all a ps left m e h.so_far in record { stand = r.stand; clean = r.clean; spends = r.spends }
+    patterns_read e = let r = all_so_far h.so_far e in record { stand = r.stand; clean = r.clean; spends = r.spends }
 
     module _ {x : Name × Data} {rest : List (Name × Data)} (next : left ≡ x ∷ rest) {b : Counts} where
-      pub pattern_refused : {f : BuildError} → Refuses (pattern_faults o.world L x.0) (matcher_made o.world x.0) m b f → (e : BuildError) → e ≡ f → RefusesPatterns o all L a b e
-      pattern_refused r e q = refused_so_far _ _ (stand o L) all a x left rest next ps m b e h.so_far (subst (Refuses (wrong o L x) (costs o L x) m b) (sym q) r)
+      pub pattern_refused : {e : BuildError} → Refuses (pattern_faults o.world L x.0) (matcher_made o.world x.0) m b e → RefusesPatterns o all L a b e
+      pattern_refused r = refused_so_far h.so_far next r
 
       module _ (right : pattern_faults o.world L x.0 ≡ []) (spent : Spends m b (matcher_made o.world x.0)) where
         pub one_more_pattern : {p : CompiledPattern R} {new : List (CompiledPattern R)} → IsPattern o p x.0 → new ≡ ps ++ p ∷ [] → PatternsSoFar o L all a new rest b
-        one_more_pattern {p} {new} s q = record {
-          so_far = one_more_so_far _ _ (stand o L) all a x left rest next ps new m b h.so_far
-              (subst (λ y. stand o L y (h.so_far.done ++ x ∷ [])) (sym q) (push o L ps h.so_far.done p x h.so_far.built.stand s)) right spent;
-        }
+        one_more_pattern {p} s q = record { so_far = one_more_so_far h.so_far next spent (rw q (push o L ps h.so_far.done p x h.so_far.built.stand s)) right }
 
         pub pattern_memory : {w : AllocError} (e : BuildError) → e ≡ Memory w → RefusesPatterns o all L a b e
-        pattern_memory e q = memory_past _ _ (stand o L) all a x left rest next ps m b e q h.so_far spent
+        pattern_memory e q = memory_past h.so_far next spent e q

@@ -28,11 +28,13 @@ use Rattle.olk_read.specs.Refusing.{Spends, TellsOneOf, Refuses}
 use Rattle.olk_meaning.specs.AdditionalProperties.{is_rule}
 use Rattle.olk_meaning.specs.Conditions.{is_conditional_name, Known}
 use Rattle.olk_meaning.proofs.AdditionalPlaces.{additional_refusals}
-use Rattle.olk_read.specs.Reading.{IsOther, IsShape, Fits, IsRead, own_faults, own_cost_of}
+use Rattle.olk_read.specs.Reading.{IsFor, IsOther, IsShape, Fits, IsRead, own_faults, own_cost_of}
+use Rattle.olk_read.specs.declared.reading.KeywordFor.{KeywordFor}
+use Rattle.olk_read.specs.declared.reading.KeywordFor.TheVariants as for
 use Rattle.olk_read.specs.declared.shape.Shape.{Shape}
 use Rattle.olk_read.specs.declared.shape.Shape.TheVariants as shape
 use Rattle.olk_read.proofs.KeywordNames.{refused_keyword}
-use Rattle.olk_read.proofs.Spending.{spends_nothing, within_nothing, within_exactly, tells_same, refuses_memory}
+use Rattle.olk_read.proofs.Spending.{spends_nothing, spends_same, within_nothing, within_exactly, tells_same, refuses_memory}
 
 pub spends_leaf : (a b : Counts) → b ≡ count_leaf a → Spends a b (record no_cost { leaf_places = 1 })
 spends_leaf a b e = e ∙ rw (raised_zero a.compiled, raised_zero a.made, raised_zero a.asked, raised_zero a.unfinished) refl
@@ -54,53 +56,42 @@ module _ (W : World) (d : Data) (L : Path) where
   same : whole ≡ d
   same = schema_of_read (malformations_step W) d
 
-  pub own_properties : own_faults W (codes "properties") d L ≡ unless_object d L
-  own_properties = ap (λ s. unless_object s L) same
+  -- what is wrong with a keyword itself, by what it is
+  abbrev pub wrong_for : Name → KeywordFor → List Fault
+  wrong_for k for.Properties = unless_object d L
+  wrong_for k for.PatternProperties = unless_object d L ++ flat_map (λ e. pattern_faults W L e.0) (members d)
+  wrong_for k for.AdditionalProperties = unless_kind (is_rule d) MultipleTypes d L
+  wrong_for k for.PropertyNames = []
+  wrong_for k for.Required = unless_array d L ++ not_a_text d L
+  wrong_for k for.DependentRequired = unless_object d L ++ name_list_faults L (members d)
+  wrong_for k for.DependentSchemas = unless_object d L
+  wrong_for k for.Dependencies = unless_object d L ++ list_faults L (members d)
+  wrong_for k for.PropertyDependencies = unless_object d L ++ no_object_faults L (members d)
+  wrong_for k for.AllOf = unless_array d L
+  wrong_for k for.AnyOf = unless_array d L
+  wrong_for k for.OneOf = unless_array d L
+  wrong_for k for.Not = []
+  wrong_for k for.If = []
+  wrong_for k for.Then = []
+  wrong_for k for.Else = []
+  wrong_for k w = own_faults W k d L
 
-  pub own_pattern_properties : own_faults W (codes "patternProperties") d L ≡ unless_object d L ++ flat_map (λ e. pattern_faults W L e.0) (members d)
-  own_pattern_properties = pattern_properties_refusals (malformations_step W) d (codes "patternProperties") W L ∙ ap (λ fs. unless_object d L ++ fs) (sym (unbuilt_together W L (members d)))
-
-  pub own_additional_properties : own_faults W (codes "additionalProperties") d L ≡ unless_kind (is_rule d) MultipleTypes d L
-  own_additional_properties = additional_refusals (malformations_step W) d (codes "additionalProperties") W L
-
-  pub own_property_names : own_faults W (codes "propertyNames") d L ≡ []
-  own_property_names = refl
-
-  pub own_required : own_faults W (codes "required") d L ≡ unless_array d L ++ not_a_text d L
-  own_required = ap (λ s. unless_array s L ++ not_a_text s L) same
-
-  pub own_dependent_required : own_faults W (codes "dependentRequired") d L ≡ unless_object d L ++ name_list_faults L (members d)
-  own_dependent_required = dependent_required_refusals (malformations_step W) d (codes "dependentRequired") W L
-
-  pub own_dependent_schemas : own_faults W (codes "dependentSchemas") d L ≡ unless_object d L
-  own_dependent_schemas = ap (λ s. unless_object s L) same
-
-  pub own_dependencies : own_faults W (codes "dependencies") d L ≡ unless_object d L ++ list_faults L (members d)
-  own_dependencies = dependencies_refusals (malformations_step W) d (codes "dependencies") W L
-
-  pub own_property_dependencies : own_faults W (codes "propertyDependencies") d L ≡ unless_object d L ++ no_object_faults L (members d)
-  own_property_dependencies = property_dependencies_refusals (malformations_step W) d (codes "propertyDependencies") W L
-
-  pub own_all_of : own_faults W (codes "allOf") d L ≡ unless_array d L
-  own_all_of = ap (λ s. unless_array s L) same
-
-  pub own_any_of : own_faults W (codes "anyOf") d L ≡ unless_array d L
-  own_any_of = ap (λ s. unless_array s L) same
-
-  pub own_one_of : own_faults W (codes "oneOf") d L ≡ unless_array d L
-  own_one_of = ap (λ s. unless_array s L) same
-
-  pub own_not : own_faults W (codes "not") d L ≡ []
-  own_not = refl
-
-  pub own_if : own_faults W (codes "if") d L ≡ []
-  own_if = refl
-
-  pub own_then : own_faults W (codes "then") d L ≡ []
-  own_then = refl
-
-  pub own_else : own_faults W (codes "else") d L ≡ []
-  own_else = refl
+  pub own_for : (k : Name) (w : KeywordFor) → IsFor k w → own_faults W k d L ≡ wrong_for k w
+  own_for k for.Properties q = rw q (ap (λ s. unless_object s L) same)
+  own_for k for.PatternProperties q =
+      rw q (pattern_properties_refusals (malformations_step W) d (codes "patternProperties") W L ∙ ap (λ fs. unless_object d L ++ fs) (sym (unbuilt_together W L (members d))))
+  own_for k for.AdditionalProperties q = rw q (additional_refusals (malformations_step W) d (codes "additionalProperties") W L)
+  own_for k for.Required q = rw q (ap (λ s. unless_array s L ++ not_a_text s L) same)
+  own_for k for.DependentRequired q = rw q (dependent_required_refusals (malformations_step W) d (codes "dependentRequired") W L)
+  own_for k for.DependentSchemas q = rw q (ap (λ s. unless_object s L) same)
+  own_for k for.Dependencies q = rw q (dependencies_refusals (malformations_step W) d (codes "dependencies") W L)
+  own_for k for.PropertyDependencies q = rw q (property_dependencies_refusals (malformations_step W) d (codes "propertyDependencies") W L)
+  own_for k for.AllOf q = rw q (ap (λ s. unless_array s L) same)
+  own_for k for.AnyOf q = rw q (ap (λ s. unless_array s L) same)
+  own_for k for.OneOf q = rw q (ap (λ s. unless_array s L) same)
+  own_for k for.Refused q = refl
+  own_for k for.Other q = refl
+  own_for k w q = rw q refl
 
   module _ (k : Name) where
     own_of : (w : Keyword) → keyword_named W k ≡ w → own_faults W k d L ≡ own_refusals W k (read (malformations_step W) d) L w
@@ -121,10 +112,10 @@ array_is_right d L e = ap (λ b. unless_kind b (SingleType array_type) d L) e
 
 -- ---- what is told
 
--- a keyword's own faults, where its name is known
-pub refuses_own : (W : World) (d : Data) (L : Path) (F : World → Data → Path → List Fault) {k n : Name} {c : Cost} {a : Counts} {e : BuildError} → k ≡ n
-    → ((V : World) (x : Data) (P : Path) → own_faults V n x P ≡ F V x P) → TellsOneOf (F W d L) e → Refuses (own_faults W k d L) c a a e
-refuses_own W d L F {e = e} p q t = record { tells = tells_same (sym (q W d L) ∙ ap (λ x. own_faults W x d L) (sym p)) e t; spends = within_nothing }
+-- a keyword's own faults, where it is known which it is
+pub refuses_own : (W : World) (k : Name) (d : Data) (L : Path) {v w : KeywordFor} {c : Cost} {a : Counts} {e : BuildError} → v ≡ w → IsFor k v → TellsOneOf (wrong_for W d L k w) e
+    → Refuses (own_faults W k d L) c a a e
+refuses_own W k d L {w = w} {e = e} p q t = record { tells = tells_same (sym (own_for W d L k w (subst (IsFor k) p q))) e t; spends = within_nothing }
 
 module _ (W : World) (k : Name) (d : Data) (q : keyword_named W k ≡ leaf) (a b : Counts) (count : b ≡ count_leaf a) (n : Known) where
   leaf_spent : Spends a b (own_cost_of W n d (keyword_named W k))
@@ -136,45 +127,44 @@ module _ (W : World) (k : Name) (d : Data) (q : keyword_named W k ≡ leaf) (a b
   pub refuses_leaf_memory : (fs : List Fault) {m : AllocError} (e : BuildError) → e ≡ Memory m → Refuses fs (own_cost_of W n d (keyword_named W k)) a b e
   refuses_leaf_memory fs e p = refuses_memory (within_exactly leaf_spent) e p
 
-pub refuses_name : (W : World) (k : Name) (d : Data) (L : Path) (c : Cost) (a : Counts) (e : BuildError) → IsOther k → is_among k unsupported_names ≡ true
+pub refuses_name : (W : World) (k : Name) (d : Data) (L : Path) {c : Cost} {a : Counts} {e : BuildError} → IsOther k → is_among k unsupported_names ≡ true
     → TellsOneOf (fault (Unsupported k) d [] L ∷ []) e → Refuses (own_faults W k d L) c a a e
-refuses_name W k d L c a e other among t = record { tells = tells_same (sym (own_unsupported W d L k (refused_keyword W k other among))) e t; spends = within_nothing }
+refuses_name W k d L {e = e} other among t = record { tells = tells_same (sym (own_unsupported W d L k (refused_keyword W k other among))) e t; spends = within_nothing }
 
 -- ---- what is read
 
 module _ {K R : Type 0} (o : Kit K R) where
   -- a keyword without own costs, by its name
-  pub is_read : {x : Shape K R} {c : Known} {k n : Name} {d : Data} {L : Path} {a : Counts} → k ≡ n → IsShape o n d x → Fits o c x → own_faults o.world n d L ≡ []
-      → own_cost_of o.world c d (keyword_named o.world n) ≡ no_cost → IsRead o x c k d L a a
-  is_read {x} {c} {d = d} {L} {a} p s f clean z = subst (λ i. IsRead o x c i d L a a) (sym p) (record { shape = s; fits = f; clean = clean; spends = subst (Spends a a) (sym z) (spends_nothing a) })
-
-  pub read_as : {x y : Shape K R} {c : Known} {k : Name} {d : Data} {L : Path} {a b : Counts} → x ≡ y → IsRead o y c k d L a b → IsRead o x c k d L a b
-  read_as {c = c} {k} {d} {L} {a} {b} e h = subst (λ s. IsRead o s c k d L a b) (sym e) h
+  pub is_read : (w : KeywordFor) {x : Shape K R} {c : Known} {k n : Name} {d : Data} {L : Path} {a : Counts} → k ≡ n → IsFor n w → IsShape o n d x → Fits o c x
+      → wrong_for o.world d L n w ≡ [] → own_cost_of o.world c d (keyword_named o.world n) ≡ no_cost → IsRead o x c k d L a a
+  is_read w {n = n} {d} {L} {a} p q s f right z =
+      rw p record { shape = s; fits = f; clean = own_for o.world d L n w q ∙ right; spends = spends_same a a _ _ (sym z) (spends_nothing a) }
 
   -- one of the three that are read together
-  pub conditional_is_read : (x : Shape K R) (c : Known) {k n : Name} {d : Data} {L : Path} {a : Counts} → k ≡ n → IsShape o n d x → (c.condition ≡ true → Fits o c x)
-      → is_conditional_name n ≡ true → own_faults o.world n d L ≡ [] → own_cost_of o.world c d (keyword_named o.world n) ≡ no_cost → IsRead o (cond c.condition x shape.Unpaired) c k d L a a
-  conditional_is_read x c {k} {d = d} {L} {a} p s f e clean z = by c.condition refl
+  pub conditional_is_read : (w : KeywordFor) (x : Shape K R) (c : Known) {k n : Name} {d : Data} {L : Path} {a : Counts} → k ≡ n → IsFor n w → IsShape o n d x
+      → (c.condition ≡ true → Fits o c x) → is_conditional_name n ≡ true → wrong_for o.world d L n w ≡ [] → own_cost_of o.world c d (keyword_named o.world n) ≡ no_cost
+      → IsRead o (cond c.condition x shape.Unpaired) c k d L a a
+  conditional_is_read w x c {k} {d = d} {L} {a} p i s f e right z = by c.condition refl
     where
       by : (b : Bool) → c.condition ≡ b → IsRead o (cond b x shape.Unpaired) c k d L a a
-      by true q = is_read p s (f q) clean z
-      by false q = is_read p e q clean z
+      by true q = is_read w p i s (f q) right z
+      by false q = is_read w p i e q right z
 
   -- a rule for other members
   pub others_are_read : {c : Known} {k : Name} (d : Data) {L : Path} {a : Counts} → k ≡ codes "additionalProperties" → is_rule d ≡ true
       → IsRead o (cond (is_object d) shape.AdditionalProperties (cond (is_truth false d) shape.NoOthers shape.AnyOthers)) c k d L a a
   others_are_read {c} {k} d {L} {a} p rule = by (is_object d) (is_truth false d) refl refl
     where
-      right : own_faults o.world (codes "additionalProperties") d L ≡ []
-      right = own_additional_properties o.world d L ∙ ap (λ b. unless_kind b MultipleTypes d L) rule
+      right : wrong_for o.world d L (codes "additionalProperties") for.AdditionalProperties ≡ []
+      right = ap (λ b. unless_kind b MultipleTypes d L) rule
 
       true_left : is_object d ≡ false → is_truth false d ≡ false → is_truth true d ≡ true
       true_left e f = sym (or-false (is_truth true d)) ∙ (λ i. sym e i || is_truth true d || sym f i) ∙ rule
 
       by : (x y : Bool) → is_object d ≡ x → is_truth false d ≡ y → IsRead o (cond x shape.AdditionalProperties (cond y shape.NoOthers shape.AnyOthers)) c k d L a a
-      by true y e f = is_read p (refl, e) tt right refl
-      by false true e f = is_read p (refl, f) tt right refl
-      by false false e f = is_read p (refl, true_left e f) tt right refl
+      by true y e f = is_read for.AdditionalProperties p refl (refl, e) tt right refl
+      by false true e f = is_read for.AdditionalProperties p refl (refl, f) tt right refl
+      by false false e f = is_read for.AdditionalProperties p refl (refl, true_left e f) tt right refl
 
   -- a schema for names
   pub names_are_read : {c : Known} {k : Name} (d : Data) {L : Path} {a : Counts} → k ≡ codes "propertyNames"
@@ -182,35 +172,6 @@ module _ {K R : Type 0} (o : Kit K R) where
   names_are_read {c} {k} d {L} {a} p = by (is_object d) (is_truth false d) refl refl
     where
       by : (x y : Bool) → is_object d ≡ x → is_truth false d ≡ y → IsRead o (cond x shape.PropertyNames (cond y shape.NoNames shape.AnyNames)) c k d L a a
-      by true y e f = is_read p (refl, e) tt (own_property_names o.world d L) refl
-      by false true e f = is_read p (refl, f) tt (own_property_names o.world d L) refl
-      by false false e f = is_read p (refl, e, f) tt (own_property_names o.world d L) refl
-
-module _ (W : World) (d : Data) (L : Path) (object : is_object d ≡ true) where
-  pub right_dependent_required : name_list_faults L (members d) ≡ [] → own_faults W (codes "dependentRequired") d L ≡ []
-  right_dependent_required h = own_dependent_required W d L ∙ (λ i. object_is_right d L object i ++ h i)
-
-  pub right_dependencies : list_faults L (members d) ≡ [] → own_faults W (codes "dependencies") d L ≡ []
-  right_dependencies h = own_dependencies W d L ∙ (λ i. object_is_right d L object i ++ h i)
-
-  pub right_property_dependencies : no_object_faults L (members d) ≡ [] → own_faults W (codes "propertyDependencies") d L ≡ []
-  right_property_dependencies h = own_property_dependencies W d L ∙ (λ i. object_is_right d L object i ++ h i)
-
-  pub right_properties : own_faults W (codes "properties") d L ≡ []
-  right_properties = own_properties W d L ∙ object_is_right d L object
-
-  pub right_dependent_schemas : own_faults W (codes "dependentSchemas") d L ≡ []
-  right_dependent_schemas = own_dependent_schemas W d L ∙ object_is_right d L object
-
-module _ (W : World) (d : Data) (L : Path) (list : is_array d ≡ true) where
-  pub right_required : not_a_text d L ≡ [] → own_faults W (codes "required") d L ≡ []
-  right_required h = own_required W d L ∙ (λ i. array_is_right d L list i ++ h i)
-
-  pub right_all_of : own_faults W (codes "allOf") d L ≡ []
-  right_all_of = own_all_of W d L ∙ array_is_right d L list
-
-  pub right_any_of : own_faults W (codes "anyOf") d L ≡ []
-  right_any_of = own_any_of W d L ∙ array_is_right d L list
-
-  pub right_one_of : own_faults W (codes "oneOf") d L ≡ []
-  right_one_of = own_one_of W d L ∙ array_is_right d L list
+      by true y e f = is_read for.PropertyNames p refl (refl, e) tt refl refl
+      by false true e f = is_read for.PropertyNames p refl (refl, f) tt refl refl
+      by false false e f = is_read for.PropertyNames p refl (refl, e, f) tt refl refl

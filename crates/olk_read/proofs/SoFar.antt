@@ -28,39 +28,41 @@ module _ {X N : Type 0} (wrong : X → List Fault) (costs : X → Cost) (Stand :
     pub built : Stands ns done m
     pub whole : done ++ left ≡ all
 
-  pub none_so_far : (ns : List N) (left : List X) → Stand ns [] → left ≡ all → SoFar ns left a
-  none_so_far ns left h e = record { done = []; built = record { stand = h; clean = refl; spends = spends_nothing a }; whole = e }
+module _ {X N : Type 0} {wrong : X → List Fault} {costs : X → Cost} {Stand : List N → List X → Type 0} {all : List X} {a : Counts} {ns : List N} {left : List X} where
+  pub none_so_far : Stand ns [] → left ≡ all → SoFar wrong costs Stand all a ns left a
+  none_so_far h e = record { done = []; built = record { stand = h; clean = refl; spends = spends_nothing a }; whole = e }
 
-  pub all_so_far : (ns : List N) (left : List X) (m : Counts) → left ≡ [] → SoFar ns left m → Stands ns all m
-  all_so_far ns left m e h = subst (λ xs. Stands ns xs m) (sym (append-nil h.done) ∙ ap (λ l. h.done ++ l) (sym e) ∙ h.whole) h.built
+  module _ {m : Counts} (h : SoFar wrong costs Stand all a ns left m) where
+    pub all_so_far : left ≡ [] → Stands wrong costs Stand all a ns all m
+    all_so_far e = subst (λ xs. Stands wrong costs Stand all a ns xs m) (sym (append-nil h.done) ∙ ap (λ l. h.done ++ l) (sym e) ∙ h.whole) h.built
 
-  pub memory_so_far : (ns : List N) (left : List X) (m : Counts) {w : AllocError} (e : BuildError) → e ≡ Memory w → SoFar ns left m → Refuses (flat_map wrong all) (total_cost costs all) a m e
-  memory_so_far ns left m e q h = memory_among wrong costs all a m h.done left e q h.whole h.built.spends
+    pub memory_so_far : {w : AllocError} (e : BuildError) → e ≡ Memory w → Refuses (flat_map wrong all) (total_cost costs all) a m e
+    memory_so_far e q = memory_among wrong costs all a m h.done left e q h.whole h.built.spends
 
-  -- the next of them
-  module _ (x : X) (left rest : List X) (next : left ≡ x ∷ rest) where
-    behind : (done : List X) → done ++ left ≡ all → (done ++ x ∷ []) ++ rest ≡ all
-    behind done w = append_assoc done (x ∷ []) rest ∙ ap (λ l. done ++ l) (sym next) ∙ w
+    -- the next of them
+    module _ {x : X} {rest : List X} (next : left ≡ x ∷ rest) where
+      there : h.done ++ x ∷ rest ≡ all
+      there = ap (λ l. h.done ++ l) (sym next) ∙ h.whole
 
-    pub refused_so_far : (ns : List N) (m b : Counts) (e : BuildError) → SoFar ns left m → Refuses (wrong x) (costs x) m b e → Refuses (flat_map wrong all) (total_cost costs all) a b e
-    refused_so_far ns m b e h r = refuses_among wrong costs all a b h.done x rest m e (ap (λ l. h.done ++ l) (sym next) ∙ h.whole) h.built.spends r
+      behind : (h.done ++ x ∷ []) ++ rest ≡ all
+      behind = append_assoc h.done (x ∷ []) rest ∙ there
 
-    spent : (ns : List N) (m b : Counts) (h : SoFar ns left m) → Spends m b (costs x) → Spends a b (total_cost costs (h.done ++ x ∷ []))
-    spent ns m b h s =
-        spends_same a b _ _ (sym (total_cost-append costs h.done (x ∷ []) ∙ ap (λ c. total_cost costs h.done ⊕ c) (sum_last (costs x))))
-        (spends_append a m b (total_cost costs h.done) (costs x) h.built.spends s)
+      pub refused_so_far : {b : Counts} {e : BuildError} → Refuses (wrong x) (costs x) m b e → Refuses (flat_map wrong all) (total_cost costs all) a b e
+      refused_so_far {b} {e} r = refuses_among wrong costs all a b h.done x rest m e there h.built.spends r
 
-    pub one_more_so_far : (ns new : List N) (m b : Counts) (h : SoFar ns left m) → Stand new (h.done ++ x ∷ []) → wrong x ≡ [] → Spends m b (costs x) → SoFar new rest b
-    one_more_so_far ns new m b h stand right s = record {
-      done = h.done ++ x ∷ [];
-      built = record {
-        stand = stand;
-        clean = flat_map-append wrong h.done (x ∷ []) ∙ (λ i. h.built.clean i ++ (right i ++ []));
-        spends = spent ns m b h s;
-      };
-      whole = behind h.done h.whole;
-    }
+      module _ {b : Counts} (s : Spends m b (costs x)) where
+        spent : Spends a b (total_cost costs (h.done ++ x ∷ []))
+        spent =
+            spends_same a b _ _ (sym (total_cost-append costs h.done (x ∷ []) ∙ ap (λ c. total_cost costs h.done ⊕ c) (sum_last (costs x))))
+            (spends_append a m b (total_cost costs h.done) (costs x) h.built.spends s)
 
-    -- it is built, and then memory is wanted
-    pub memory_past : (ns : List N) (m b : Counts) {w : AllocError} (e : BuildError) → e ≡ Memory w → SoFar ns left m → Spends m b (costs x) → Refuses (flat_map wrong all) (total_cost costs all) a b e
-    memory_past ns m b e q h s = memory_among wrong costs all a b (h.done ++ x ∷ []) rest e q (behind h.done h.whole) (spent ns m b h s)
+        pub one_more_so_far : {new : List N} → Stand new (h.done ++ x ∷ []) → wrong x ≡ [] → SoFar wrong costs Stand all a new rest b
+        one_more_so_far stand right = record {
+          done = h.done ++ x ∷ [];
+          built = record { stand = stand; clean = flat_map-append wrong h.done (x ∷ []) ∙ (λ i. h.built.clean i ++ (right i ++ [])); spends = spent };
+          whole = behind;
+        }
+
+        -- it is built, and then memory is wanted
+        pub memory_past : {w : AllocError} (e : BuildError) → e ≡ Memory w → Refuses (flat_map wrong all) (total_cost costs all) a b e
+        memory_past e q = memory_among wrong costs all a b (h.done ++ x ∷ []) rest e q behind spent

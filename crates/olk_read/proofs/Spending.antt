@@ -89,6 +89,10 @@ refuses_memory {fs} h e p = record { tells = tells_memory fs e p; spends = h }
 pub exit : {T : Type 0} (G : BuildError → Type 0) (r : Result T BuildError) (Q : BuildError → Type 0) → IsErrAnd r Q → ((e : BuildError) → Q e → G e) → IfErr r G
 exit G r Q h k = let p = err_from_is_err_and r h in subst (λ z. IfErr z G) (sym p.1) (k p.0 p.2)
 
+-- and what holds of f, where the error is f
+pub exit_with : {T : Type 0} (G : BuildError → Type 0) (r : Result T BuildError) (f : BuildError) → IsErrAnd r (λ e. e ≡ f) → G f → IfErr r G
+exit_with G r f h k = exit G r _ h (λ e q. subst G (sym q) k)
+
 -- one of the things that are gone through is refused
 module _ {X : Type 0} (f : X → List Fault) (c : X → Cost) (all : List X) (a b : Counts) where
   pub refuses_among : (done : List X) (x : X) (rest : List X) (m : Counts) (e : BuildError) → done ++ x ∷ rest ≡ all → Spends a m (total_cost c done)

@@ -9,13 +9,11 @@ use Rattle.olk_check.proofs.additional_properties.each_declared_or_rest.Goals as
 
 pub returns-then-not-is_accepted : goal.returns-then-not-is_accepted
 returns-then-not-is_accepted g c = all_stop c.loop-name.invariant (name_next c.in-Some.ensures.steps c.as_str.ensures.value)
-    (subst (λ o. Asks c.loop-name.ctx c.is_accepted.new.ctx (declared_or_rest g.N.Means.means (option_copied c.args.additional)
-    (view c.in-Some.value.now) o) false) (c.node_among-next.ensures ∙ ap (lookup_name c.as_str.result.now) c.as_slice-entries.ensures.entries) c.if-not-is_accepted.ensures)
+    (rw (← c.as_slice-entries.ensures.entries, ← c.node_among-next.ensures) c.if-not-is_accepted.ensures)
 
 pub loop-name-preserved : goal.loop-name-preserved
 loop-name-preserved g c = all_go_on c.loop-name.invariant (name_next c.in-Some.ensures.steps c.as_str.ensures.value)
-    (subst (λ o. Asks c.loop-name.ctx c.is_accepted.new.ctx (declared_or_rest g.N.Means.means (option_copied c.args.additional)
-    (view c.in-Some.value.now) o) true) (c.node_among-next.ensures ∙ ap (lookup_name c.as_str.result.now) c.as_slice-entries.ensures.entries) c.if-not-is_accepted.ensures)
+    (rw (← c.as_slice-entries.ensures.entries, ← c.node_among-next.ensures) c.if-not-is_accepted.ensures)
 
 pub returns : goal.returns
 returns g c = all_end c.loop-name.invariant (no_name_next c.in-None.ensures.steps.0)

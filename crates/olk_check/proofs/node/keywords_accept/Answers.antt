@@ -38,11 +38,9 @@ loop-left-smaller g c =
 pub loop-left-preserved : goal.loop-left-preserved
 loop-left-preserved g c =
     elim c.match-first_accept.branch [
-      | in-One w ↦ subst (λ l. AllLeft (λ k. validator_means (kit g.K.Leaf g.R.RegexEngine) g.N.Means.means k (data_of c.args.node)) c.args.keywords.now l c.args.ctx.now c.first_accept.new.ctx)
-          (sym (c.behind_first-left-in-loop-left.ensures ∙ ap (λ r. drop 1 r.now) w.left-is))
+      | in-One w ↦ rw (c.behind_first-left-in-loop-left.ensures ∙ ap (λ r. drop 1 r.now) w.left-is)
           (go_on_behind_one c.loop-left.invariant w.in-One.is c.first_accept.ensures)
-      | in-Two w ↦ subst (λ l. AllLeft (λ k. validator_means (kit g.K.Leaf g.R.RegexEngine) g.N.Means.means k (data_of c.args.node)) c.args.keywords.now l c.args.ctx.now c.first_accept.new.ctx)
-          (sym (c.behind_first-left-in-loop-left.ensures ∙ ap (λ r. drop 1 r.now) w.left-is ∙ ap (drop 1) w.behind_first-left.ensures))
+      | in-Two w ↦ rw (c.behind_first-left-in-loop-left.ensures ∙ ap (λ r. drop 1 r.now) w.left-is ∙ ap (drop 1) w.behind_first-left.ensures)
           (go_on_behind_two c.loop-left.invariant w.in-Two.is c.first_accept.ensures)
     ]
 

@@ -15,11 +15,9 @@ returns-then-found-clause-count g c = count_several c.loop-schema.invariant (nex
 
 pub loop-schema-preserved : goal.loop-schema-preserved
 loop-schema-preserved g c = elim c.if-is_valid.branch [
-  | goal.then-is_valid+else-found w ↦ subst (λ b. OneLeft (λ n. g.N.Means.means n (data_of c.args.node)) c.args.schemas.now.items
-      (drop (c.loop-schema.schema-index + 1) c.args.schemas.now.items) b c.args.ctx.now c.is_valid.new.ctx) (sym w.found-is)
+  | goal.then-is_valid+else-found w ↦ rw w.found-is
       (one_found c.loop-schema.invariant (next_at c.deref-schema-items.ensures.value c.schema-item.is c.loop-schema-test.true) w.if-found.false w.if-is_valid.ensures)
-  | goal.else-is_valid w ↦ subst (λ b. OneLeft (λ n. g.N.Means.means n (data_of c.args.node)) c.args.schemas.now.items
-      (drop (c.loop-schema.schema-index + 1) c.args.schemas.now.items) b c.args.ctx.now c.is_valid.new.ctx) (sym w.found-is)
+  | goal.else-is_valid w ↦ rw w.found-is
       (one_refused c.loop-schema.invariant (next_at c.deref-schema-items.ensures.value c.schema-item.is c.loop-schema-test.true) w.if-is_valid.ensures)
 ]
 

@@ -1,3 +1,4 @@
+use Rattle.olk_check.proofs.Asked.{asks_as}
 use Rattle.std.proofs.Common.{sym, ap, subst, ◌∙◌}
 use Rattle.serde_json.specs.View.{members_view}
 use Rattle.olk_spec.specs.Schemas.{at}
@@ -11,8 +12,6 @@ use Rattle.olk_check.proofs.pattern_properties.matched_accepted.Goals as goal
 pub returns-in-Exact : goal.returns-in-Exact
 returns-in-Exact g c =
     let v = object_of c.args.members.now.entries in
-    subst (λ q. Asks c.args.ctx.now c.named_accepted.new.ctx q c.named_accepted.result)
-    (ap (λ n. every (g.N.Means.means c.args.subschema.now) (at n v)) c.as_str.ensures.value
+    asks_as (ap (λ n. every (g.N.Means.means c.args.subschema.now) (at n v)) c.as_str.ensures.value
     ∙ exact_mean g.R.RegexEngine.answers g.R.RegexEngine.costs g.N.Means.means c.args.subschema.now (members_view c.args.members.now.entries) c.in-Exact.name c.law_of_names.ensures
-    ∙ ap (λ p. matched_mean g.R.RegexEngine.answers g.R.RegexEngine.costs g.N.Means.means p c.args.subschema.now v) (sym c.in-Exact.is))
-    c.named_accepted.ensures
+    ∙ ap (λ p. matched_mean g.R.RegexEngine.answers g.R.RegexEngine.costs g.N.Means.means p c.args.subschema.now v) (sym c.in-Exact.is)) c.named_accepted.ensures

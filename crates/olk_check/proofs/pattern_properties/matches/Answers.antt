@@ -6,8 +6,7 @@ use Rattle.olk_check.proofs.Matchers.{match_answers, test_answers}
 use Rattle.olk_check.proofs.pattern_properties.matches.Goals as goal
 
 pub returns-in-Exact : goal.returns-in-Exact
-returns-in-Exact g c = subst (λ p. Asks c.args.ctx.now c.args.ctx.now (match_question g.R.RegexEngine.answers g.R.RegexEngine.costs p c.args.name.now) c.is_exactly.result) (sym c.in-Exact.is)
-    (test_answers c.args.ctx.now (bytes_eq (string_bytes c.in-Exact.exact) c.args.name.now) c.is_exactly.result (c.is_exactly.ensures ∙ ap (λ s. bytes_eq s c.args.name.now) c.as_str.ensures.value))
+returns-in-Exact g c = rw c.in-Exact.is (test_answers c.args.ctx.now (bytes_eq (string_bytes c.in-Exact.exact) c.args.name.now) c.is_exactly.result (c.is_exactly.ensures ∙ ap (λ s. bytes_eq s c.args.name.now) c.as_str.ensures.value))
 
 pub returns-in_default : goal.returns-in_default
 returns-in_default g c =

@@ -3,16 +3,12 @@ use Rattle.serde_json.specs.View.{view}
 use Rattle.olk_tree.specs.Questions.{every}
 use Rattle.olk_tree.proofs.Questions.{both_last}
 use Rattle.olk_check.specs.Asks.{Asks}
-use Rattle.olk_check.proofs.Asked.{unasked}
+use Rattle.olk_check.proofs.Asked.{asks_as, unasked}
 use Rattle.olk_check.proofs.pattern_properties.named_accepted.Goals as goal
 
 pub returns-in-Some : goal.returns-in-Some
-returns-in-Some g c = subst (λ q. Asks c.args.ctx.now c.is_valid.new.ctx q c.is_valid.result)
-    (sym (both_last (g.N.Means.means c.args.subschema.now (view c.in-Some.value.now)))
-    ∙ ap (λ o. every (g.N.Means.means c.args.subschema.now) (option_to_list o)) (sym (ap (option_map (λ v. view v.now)) c.in-Some.is) ∙ c.member.ensures))
-    c.is_valid.ensures
+returns-in-Some g c = asks_as (sym (both_last (g.N.Means.means c.args.subschema.now (view c.in-Some.value.now)))
+    ∙ ap (λ o. every (g.N.Means.means c.args.subschema.now) (option_to_list o)) (sym (ap (option_map (λ v. view v.now)) c.in-Some.is) ∙ c.member.ensures)) c.is_valid.ensures
 
 pub returns-in-None : goal.returns-in-None
-returns-in-None g c = subst (λ q. Asks c.args.ctx.now c.args.ctx.now q true)
-    (ap (λ o. every (g.N.Means.means c.args.subschema.now) (option_to_list o)) (sym (ap (option_map (λ v. view v.now)) c.in-None.is) ∙ c.member.ensures))
-    (unasked c.args.ctx.now true)
+returns-in-None g c = asks_as (ap (λ o. every (g.N.Means.means c.args.subschema.now) (option_to_list o)) (sym (ap (option_map (λ v. view v.now)) c.in-None.is) ∙ c.member.ensures)) (unasked c.args.ctx.now true)

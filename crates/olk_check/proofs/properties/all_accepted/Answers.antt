@@ -1,3 +1,4 @@
+use Rattle.olk_check.proofs.Asked.{asks_as}
 use Rattle.std.proofs.Common.{subst}
 use Rattle.serde_json.specs.View.{members_view}
 use Rattle.olk_tree.proofs.Members_met.{means_of_members}
@@ -8,6 +9,4 @@ use Rattle.olk_check.proofs.properties.all_accepted.Goals as goal
 pub returns-then-len : goal.returns-then-len
 returns-then-len g c =
     let declared = c.args.properties.now in
-    subst (λ q. Asks c.args.ctx.now c.each_member_accepted.new.ctx q c.each_member_accepted.result)
-    (means_of_members (members_view c.args.members.now.entries) g.N.Means.means declared (walks_agree declared c.args.members.now.entries c.len-2.ensures.ordered c.len.ensures.ordered))
-    c.each_member_accepted.ensures
+    asks_as (means_of_members (members_view c.args.members.now.entries) g.N.Means.means declared (walks_agree declared c.args.members.now.entries c.len-2.ensures.ordered c.len.ensures.ordered)) c.each_member_accepted.ensures

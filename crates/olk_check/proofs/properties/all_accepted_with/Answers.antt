@@ -15,18 +15,12 @@ use Rattle.olk_check.proofs.properties.all_accepted_with.Goals as goal
 pub returns-then-len : goal.returns-then-len
 returns-then-len g c =
     let declared = c.args.properties.now in
-    subst (λ q. Asks c.args.ctx.now c.each_member_accepted_with.new.ctx
-    (both q (always (is_empty (missing (c.args.name.now ∷ []) (object_of c.args.members.now.entries))))) c.each_member_accepted_with.result)
-    (means_of_members (members_view c.args.members.now.entries) g.N.Means.means declared (walks_agree declared c.args.members.now.entries c.len-2.ensures.ordered c.len.ensures.ordered))
-    c.each_member_accepted_with.ensures
+    rw (← means_of_members (members_view c.args.members.now.entries) g.N.Means.means declared (walks_agree declared c.args.members.now.entries c.len-2.ensures.ordered c.len.ensures.ordered)) c.each_member_accepted_with.ensures
 
 pub returns-then-is_present : goal.returns-then-is_present
 returns-then-is_present g c = both_where c.each_name_accepted.ensures (sym (one_met c.args.name.now c.is_present.ensures) ∙ c.if-is_present.true)
 
 pub returns-else-is_present : goal.returns-else-is_present
 returns-else-is_present g c =
-    subst (λ r. Asks c.args.ctx.now c.args.ctx.now (both (properties_mean g.N.Means.means
-    c.args.properties.now (object_of c.args.members.now.entries))
-    (always (is_empty (missing (c.args.name.now ∷ []) (object_of c.args.members.now.entries))))) r)
-    (sym c.if-is_present.false)
+    rw c.if-is_present.false
     (refused_where c.args.ctx.now (properties_mean g.N.Means.means c.args.properties.now (object_of c.args.members.now.entries)) (sym (one_met c.args.name.now c.is_present.ensures) ∙ c.if-is_present.false))

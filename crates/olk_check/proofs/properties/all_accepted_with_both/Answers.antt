@@ -12,7 +12,4 @@ use Rattle.olk_check.proofs.properties.all_accepted_with_both.Goals as goal
 pub returns-then-len : goal.returns-then-len
 returns-then-len g c =
     let declared = c.args.properties.now in
-    subst (λ q. Asks c.args.ctx.now c.each_member_accepted_with_both.new.ctx
-    (both (always (is_empty (missing (c.args.first.now ∷ c.args.second.now ∷ []) (object_of c.args.members.now.entries)))) q) c.each_member_accepted_with_both.result)
-    (means_of_members (members_view c.args.members.now.entries) g.N.Means.means declared (walks_agree declared c.args.members.now.entries c.len-2.ensures.ordered c.len.ensures.ordered))
-    c.each_member_accepted_with_both.ensures
+    rw (← means_of_members (members_view c.args.members.now.entries) g.N.Means.means declared (walks_agree declared c.args.members.now.entries c.len-2.ensures.ordered c.len.ensures.ordered)) c.each_member_accepted_with_both.ensures

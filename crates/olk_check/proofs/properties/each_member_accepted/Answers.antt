@@ -9,13 +9,11 @@ use Rattle.olk_check.proofs.properties.each_member_accepted.Goals as goal
 
 pub returns-then-not-accepted_if_declared : goal.returns-then-not-accepted_if_declared
 returns-then-not-accepted_if_declared g c = all_stop c.loop-name.invariant (name_next c.in-Some.ensures.steps c.as_str.ensures.value)
-    (subst (λ o. Asks c.loop-name.ctx c.accepted_if_declared.new.ctx (every (λ n. g.N.Means.means n (view c.in-Some.value.now))
-    (option_to_list o)) false) (c.node_among-next.ensures ∙ ap (lookup_name c.as_str.result.now) c.as_slice-entries.ensures.entries) c.if-not-accepted_if_declared.ensures)
+    (rw (← c.as_slice-entries.ensures.entries, ← c.node_among-next.ensures) c.if-not-accepted_if_declared.ensures)
 
 pub loop-name-preserved : goal.loop-name-preserved
 loop-name-preserved g c = all_go_on c.loop-name.invariant (name_next c.in-Some.ensures.steps c.as_str.ensures.value)
-    (subst (λ o. Asks c.loop-name.ctx c.accepted_if_declared.new.ctx (every (λ n. g.N.Means.means n (view c.in-Some.value.now))
-    (option_to_list o)) true) (c.node_among-next.ensures ∙ ap (lookup_name c.as_str.result.now) c.as_slice-entries.ensures.entries) c.if-not-accepted_if_declared.ensures)
+    (rw (← c.as_slice-entries.ensures.entries, ← c.node_among-next.ensures) c.if-not-accepted_if_declared.ensures)
 
 pub returns : goal.returns
 returns g c = all_end c.loop-name.invariant (no_name_next c.in-None.ensures.steps.0)

@@ -14,24 +14,20 @@ pub returns-then-not-accepted_if_present : goal.returns-then-not-accepted_if_pre
 returns-then-not-accepted_if_present g c =
     let es = c.as_slice-entry-items.result.now in
     let next = entries_more (drop c.loop-entry.entry-index es) (drop (c.loop-entry.entry-index + 1) es) c.entry-item.result (next_at refl c.entry-item.is c.loop-entry-test.true) c.as_str.result.now c.as_str.ensures in
-    subst (λ l. Asks c.args.ctx.now c.accepted_if_present.new.ctx (every (λ e. every (g.N.Means.means e.1) (at e.0 (object_of c.args.members.now.entries))) l) false)
-    c.as_slice-entry-items.ensures.entries
+    rw (← c.as_slice-entry-items.ensures.entries)
     (all_stop c.loop-entry.invariant next
-    (subst (λ o. Asks c.loop-entry.ctx c.accepted_if_present.new.ctx (every (g.N.Means.means c.entry-item.result.node) (option_to_list o)) false)
-    c.member.ensures c.if-not-accepted_if_present.ensures))
+    (rw (← c.member.ensures) c.if-not-accepted_if_present.ensures))
 
 pub loop-entry-preserved : goal.loop-entry-preserved
 loop-entry-preserved g c =
     let es = c.as_slice-entry-items.result.now in
     let next = entries_more (drop c.loop-entry.entry-index es) (drop (c.loop-entry.entry-index + 1) es) c.entry-item.result (next_at refl c.entry-item.is c.loop-entry-test.true) c.as_str.result.now c.as_str.ensures in
     all_go_on c.loop-entry.invariant next
-    (subst (λ o. Asks c.loop-entry.ctx c.accepted_if_present.new.ctx (every (g.N.Means.means c.entry-item.result.node) (option_to_list o)) true)
-    c.member.ensures c.if-not-accepted_if_present.ensures)
+    (rw (← c.member.ensures) c.if-not-accepted_if_present.ensures)
 
 pub returns : goal.returns
 returns g c =
     let es = c.as_slice-entry-items.result.now in
     let none : drop c.loop-entry.entry-index es ≡ [] = drop_all c.loop-entry.entry-index es c.loop-entry-test.false in
-    subst (λ l. Asks c.args.ctx.now c.loop-entry.ctx (every (λ e. every (g.N.Means.means e.1) (at e.0 (object_of c.args.members.now.entries))) l) true)
-    c.as_slice-entry-items.ensures.entries
+    rw (← c.as_slice-entry-items.ensures.entries)
     (all_end c.loop-entry.invariant (ap entries_are none))

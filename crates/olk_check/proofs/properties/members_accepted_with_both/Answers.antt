@@ -1,3 +1,4 @@
+use Rattle.olk_check.proofs.Asked.{asks_as}
 use Rattle.std.proofs.Common.{[], ◌∷◌, subst}
 use Rattle.olk_spec.specs.Names.{is_empty}
 use Rattle.olk_spec.specs.Accepts.{missing}
@@ -12,6 +13,4 @@ use Rattle.olk_check.proofs.properties.members_accepted_with_both.Goals as goal
 pub returns : goal.returns
 returns g c =
     let v = object_of c.args.members.now.entries in
-    answered_one c.one_if.ensures (subst (λ q. Asks c.args.ctx.now c.all_accepted_with_both.new.ctx q c.all_accepted_with_both.result)
-    (λ i. both (always (is_empty (missing (c.as_str-first.ensures.value i ∷ c.as_str-second.ensures.value i ∷ []) v))) (properties_mean g.N.Means.means (named c.args.keyword.now.properties) v))
-    c.all_accepted_with_both.ensures)
+    answered_one c.one_if.ensures (asks_as (λ i. both (always (is_empty (missing (c.as_str-first.ensures.value i ∷ c.as_str-second.ensures.value i ∷ []) v))) (properties_mean g.N.Means.means (named c.args.keyword.now.properties) v)) c.all_accepted_with_both.ensures)

@@ -3,10 +3,9 @@ use Rattle.olk_base.specs.Nodes.{data_of}
 use Rattle.olk_tree.specs.Maps.{mapped}
 use Rattle.olk_tree.proofs.Members_met.{means_nothing}
 use Rattle.olk_check.specs.Asks.{Asks}
-use Rattle.olk_check.proofs.Asked.{unasked}
+use Rattle.olk_check.proofs.Asked.{asks_as, unasked}
 use Rattle.olk_check.proofs.properties.properties_accept.Goals as goal
 
 pub returns-in-None : goal.returns-in-None
 returns-in-None g c =
-    subst (λ q. Asks c.args.ctx.now c.args.ctx.now q true) (sym (means_nothing (mapped c.args.keyword.now.properties) (data_of c.args.node) c.in-None.ensures g.N.Means.means))
-    (unasked c.args.ctx.now true)
+    asks_as (sym (means_nothing (mapped c.args.keyword.now.properties) (data_of c.args.node) c.in-None.ensures g.N.Means.means)) (unasked c.args.ctx.now true)

@@ -10,15 +10,13 @@ use Rattle.olk_tree.proofs.Questions.{both_last}
 use Rattle.olk_tree.proofs.Members_met.{means_nothing, object_is}
 use Rattle.olk_check.specs.Asks.{Asks}
 use Rattle.olk_check.specs.Together.{AsksOne}
-use Rattle.olk_check.proofs.Asked.{unasked}
+use Rattle.olk_check.proofs.Asked.{asks_as, unasked}
 use Rattle.olk_check.proofs.Missing.{lacks_nothing}
 use Rattle.olk_check.proofs.properties.properties_with_required2_accept.Goals as goal
 
 pub returns-in-None : goal.returns-in-None
-returns-in-None g c = subst (λ q. Asks c.args.ctx.now c.args.ctx.now q true)
-    (sym ((λ i. both (always (lacks_nothing (two_texts c.args.keyword.now.first c.args.keyword.now.second) (data_of c.args.node) c.in-None.ensures i))
-    (means_nothing (named c.args.keyword.now.properties) (data_of c.args.node) c.in-None.ensures g.N.Means.means i)) ∙ both_last (always true)))
-    (unasked c.args.ctx.now true)
+returns-in-None g c = asks_as (sym ((λ i. both (always (lacks_nothing (two_texts c.args.keyword.now.first c.args.keyword.now.second) (data_of c.args.node) c.in-None.ensures i))
+    (means_nothing (named c.args.keyword.now.properties) (data_of c.args.node) c.in-None.ensures g.N.Means.means i)) ∙ both_last (always true))) (unasked c.args.ctx.now true)
 
 pub returns-in-Some : goal.returns-in-Some
 returns-in-Some g c =

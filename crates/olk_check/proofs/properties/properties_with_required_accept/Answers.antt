@@ -5,12 +5,10 @@ use Rattle.olk_tree.specs.Questions.{always, both}
 use Rattle.olk_tree.proofs.Questions.{both_last}
 use Rattle.olk_tree.proofs.Members_met.{means_nothing}
 use Rattle.olk_check.specs.Asks.{Asks}
-use Rattle.olk_check.proofs.Asked.{unasked}
+use Rattle.olk_check.proofs.Asked.{asks_as, unasked}
 use Rattle.olk_check.proofs.Missing.{lacks_nothing}
 use Rattle.olk_check.proofs.properties.properties_with_required_accept.Goals as goal
 
 pub returns-in-None : goal.returns-in-None
-returns-in-None g c = subst (λ q. Asks c.args.ctx.now c.args.ctx.now q true)
-    (sym ((λ i. both (means_nothing (mapped c.args.keyword.now.properties) (data_of c.args.node) c.in-None.ensures g.N.Means.means i)
-    (always (lacks_nothing (c.args.name.now ∷ []) (data_of c.args.node) c.in-None.ensures i))) ∙ both_last (always true)))
-    (unasked c.args.ctx.now true)
+returns-in-None g c = asks_as (sym ((λ i. both (means_nothing (mapped c.args.keyword.now.properties) (data_of c.args.node) c.in-None.ensures g.N.Means.means i)
+    (always (lacks_nothing (c.args.name.now ∷ []) (data_of c.args.node) c.in-None.ensures i))) ∙ both_last (always true))) (unasked c.args.ctx.now true)

@@ -5,16 +5,12 @@ use Rattle.olk_base.specs.Nodes.{data_of}
 use Rattle.olk_tree.specs.Questions.{every}
 use Rattle.olk_tree.proofs.Questions.{both_last}
 use Rattle.olk_check.specs.Asks.{Asks}
-use Rattle.olk_check.proofs.Asked.{unasked}
+use Rattle.olk_check.proofs.Asked.{asks_as, unasked}
 use Rattle.olk_check.proofs.property_dependencies.choice_accepts.Goals as goal
 
 pub returns-in-Some : goal.returns-in-Some
-returns-in-Some g c = subst (λ q. Asks c.args.ctx.now c.is_valid.new.ctx q c.is_valid.result)
-    (sym (both_last (g.N.Means.means c.in-Some.dependency.now (data_of c.args.object)))
-    ∙ ap (every (λ n. g.N.Means.means n (data_of c.args.object))) (sym (ap (λ o. option_to_list (option_copied o)) c.in-Some.is) ∙ c.chosen_by.ensures))
-    c.is_valid.ensures
+returns-in-Some g c = asks_as (sym (both_last (g.N.Means.means c.in-Some.dependency.now (data_of c.args.object)))
+    ∙ ap (every (λ n. g.N.Means.means n (data_of c.args.object))) (sym (ap (λ o. option_to_list (option_copied o)) c.in-Some.is) ∙ c.chosen_by.ensures)) c.is_valid.ensures
 
 pub returns-in-None : goal.returns-in-None
-returns-in-None g c = subst (λ q. Asks c.args.ctx.now c.args.ctx.now q true)
-    (ap (every (λ n. g.N.Means.means n (data_of c.args.object))) (sym (ap (λ o. option_to_list (option_copied o)) c.in-None.is) ∙ c.chosen_by.ensures))
-    (unasked c.args.ctx.now true)
+returns-in-None g c = asks_as (ap (every (λ n. g.N.Means.means n (data_of c.args.object))) (sym (ap (λ o. option_to_list (option_copied o)) c.in-None.is) ∙ c.chosen_by.ensures)) (unasked c.args.ctx.now true)

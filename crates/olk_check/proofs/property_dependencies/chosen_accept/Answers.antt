@@ -1,3 +1,4 @@
+use Rattle.olk_check.proofs.Asked.{asks_as}
 use Rattle.std.proofs.Common.{true, false, subst}
 use Rattle.serde_json.specs.View.{members_view}
 use Rattle.olk_base.specs.Nodes.{data_of}
@@ -8,14 +9,10 @@ use Rattle.olk_check.proofs.Walks.{all_go_on, all_stop, all_end}
 use Rattle.olk_check.proofs.property_dependencies.chosen_accept.Goals as goal
 
 pub returns-then-not-choice_accepts : goal.returns-then-not-choice_accepts
-returns-then-not-choice_accepts g c = subst (λ q. Asks c.args.ctx.now c.choice_accepts.new.ctx q false)
-    (every_chosen (members_view c.args.members.now.entries) (named c.args.dependencies.now) c.into_iter-choices-iterator.ensures.into_iter_gives c.declared_members-choices-items.ensures.by_names (data_of c.args.object) c.requires (λ n. g.N.Means.means n (data_of c.args.object)))
-    (all_stop c.loop-choices.invariant c.in-Some.ensures.steps c.if-not-choice_accepts.ensures)
+returns-then-not-choice_accepts g c = asks_as (every_chosen (members_view c.args.members.now.entries) (named c.args.dependencies.now) c.into_iter-choices-iterator.ensures.into_iter_gives c.declared_members-choices-items.ensures.by_names (data_of c.args.object) c.requires (λ n. g.N.Means.means n (data_of c.args.object))) (all_stop c.loop-choices.invariant c.in-Some.ensures.steps c.if-not-choice_accepts.ensures)
 
 pub loop-choices-preserved : goal.loop-choices-preserved
 loop-choices-preserved g c = all_go_on c.loop-choices.invariant c.in-Some.ensures.steps c.if-not-choice_accepts.ensures
 
 pub returns : goal.returns
-returns g c = subst (λ q. Asks c.args.ctx.now c.loop-choices.ctx q true)
-    (every_chosen (members_view c.args.members.now.entries) (named c.args.dependencies.now) c.into_iter-choices-iterator.ensures.into_iter_gives c.declared_members-choices-items.ensures.by_names (data_of c.args.object) c.requires (λ n. g.N.Means.means n (data_of c.args.object)))
-    (all_end c.loop-choices.invariant c.in-None.ensures.steps)
+returns g c = asks_as (every_chosen (members_view c.args.members.now.entries) (named c.args.dependencies.now) c.into_iter-choices-iterator.ensures.into_iter_gives c.declared_members-choices-items.ensures.by_names (data_of c.args.object) c.requires (λ n. g.N.Means.means n (data_of c.args.object))) (all_end c.loop-choices.invariant c.in-None.ensures.steps)

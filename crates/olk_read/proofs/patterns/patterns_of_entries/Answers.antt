@@ -1,7 +1,5 @@
-use Rattle.std.proofs.Common.{ap}
-use Rattle.serde_json.specs.View.{members_view}
-use Rattle.olk_spec.specs.Schemas.{listed}
-use Rattle.olk_read.proofs.Spending.{exit, refuses_memory, within_nothing}
+use Rattle.olk_read.proofs.Spending.{exit, exit_with, refuses_memory, within_nothing}
+use Rattle.olk_read.proofs.Entries.{listed_alike}
 use Rattle.olk_read.proofs.PatternsSoFar.{no_patterns, patterns_read, pattern_refused, one_more_pattern, pattern_memory}
 use Rattle.olk_read.proofs.patterns.patterns_of_entries.Goals as goal
 
@@ -11,19 +9,19 @@ returns-in_err-patterns-clause-refused g c = exit _ _ _ c.from_residual.ensures.
 pub loop-pattern-init : goal.loop-pattern-init
 loop-pattern-init g c =
     record {
-      so_far = no_patterns c.in_ok-patterns.ensures.items (ap (λ l. listed (members_view l)) c.into_iter-pattern-iterator.ensures.into_iter_gives.0);
+      so_far = no_patterns c.in_ok-patterns.ensures.items (listed_alike c.into_iter-pattern-iterator.ensures.into_iter_gives.0);
       next = tt;
       ends = tt;
     }
 
 pub returns-in_err-compiled-clause-refused : goal.returns-in_err-compiled-clause-refused
 returns-in_err-compiled-clause-refused g c =
-    exit _ _ _ c.from_residual-in_err-compiled.ensures.1 (pattern_refused c.loop-pattern.invariant.so_far (ap (λ l. listed (members_view l)) c.in-Some.ensures.steps) c.in_err-compiled.ensures.refused)
+    exit_with _ _ _ c.from_residual-in_err-compiled.ensures.1 (pattern_refused c.loop-pattern.invariant.so_far (listed_alike c.in-Some.ensures.steps) c.in_err-compiled.ensures.refused)
 
 pub loop-pattern-preserved : goal.loop-pattern-preserved
 loop-pattern-preserved g c =
     record {
-      so_far = one_more_pattern c.loop-pattern.invariant.so_far (ap (λ l. listed (members_view l)) c.in-Some.ensures.steps)
+      so_far = one_more_pattern c.loop-pattern.invariant.so_far (listed_alike c.in-Some.ensures.steps)
           c.in_ok-compiled.ensures.right c.in_ok-compiled.ensures.spends c.in_ok-compiled.ensures.pattern c.in_ok-append.ensures.items;
       next = tt;
       ends = tt;
@@ -31,8 +29,8 @@ loop-pattern-preserved g c =
 
 pub returns-in_err-append-clause-refused : goal.returns-in_err-append-clause-refused
 returns-in_err-append-clause-refused g c =
-    exit _ _ _ c.from_residual-in_err-append.ensures.1 (pattern_memory c.loop-pattern.invariant.so_far (ap (λ l. listed (members_view l)) c.in-Some.ensures.steps)
+    exit _ _ _ c.from_residual-in_err-append.ensures.1 (pattern_memory c.loop-pattern.invariant.so_far (listed_alike c.in-Some.ensures.steps)
     c.in_ok-compiled.ensures.right c.in_ok-compiled.ensures.spends)
 
 pub returns-clause-read : goal.returns-clause-read
-returns-clause-read g c = patterns_read c.loop-pattern.invariant.so_far (ap (λ l. listed (members_view l)) c.in-None.ensures.steps.0)
+returns-clause-read g c = patterns_read c.loop-pattern.invariant.so_far (listed_alike c.in-None.ensures.steps.0)

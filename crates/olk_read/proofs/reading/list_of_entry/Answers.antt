@@ -1,23 +1,20 @@
 use Rattle.std.specs.Prelude.{cond, Some, None}
-use Rattle.std.proofs.Common.{ap, ◌∙◌, sym, subst}
+use Rattle.std.proofs.Common.{ap, ◌∙◌, sym}
 use Rattle.std.proofs.lemmas.Result.{IfOk-from_err}
 use Rattle.serde_json.specs.View.{view}
 use Rattle.olk_spec.specs.Schemas.{texts}
 use Rattle.olk_spec.specs.Malformed.{not_a_text}
 use Rattle.olk_read.specs.Lists.{list_of}
-use Rattle.olk_read.specs.Refusing.{TellsOneOf}
-use Rattle.olk_read.proofs.Spending.{exit}
+use Rattle.olk_read.proofs.Spending.{exit_with}
 use Rattle.olk_read.proofs.Shapes.{no_array, view_of_array}
 use Rattle.olk_read.proofs.Read.{no_text_missed}
 use Rattle.olk_read.proofs.reading.list_of_entry.Goals as goal
 
 pub returns-in_err-texts_of_items : goal.returns-in_err-texts_of_items
 returns-in_err-texts_of_items c = record {
-  list = IfOk-from_err c.from_residual.result _ c.from_residual.ensures.0;
-  texts = IfOk-from_err c.from_residual.result _ c.from_residual.ensures.0;
-  refused =
-      exit _ _ _ c.from_residual.ensures.1 (λ e q. subst (λ d. TellsOneOf (not_a_text d c.args.location.now) e) (sym (view_of_array c.args.value.now c.in-Array.items c.in-Array.is))
-      (subst (TellsOneOf _) (sym q) c.in_err-texts_of_items.ensures.refused));
+  list = IfOk-from_err _ _ c.from_residual.ensures.0;
+  texts = IfOk-from_err _ _ c.from_residual.ensures.0;
+  refused = exit_with _ _ _ c.from_residual.ensures.1 (rw (view_of_array c.args.value.now c.in-Array.items c.in-Array.is) c.in_err-texts_of_items.ensures.refused);
 }
 
 pub returns : goal.returns

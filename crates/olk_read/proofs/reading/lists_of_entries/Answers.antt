@@ -1,6 +1,4 @@
-use Rattle.std.proofs.Common.{sym, subst}
-use Rattle.olk_read.specs.Refusing.{TellsOneOf}
-use Rattle.olk_read.proofs.Spending.{exit}
+use Rattle.olk_read.proofs.Spending.{exit_with}
 use Rattle.olk_read.proofs.Entries.{none_so_far, one_more_entry, entry_refused, entries_shown, entries_right}
 use Rattle.olk_read.proofs.reading.lists_of_entries.Goals as goal
 
@@ -12,7 +10,7 @@ loop-value-preserved c = one_more_entry c.loop-value.invariant c.in-Some.ensures
 
 pub returns-in_err-list-clause-refused : goal.returns-in_err-list-clause-refused
 returns-in_err-list-clause-refused c =
-    exit _ _ _ c.from_residual.ensures.1 (λ e q. entry_refused c.loop-value.invariant c.in-Some.ensures.steps e (subst (TellsOneOf _) (sym q) c.in_err-list.ensures.refused))
+    exit_with _ _ _ c.from_residual.ensures.1 (entry_refused c.loop-value.invariant c.in-Some.ensures.steps _ c.in_err-list.ensures.refused)
 
 pub returns-clause-lists : goal.returns-clause-lists
 returns-clause-lists c = entries_shown c.loop-value.invariant c.in-None.ensures.steps.0

@@ -1,22 +1,13 @@
-use Rattle.std.proofs.Common.{sym, subst}
-use Rattle.serde_json.specs.View.{view}
-use Rattle.olk_spec.specs.Schemas.{members}
-use Rattle.olk_spec.specs.Malformed.{unless_object}
-use Rattle.olk_read.specs.Lists.{list_faults}
-use Rattle.olk_read.specs.Refusing.{TellsOneOf}
-use Rattle.olk_read.proofs.Spending.{exit, tells_left, tells_memory, tells_right}
+use Rattle.olk_read.proofs.Spending.{exit, exit_with, tells_left, tells_memory}
 use Rattle.olk_read.proofs.reading.lists_of_object.Goals as goal
 
 pub returns-in_err-lists-clause-refused : goal.returns-in_err-lists-clause-refused
 returns-in_err-lists-clause-refused c =
-    exit _ _ _ c.from_residual-in_err-lists.ensures.1 (λ e q. tells_right (unless_object (view c.args.value.now) c.args.location.now)
-    (list_faults c.args.location.now (members (view c.args.value.now))) e
-    (subst (λ d. TellsOneOf (list_faults c.args.location.now (members d)) e) (sym c.in_ok-entries.ensures.object) (subst (TellsOneOf _) (sym q) c.in_err-lists.ensures.refused)))
+    exit_with _ _ _ c.from_residual-in_err-lists.ensures.1 (rw c.in_ok-entries.ensures.object c.in_err-lists.ensures.refused)
 
 pub returns-in_err-entries-clause-refused : goal.returns-in_err-entries-clause-refused
 returns-in_err-entries-clause-refused c =
-    exit _ _ _ c.from_residual.ensures.1 (λ e q. tells_left (unless_object (view c.args.value.now) c.args.location.now)
-    (list_faults c.args.location.now (members (view c.args.value.now))) e (subst (TellsOneOf _) (sym q) c.in_err-entries.ensures.refused))
+    exit_with _ _ _ c.from_residual.ensures.1 (tells_left _ _ _ c.in_err-entries.ensures.refused)
 
 pub returns-in_err-keys-clause-refused : goal.returns-in_err-keys-clause-refused
 returns-in_err-keys-clause-refused c = exit _ _ _ c.from_residual-in_err-keys.ensures.1 (tells_memory _)

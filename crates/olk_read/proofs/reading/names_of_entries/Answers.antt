@@ -1,8 +1,4 @@
-use Rattle.std.proofs.Common.{◌≡◌, [], sym, subst}
-use Rattle.serde_json.specs.View.{view}
-use Rattle.olk_spec.specs.Malformed.{name_list_refusals}
-use Rattle.olk_read.specs.Refusing.{TellsOneOf}
-use Rattle.olk_read.proofs.Spending.{exit}
+use Rattle.olk_read.proofs.Spending.{exit_with}
 use Rattle.olk_read.proofs.Entries.{none_so_far, one_more_entry, entry_refused, entries_shown, entries_right}
 use Rattle.olk_read.proofs.reading.names_of_entries.Goals as goal
 
@@ -12,12 +8,11 @@ loop-key-init c = none_so_far c.new-required.ensures.items c.into_iter-key-itera
 pub loop-key-preserved : goal.loop-key-preserved
 loop-key-preserved c =
     one_more_entry c.loop-key.invariant c.in-Some.ensures.steps c.in_ok-append.ensures.items c.in_ok-names.ensures.names
-    (subst (λ n. name_list_refusals n (view c.in-Some.value.now) c.args.location.now ≡ []) c.as_str.ensures.value c.in_ok-names.ensures.right)
+    (rw (← c.as_str.ensures.value) c.in_ok-names.ensures.right)
 
 pub returns-in_err-names-clause-refused : goal.returns-in_err-names-clause-refused
 returns-in_err-names-clause-refused c =
-    exit _ _ _ c.from_residual.ensures.1 (λ e q. entry_refused c.loop-key.invariant c.in-Some.ensures.steps e
-    (subst (λ n. TellsOneOf (name_list_refusals n (view c.in-Some.value.now) c.args.location.now) e) c.as_str.ensures.value (subst (TellsOneOf _) (sym q) c.in_err-names.ensures.refused)))
+    exit_with _ _ _ c.from_residual.ensures.1 (entry_refused c.loop-key.invariant c.in-Some.ensures.steps _ (rw (← c.as_str.ensures.value) c.in_err-names.ensures.refused))
 
 pub returns-clause-names : goal.returns-clause-names
 returns-clause-names c = entries_shown c.loop-key.invariant c.in-None.ensures.steps.0

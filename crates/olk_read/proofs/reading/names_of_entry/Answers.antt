@@ -1,43 +1,40 @@
-use mathlib.Core.Path.{subst₂}
-use Rattle.std.proofs.Common.{[], ◌∷◌, ap, ◌∙◌, sym, subst}
+use Rattle.std.proofs.Common.{ap, ◌∙◌, sym}
 use Rattle.std.proofs.lemmas.Result.{IfOk-from_err, IfOk-weaker, IfErr-weaker}
 use Rattle.serde_json.specs.View.{view, items_view}
-use Rattle.olk_spec.specs.Faults.{fault}
 use Rattle.olk_spec.specs.Schemas.{texts_in}
-use Rattle.olk_spec.specs.Malformed.{unless_array, has_repeat}
+use Rattle.olk_spec.specs.Malformed.{has_repeat}
 use Rattle.olk_reports.proofs.Errors.{kind_of_unique_items}
-use Rattle.olk_read.specs.Refusing.{TellsOneOf}
-use Rattle.olk_read.proofs.Spending.{exit, tells_memory, tells_same}
+use Rattle.olk_read.proofs.Spending.{exit, exit_with, tells_memory, tells_same}
 use Rattle.olk_read.proofs.NameLists.{no_array_told, repeat_told, refused_as_texts}
 use Rattle.olk_read.proofs.reading.names_of_entry.Goals as goal
 
 pub returns-in_err-place : goal.returns-in_err-place
 returns-in_err-place c = record {
-  names = IfOk-from_err c.from_residual.result _ c.from_residual.ensures.0;
-  right = IfOk-from_err c.from_residual.result _ c.from_residual.ensures.0;
+  names = IfOk-from_err _ _ c.from_residual.ensures.0;
+  right = IfOk-from_err _ _ c.from_residual.ensures.0;
   refused = exit _ _ _ c.from_residual.ensures.1 (tells_memory _);
 }
 
 pub returns-in_err-items : goal.returns-in_err-items
 returns-in_err-items c = record {
-  names = IfOk-from_err c.from_residual-in_err-items.result _ c.from_residual-in_err-items.ensures.0;
-  right = IfOk-from_err c.from_residual-in_err-items.result _ c.from_residual-in_err-items.ensures.0;
+  names = IfOk-from_err _ _ c.from_residual-in_err-items.ensures.0;
+  right = IfOk-from_err _ _ c.from_residual-in_err-items.ensures.0;
   refused =
-      exit _ _ _ c.from_residual-in_err-items.ensures.1 (λ e q. no_array_told c.args.key.now c.args.location.now (view c.args.value.now) e
-      (subst (λ P. TellsOneOf (unless_array (view c.args.value.now) P) e) c.in_ok-place.ensures (subst (TellsOneOf _) (sym q) c.in_err-items.ensures.refused)));
+      exit_with _ _ _ c.from_residual-in_err-items.ensures.1
+      (no_array_told c.args.key.now c.args.location.now (view c.args.value.now) _ (rw (← c.in_ok-place.ensures) c.in_err-items.ensures.refused));
 }
 
 pub returns-in_err-has_repeated_text : goal.returns-in_err-has_repeated_text
 returns-in_err-has_repeated_text c = record {
-  names = IfOk-from_err c.from_residual-in_err-has_repeated_text.result _ c.from_residual-in_err-has_repeated_text.ensures.0;
-  right = IfOk-from_err c.from_residual-in_err-has_repeated_text.result _ c.from_residual-in_err-has_repeated_text.ensures.0;
+  names = IfOk-from_err _ _ c.from_residual-in_err-has_repeated_text.ensures.0;
+  right = IfOk-from_err _ _ c.from_residual-in_err-has_repeated_text.ensures.0;
   refused = exit _ _ _ c.from_residual-in_err-has_repeated_text.ensures.1 (tells_memory _);
 }
 
 pub returns-then-branch-clause-refused : goal.returns-then-branch-clause-refused
 returns-then-branch-clause-refused c = repeat_told c.args.key.now c.args.location.now (view c.args.value.now) (items_view c.in_ok-items.items.now.items) c.refuse.result c.in_ok-items.ensures.array
     (ap (λ s. has_repeat (texts_in (items_view s))) (sym c.deref.ensures.value) ∙ sym c.in_ok-has_repeated_text.ensures ∙ c.if-branch.true)
-    (subst₂ (λ k P. TellsOneOf (fault k (view c.args.value.now) [] P ∷ []) c.refuse.result) kind_of_unique_items c.in_ok-place.ensures c.refuse.ensures)
+    (rw (kind_of_unique_items, c.in_ok-place.ensures) at c.refuse.ensures)
 
 pub returns : goal.returns
 returns c =

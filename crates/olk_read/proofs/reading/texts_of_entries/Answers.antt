@@ -1,11 +1,7 @@
-use Rattle.std.proofs.Common.{sym, subst, ap, ◌∙◌}
-use Rattle.serde_json.specs.View.{view}
-use Rattle.olk_spec.specs.Names.{◌//◌}
-use Rattle.olk_spec.specs.Malformed.{unless_object}
-use Rattle.olk_read.specs.Refusing.{TellsOneOf}
-use Rattle.olk_read.proofs.Spending.{exit}
+use Rattle.std.proofs.Common.{sym, ◌∙◌}
+use Rattle.olk_read.proofs.Spending.{exit_with}
 use Rattle.olk_read.proofs.Read.{object_is_right}
-use Rattle.olk_read.proofs.Entries.{none_so_far, one_more_entry, entry_refused, entries_shown, entries_right, each_as_it_is}
+use Rattle.olk_read.proofs.Entries.{below, none_so_far, one_more_entry, entry_refused, entries_shown, entries_right, each_as_it_is}
 use Rattle.olk_read.proofs.reading.texts_of_entries.Goals as goal
 
 pub loop-key-init : goal.loop-key-init
@@ -17,9 +13,8 @@ loop-key-preserved c =
 
 pub returns-in_err-names-clause-refused : goal.returns-in_err-names-clause-refused
 returns-in_err-names-clause-refused c =
-    exit _ _ _ c.from_residual-in_err-names.ensures.1 (λ e q. entry_refused c.loop-key.invariant c.in-Some.ensures.steps e
-    (subst (λ P. TellsOneOf (unless_object (view c.in-Some.value.now) P) e) (c.in_ok-place.ensures ∙ ap (λ n. c.args.location.now // n) c.as_str.ensures.value)
-    (subst (TellsOneOf _) (sym q) c.in_err-names.ensures.refused)))
+    exit_with _ _ _ c.from_residual-in_err-names.ensures.1 (entry_refused c.loop-key.invariant c.in-Some.ensures.steps _
+    (rw (below c.args.location.now c.in_ok-place.ensures c.as_str.ensures.value) at c.in_err-names.ensures.refused))
 
 pub returns-clause-names : goal.returns-clause-names
 returns-clause-names c = sym (each_as_it_is c.loop-key.texts.items) ∙ entries_shown c.loop-key.invariant c.in-None.ensures.steps.0

@@ -9,5 +9,4 @@ use Rattle.olk_check.proofs.node.KeywordOverIsValid.is_valid.Goals as goal
 pub returns-in-Leaf : goal.returns-in-Leaf
 unfolding answers_of
 returns-in-Leaf g c =
-    subst (λ k. Asks c.args.ctx.now c.args.ctx.now (validator_means (kit g.K.Leaf g.R.RegexEngine) g.N.Means.means k (data_of c.args.node)) c.is_valid.result)
-    (sym c.in-Leaf.is) (said c.args.ctx.now c.is_valid.ensures)
+    rw c.in-Leaf.is (said c.args.ctx.now c.is_valid.ensures)

@@ -2,10 +2,8 @@ use Rattle.std.proofs.Common.{true, sym, subst}
 use Rattle.olk_base.specs.Nodes.{data_of}
 use Rattle.olk_tree.proofs.Patterns.{patterns_nothing}
 use Rattle.olk_check.specs.Asks.{Asks}
-use Rattle.olk_check.proofs.Asked.{unasked}
+use Rattle.olk_check.proofs.Asked.{asks_as, unasked}
 use Rattle.olk_check.proofs.pattern_properties.PatternPropertiesIsValid.is_valid.Goals as goal
 
 pub returns-in-None : goal.returns-in-None
-returns-in-None g c = subst (λ q. Asks c.args.ctx.now c.args.ctx.now q true)
-    (sym (patterns_nothing g.R.RegexEngine.answers (data_of c.args.node) c.in-None.ensures g.R.RegexEngine.costs g.N.Means.means c.args.self.now.patterns.items))
-    (unasked c.args.ctx.now true)
+returns-in-None g c = asks_as (sym (patterns_nothing g.R.RegexEngine.answers (data_of c.args.node) c.in-None.ensures g.R.RegexEngine.costs g.N.Means.means c.args.self.now.patterns.items)) (unasked c.args.ctx.now true)

@@ -4,10 +4,10 @@ use Rattle.olk_tree.specs.Questions.{every}
 use Rattle.olk_tree.specs.Maps.{named}
 use Rattle.olk_tree.proofs.Due.{none_chosen}
 use Rattle.olk_check.specs.Asks.{Asks}
-use Rattle.olk_check.proofs.Asked.{unasked}
+use Rattle.olk_check.proofs.Asked.{asks_as, unasked}
 use Rattle.olk_check.proofs.property_dependencies.PropertyDependenciesIsValid.is_valid.Goals as goal
 
 pub returns-in-None : goal.returns-in-None
 returns-in-None g c =
-    subst (λ q. Asks c.args.ctx.now c.args.ctx.now q true) (sym (ap (every (λ n. g.N.Means.means n (data_of c.args.node)))
+    asks_as (sym (ap (every (λ n. g.N.Means.means n (data_of c.args.node)))
     (none_chosen (data_of c.args.node) c.in-None.ensures (named c.args.self.now.dependencies)))) (unasked c.args.ctx.now true)

@@ -4,12 +4,12 @@ use Rattle.olk_base.specs.Nodes.{data_of}
 use Rattle.olk_tree.specs.Questions.{every}
 use Rattle.olk_tree.proofs.Members_met.{no_members}
 use Rattle.olk_check.specs.Asks.{Asks}
-use Rattle.olk_check.proofs.Asked.{unasked}
+use Rattle.olk_check.proofs.Asked.{asks_as, unasked}
 use Rattle.olk_check.proofs.property_names.PropertyNamesIsValid.is_valid.Goals as goal
 
 pub returns-in-None : goal.returns-in-None
 returns-in-None g c =
-    subst (λ q. Asks c.args.ctx.now c.args.ctx.now q true) (sym (ap (every (λ m. g.N.Means.means c.args.self.now.node (string m.0)))
+    asks_as (sym (ap (every (λ m. g.N.Means.means c.args.self.now.node (string m.0)))
     (no_members (data_of c.args.node) c.in-None.ensures))) (unasked c.args.ctx.now true)
 
 pub returns-in-Some : goal.returns-in-Some

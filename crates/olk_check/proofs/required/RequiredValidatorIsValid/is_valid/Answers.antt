@@ -1,3 +1,4 @@
+use Rattle.olk_check.proofs.Answered.{said}
 use Rattle.std.proofs.Common.{true, sym, subst}
 use Rattle.olk_base.specs.Nodes.{data_of}
 use Rattle.olk_tree.specs.Questions.{always}
@@ -9,5 +10,4 @@ use Rattle.olk_check.proofs.required.RequiredValidatorIsValid.is_valid.Goals as 
 
 pub returns-in-None : goal.returns-in-None
 returns-in-None c =
-    subst (λ b. Asks c.args._ctx.now c.args._ctx.now (always b) true) (sym (lacks_nothing (texts_of c.args.self.now.required.items) (data_of c.args.node) c.in-None.ensures))
-    (unasked c.args._ctx.now true)
+    said c.args._ctx.now (sym (lacks_nothing (texts_of c.args.self.now.required.items) (data_of c.args.node) c.in-None.ensures))
