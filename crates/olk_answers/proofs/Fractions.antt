@@ -61,8 +61,8 @@ places_good k S p h pattern_properties = each_good k p.entries h.1
 places_good k S p h additional_properties = where_good k (is_object p.whole.schema) _ (h.0, tt)
 places_good k S p h property_names = where_good k (is_object p.whole.schema) _ (h.0, tt)
 places_good k S p h dependent_schemas = each_good k p.entries h.1
-places_good k S p h dependencies = each_good k _ (Each-filter_once (GoodEntry Good) (λ e. not (is_array e.1.schema)) p.entries h.1)
-places_good k S p h property_dependencies = Each-flat_map GoodPlace _ p.inner (Each-implies (GoodInner Good) _ (λ e g. inner_good k e.0 e.1 g) p.inner h.2)
+places_good k S p h dependencies = each_good k _ (Each-filter_once (GoodEntry Good) _ _ h.1)
+places_good k S p h property_dependencies = Each-flat_map GoodPlace _ _ (Each-implies (GoodInner Good) _ (λ e g. inner_good k e.0 e.1 g) _ h.2)
 places_good k S p h all_of = each_good k _ (branches_good Good p h)
 places_good k S p h any_of = each_good k _ (branches_good Good p h)
 places_good k S p h one_of = each_good k _ (branches_good Good p h)
@@ -95,7 +95,7 @@ items_plain (array ds) h = list_plain ds h
 items_plain d h = tt
 
 not_text_prints : (d : Data) (P : Path) → IsPlain d → Each PrintsNone (not_a_text d P)
-not_text_prints d P h = Each-map PrintsNone (λ i. refusal (SingleType string_type) i P) _ (first_prints _ (Each-filter_once IsPlain (λ i. not (is_text i)) (items_of_array d) (items_plain d h)))
+not_text_prints d P h = Each-map PrintsNone _ _ (first_prints _ (Each-filter_once IsPlain _ _ (items_plain d h)))
 
 name_list_prints : (key : Name) (d : Data) (P : Path) → IsPlain d → Each PrintsNone (name_list_refusals key d P)
 name_list_prints key d P h =
@@ -129,10 +129,10 @@ module _ (W : World) where
 
   keyword_prints : (S : Keywords Told) (k : Name) (p : Part Told) (P : Path) → GoodPart Good p → (w : Keyword) → Each PrintsNone (keyword_malformations W S k p P w)
   keyword_prints S k p P h w =
-      Each-append PrintsNone (own_refusals W k p (P // k) w) _
+      Each-append PrintsNone _ _
       (own_prints k p (P // k) h w)
-      (Each-flat_map PrintsNone (λ r. r.0.answer (down P r.1)) (read_places k S p w)
-      (Each-implies GoodPlace _ (λ r g. g.1 (down P r.1)) (read_places k S p w) (places_good k S p h w)))
+      (Each-flat_map PrintsNone _ _
+      (Each-implies GoodPlace _ (λ r g. g.1 (down P r.1)) _ (places_good k S p h w)))
 
   step_prints : (d : Data) → IsPlain d → GoodSchema Good (schema_read (malformations_step W) d) → Good d (malformations_step W (schema_read (malformations_step W) d))
   step_prints null s g = (s, λ P. (refl, tt))
@@ -141,8 +141,8 @@ module _ (W : World) where
   step_prints (object ms) s g =
       let S : Keywords Told = read_members (malformations_step W) ms in (
         s,
-        λ P. Each-flat_map PrintsNone (λ m. keyword_malformations W S m.0 m.1 P (keyword_named W m.0)) S
-            (Each-implies (λ m. GoodPart Good m.1) _ (λ m h. keyword_prints S m.0 m.1 P h (keyword_named W m.0)) S g),
+        λ P. Each-flat_map PrintsNone _ _
+            (Each-implies (λ m. GoodPart Good m.1) _ (λ m h. keyword_prints S m.0 m.1 P h (keyword_named W m.0)) _ g),
       )
   step_prints _ s g = (s, λ P. (s, tt))
 
