@@ -22,7 +22,7 @@ use Rattle.olk_spec.proofs.Induction.{schema_read, GoodSub, GoodEntry, GoodPart,
 use Rattle.olk_spec.proofs.Applied.{GoodAsked, applied_good}
 use Rattle.olk_answers.specs.Evaluated.{IsPromised}
 use Rattle.olk_spec.proofs.Walks.{neither}
-use Rattle.olk_answers.proofs.Fractions.{IsPlain, PrintsNone, put_prints, each_item, each_member, by_recursion}
+use Rattle.olk_answers.proofs.Fractions.{IsPlain, PrintsNone, put_prints, each_item, each_member, each_contained}
 
 abbrev ReportsNone : Meaning → Type 0
 ReportsNone m = (v : Data) → IsPlain v → (P Q : Path) → Each PrintsNone (m.report v P Q)
@@ -81,22 +81,23 @@ trees_plain : (ts : List Tree) → Each PlainTree ts → PlainTrees (trees_from 
 trees_plain [] h = tt
 trees_plain (t ∷ ts) h = (h.0, trees_plain ts h.1)
 
-node_plain : (P Q : Path) (b : Bool) (a : Option (List Name)) (es : List Described) (ts : Trees) → Each ToldPlain es → PlainTrees ts → PlainTree (result_node P Q b a es ts)
-node_plain P Q true a es ts h k = (h, k)
-node_plain P Q false a es ts h k = (h, k)
-
-result_plain : (P Q : Path) (a : Option (List Name)) (invalid : Bool) (es : List Described) (ts : List Tree) → Each ToldPlain es → Each PlainTree ts → PlainTree (result P Q a invalid es ts)
-result_plain P Q a invalid es ts h k = node_plain P Q _ a es (trees_from ts) h (trees_plain ts k)
-
-plain_plain : (P Q : Path) (ts : List Tree) → Each PlainTree ts → PlainTree (plain P Q ts)
-plain_plain P Q ts k = result_plain P Q None false [] ts tt k
-
 described_plain : (fs : List Fault) → Each PrintsNone fs → Each ToldPlain (described fs)
 described_plain [] h = tt
 described_plain (fault k v Q P ∷ fs) h = (h.0, described_plain fs h.1)
 
-erring_plain : (P Q : Path) (fs : List Fault) → Each PrintsNone fs → PlainTree (erring P Q fs)
-erring_plain P Q fs h = result_plain _ _ _ false _ [] (described_plain fs h) tt
+module _ (P Q : Path) where
+  node_plain : (b : Bool) (a : Option (List Name)) (es : List Described) (ts : Trees) → Each ToldPlain es → PlainTrees ts → PlainTree (result_node P Q b a es ts)
+  node_plain true a es ts h k = (h, k)
+  node_plain false a es ts h k = (h, k)
+
+  result_plain : (a : Option (List Name)) (invalid : Bool) (es : List Described) (ts : List Tree) → Each ToldPlain es → Each PlainTree ts → PlainTree (result P Q a invalid es ts)
+  result_plain a invalid es ts h k = node_plain _ a es (trees_from ts) h (trees_plain ts k)
+
+  plain_plain : (ts : List Tree) → Each PlainTree ts → PlainTree (plain P Q ts)
+  plain_plain ts k = result_plain None false [] ts tt k
+
+  erring_plain : (fs : List Fault) → Each PrintsNone fs → PlainTree (erring P Q fs)
+  erring_plain fs h = result_plain None false _ [] (described_plain fs h) tt
 
 cond_plain : (b : Bool) (s t : Tree) → PlainTree s → PlainTree t → PlainTree (cond b s t)
 cond_plain true s t h k = h
@@ -275,11 +276,8 @@ mutual
   like_prints (fault k v Q P) (fault l w R O) (like h) = like_kind_prints k l v h
 
   like_kind_prints : (k l : Kind) (v : Data) → IsLikeKind k l → kind_prints_fraction k v ≡ kind_prints_fraction l v
-  like_kind_prints k l v itself = refl
-  like_kind_prints (AnyOf c) (AnyOf d) v (like_any_of h) = refl
-  like_kind_prints (OneOfNotValid c) (OneOfNotValid d) v (like_not_valid h) = refl
-  like_kind_prints (OneOfMultipleValid c) (OneOfMultipleValid d) v (like_multiple h) = refl
-  like_kind_prints (PropertyNames f) (PropertyNames g) v (like_names h) = like_prints f g h
+  like_kind_prints k l v (like_names {f} {g} h) = like_prints f g h
+  like_kind_prints k l v h = refl
 
 ∼_prints : {fs gs : List Fault} → fs ∼ gs → Each PrintsNone gs → Each PrintsNone fs
 ∼_prints like_empty h = tt
@@ -300,9 +298,6 @@ mutual
 
 pub cut_prints : (f : Fault) → PrintsNone f → PrintsNone (cut f)
 cut_prints f h = cut_fault_prints f ∙ h
-
-each_contained : (fs : List Fault) → Each PrintsNone fs → (f : Fault) → Contains fs f → PrintsNone f
-each_contained fs h f c = All-contains PrintsNone fs f (All-from_recursion PrintsNone fs (by_recursion fs h)) c
 
 module _ (W : World) (u : Bool) (S v : Data) (s : IsPlain S) (fine : IsPlain v) (P Q : Path) where
   -- a list that has the same faults, and one of them as `validate` gives it
