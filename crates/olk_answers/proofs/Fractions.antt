@@ -44,33 +44,29 @@ each_member (member k d ms) h = let p = neither (has_float d) (members_have_floa
 -- ---- the places that a keyword reads
 
 each_good : (k : Name) (es : List (Name × Sub Told)) → Each (GoodEntry Good) es → Each GoodPlace (each k es)
-each_good k [] h = tt
-each_good k (e ∷ es) h = (h.0, each_good k es h.1)
-
-inner_good : (k key : Name) (es : List (Name × Sub Told)) → Each (GoodEntry Good) es → Each GoodPlace (map (λ i. (i.1, k ∷ key ∷ i.0 ∷ [])) es)
-inner_good k key [] h = tt
-inner_good k key (e ∷ es) h = (h.0, inner_good k key es h.1)
+each_good k es = Each-map GoodPlace _ es
 
 where_good : (k : Name) (b : Bool) (ps : List (Sub Told × List Name)) → Each GoodPlace ps → Each GoodPlace (places_where k b ps)
 where_good k true ps h = h
 where_good k false ps h = tt
 
-places_good : (k : Name) (S : Keywords Told) (p : Part Told) → GoodPart Good p → (w : Keyword) → Each GoodPlace (read_places k S p w)
-places_good k S p h properties = each_good k p.entries h.1
-places_good k S p h pattern_properties = each_good k p.entries h.1
-places_good k S p h additional_properties = where_good k (is_object p.whole.schema) _ (h.0, tt)
-places_good k S p h property_names = where_good k (is_object p.whole.schema) _ (h.0, tt)
-places_good k S p h dependent_schemas = each_good k p.entries h.1
-places_good k S p h dependencies = each_good k _ (Each-filter_once (GoodEntry Good) (λ e. not (is_array e.1.schema)) p.entries h.1)
-places_good k S p h property_dependencies = Each-flat_map GoodPlace _ p.inner (Each-implies (GoodInner Good) _ (λ e g. inner_good k e.0 e.1 g) p.inner h.2)
-places_good k S p h all_of = each_good k _ (branches_good Good p h)
-places_good k S p h any_of = each_good k _ (branches_good Good p h)
-places_good k S p h one_of = each_good k _ (branches_good Good p h)
-places_good k S p h not_keyword = (h.0, tt)
-places_good k S p h if_keyword = where_good k (is_conditional S) _ (h.0, tt)
-places_good k S p h then_keyword = where_good k (is_present S (codes "if")) _ (h.0, tt)
-places_good k S p h else_keyword = where_good k (is_present S (codes "if")) _ (h.0, tt)
-places_good k S p h w = tt
+module _ (k : Name) (S : Keywords Told) (p : Part Told) (h : GoodPart Good p) where
+  places_good : (w : Keyword) → Each GoodPlace (read_places k S p w)
+  places_good properties = each_good k p.entries h.1
+  places_good pattern_properties = each_good k p.entries h.1
+  places_good additional_properties = where_good k (is_object p.whole.schema) _ (h.0, tt)
+  places_good property_names = where_good k (is_object p.whole.schema) _ (h.0, tt)
+  places_good dependent_schemas = each_good k p.entries h.1
+  places_good dependencies = each_good k _ (Each-filter_once (GoodEntry Good) _ _ h.1)
+  places_good property_dependencies = Each-flat_map GoodPlace _ _ (Each-implies (GoodInner Good) _ (λ e g. Each-map GoodPlace _ e.1 g) _ h.2)
+  places_good all_of = each_good k _ (branches_good Good p h)
+  places_good any_of = each_good k _ (branches_good Good p h)
+  places_good one_of = each_good k _ (branches_good Good p h)
+  places_good not_keyword = (h.0, tt)
+  places_good if_keyword = where_good k (is_conditional S) _ (h.0, tt)
+  places_good then_keyword = where_good k (is_present S (codes "if")) _ (h.0, tt)
+  places_good else_keyword = where_good k (is_present S (codes "if")) _ (h.0, tt)
+  places_good w = tt
 
 -- ---- a keyword itself
 
@@ -95,7 +91,7 @@ items_plain (array ds) h = list_plain ds h
 items_plain d h = tt
 
 not_text_prints : (d : Data) (P : Path) → IsPlain d → Each PrintsNone (not_a_text d P)
-not_text_prints d P h = Each-map PrintsNone (λ i. refusal (SingleType string_type) i P) _ (first_prints _ (Each-filter_once IsPlain (λ i. not (is_text i)) (items_of_array d) (items_plain d h)))
+not_text_prints d P h = Each-map PrintsNone _ _ (first_prints _ (Each-filter_once IsPlain _ _ (items_plain d h)))
 
 name_list_prints : (key : Name) (d : Data) (P : Path) → IsPlain d → Each PrintsNone (name_list_refusals key d P)
 name_list_prints key d P h =
@@ -103,36 +99,37 @@ name_list_prints key d P h =
     (or_prints _ _ (put_prints (has_repeat (texts d)) (refusal UniqueItems d (P // key)) h) (not_text_prints d P h))
 
 module _ (W : World) where
-  own_prints : (k : Name) (p : Part Told) (P : Path) → GoodPart Good p → (w : Keyword) → Each PrintsNone (own_refusals W k p P w)
-  own_prints k p P h properties = put_prints _ _ h.0.0
-  own_prints k p P h pattern_properties =
-      Each-append PrintsNone (unless_object p.whole.schema P) _ (put_prints _ _ h.0.0)
-      (Each-map PrintsNone (λ t. refusal Regex (string t) (P // t)) _ (Each-any _ (λ t. refl) (filter_once (λ t. not (W.builds t)) (open_patterns W p))))
-  own_prints k p P h additional_properties = put_prints _ _ h.0.0
-  own_prints k p P h required = Each-append PrintsNone (unless_array p.whole.schema P) _ (put_prints _ _ h.0.0) (not_text_prints p.whole.schema P h.0.0)
-  own_prints k p P h dependent_required =
-      Each-append PrintsNone (unless_object p.whole.schema P) _ (put_prints _ _ h.0.0)
-      (Each-flat_map PrintsNone (λ e. name_list_refusals e.0 e.1.schema P) p.entries (Each-implies (GoodEntry Good) _ (λ e g. name_list_prints e.0 e.1.schema P g.0) p.entries h.1))
-  own_prints k p P h dependent_schemas = put_prints _ _ h.0.0
-  own_prints k p P h dependencies =
-      Each-append PrintsNone (unless_object p.whole.schema P) _ (put_prints _ _ h.0.0)
-      (Each-flat_map PrintsNone (λ e. not_a_text e.1.schema P) p.entries (Each-implies (GoodEntry Good) _ (λ e g. not_text_prints e.1.schema P g.0) p.entries h.1))
-  own_prints k p P h property_dependencies =
-      Each-append PrintsNone (unless_object p.whole.schema P) _ (put_prints _ _ h.0.0)
-      (Each-flat_map PrintsNone (λ e. unless_object e.1.schema (P // e.0)) p.entries (Each-implies (GoodEntry Good) _ (λ e g. put_prints _ _ g.0) p.entries h.1))
-  own_prints k p P h all_of = put_prints _ _ h.0.0
-  own_prints k p P h any_of = put_prints _ _ h.0.0
-  own_prints k p P h one_of = put_prints _ _ h.0.0
-  own_prints k p P h unsupported = (refl, tt)
-  own_prints k p P h leaf = put_prints _ _ h.0.0
-  own_prints k p P h w = tt
+  module _ (k : Name) (p : Part Told) (P : Path) (h : GoodPart Good p) where
+    own_prints : (w : Keyword) → Each PrintsNone (own_refusals W k p P w)
+    own_prints properties = put_prints _ _ h.0.0
+    own_prints pattern_properties =
+        Each-append PrintsNone (unless_object p.whole.schema P) _ (put_prints _ _ h.0.0)
+        (Each-map PrintsNone (λ t. refusal Regex (string t) (P // t)) _ (Each-any _ (λ t. refl) (filter_once (λ t. not (W.builds t)) (open_patterns W p))))
+    own_prints additional_properties = put_prints _ _ h.0.0
+    own_prints required = Each-append PrintsNone (unless_array p.whole.schema P) _ (put_prints _ _ h.0.0) (not_text_prints p.whole.schema P h.0.0)
+    own_prints dependent_required =
+        Each-append PrintsNone (unless_object p.whole.schema P) _ (put_prints _ _ h.0.0)
+        (Each-flat_map PrintsNone (λ e. name_list_refusals e.0 e.1.schema P) p.entries (Each-implies (GoodEntry Good) _ (λ e g. name_list_prints e.0 e.1.schema P g.0) p.entries h.1))
+    own_prints dependent_schemas = put_prints _ _ h.0.0
+    own_prints dependencies =
+        Each-append PrintsNone (unless_object p.whole.schema P) _ (put_prints _ _ h.0.0)
+        (Each-flat_map PrintsNone (λ e. not_a_text e.1.schema P) p.entries (Each-implies (GoodEntry Good) _ (λ e g. not_text_prints e.1.schema P g.0) p.entries h.1))
+    own_prints property_dependencies =
+        Each-append PrintsNone (unless_object p.whole.schema P) _ (put_prints _ _ h.0.0)
+        (Each-flat_map PrintsNone (λ e. unless_object e.1.schema (P // e.0)) p.entries (Each-implies (GoodEntry Good) _ (λ e g. put_prints _ _ g.0) p.entries h.1))
+    own_prints all_of = put_prints _ _ h.0.0
+    own_prints any_of = put_prints _ _ h.0.0
+    own_prints one_of = put_prints _ _ h.0.0
+    own_prints unsupported = (refl, tt)
+    own_prints leaf = put_prints _ _ h.0.0
+    own_prints w = tt
 
   keyword_prints : (S : Keywords Told) (k : Name) (p : Part Told) (P : Path) → GoodPart Good p → (w : Keyword) → Each PrintsNone (keyword_malformations W S k p P w)
   keyword_prints S k p P h w =
-      Each-append PrintsNone (own_refusals W k p (P // k) w) _
+      Each-append PrintsNone _ _
       (own_prints k p (P // k) h w)
-      (Each-flat_map PrintsNone (λ r. r.0.answer (down P r.1)) (read_places k S p w)
-      (Each-implies GoodPlace _ (λ r g. g.1 (down P r.1)) (read_places k S p w) (places_good k S p h w)))
+      (Each-flat_map PrintsNone _ _
+      (Each-implies GoodPlace _ (λ r g. g.1 (down P r.1)) _ (places_good k S p h w)))
 
   step_prints : (d : Data) → IsPlain d → GoodSchema Good (schema_read (malformations_step W) d) → Good d (malformations_step W (schema_read (malformations_step W) d))
   step_prints null s g = (s, λ P. (refl, tt))
@@ -141,8 +138,8 @@ module _ (W : World) where
   step_prints (object ms) s g =
       let S : Keywords Told = read_members (malformations_step W) ms in (
         s,
-        λ P. Each-flat_map PrintsNone (λ m. keyword_malformations W S m.0 m.1 P (keyword_named W m.0)) S
-            (Each-implies (λ m. GoodPart Good m.1) _ (λ m h. keyword_prints S m.0 m.1 P h (keyword_named W m.0)) S g),
+        λ P. Each-flat_map PrintsNone _ _
+            (Each-implies (λ m. GoodPart Good m.1) _ (λ m h. keyword_prints S m.0 m.1 P h (keyword_named W m.0)) _ g),
       )
   step_prints _ s g = (s, λ P. (s, tt))
 
@@ -154,6 +151,9 @@ pub by_recursion : (fs : List Fault) → Each PrintsNone fs → AllByRecursion P
 by_recursion [] h = tt
 by_recursion (f ∷ fs) h = (h.0, by_recursion fs h.1)
 
+pub each_contained : (fs : List Fault) → Each PrintsNone fs → (f : Fault) → Contains fs f → PrintsNone f
+each_contained fs h f c = All-contains PrintsNone _ f (All-from_recursion PrintsNone _ (by_recursion fs h)) c
+
 pub malformation_prints_no_fraction : (W : World) (S : Data) → has_float S ≡ false → (f : Fault) → Contains (malformations W S) f → prints_fraction f ≡ false
 malformation_prints_no_fraction W S s f c =
-    All-contains PrintsNone (malformations W S) f (All-from_recursion PrintsNone (malformations W S) (by_recursion (malformations W S) (each_prints W S s []))) c
+    each_contained _ (each_prints W S s []) f c

@@ -22,7 +22,7 @@ use Rattle.olk_spec.proofs.Induction.{schema_read, GoodSub, GoodEntry, GoodPart,
 use Rattle.olk_spec.proofs.Applied.{GoodAsked, applied_good}
 use Rattle.olk_answers.specs.Evaluated.{IsPromised}
 use Rattle.olk_spec.proofs.Walks.{neither}
-use Rattle.olk_answers.proofs.Fractions.{IsPlain, PrintsNone, put_prints, each_item, each_member, by_recursion}
+use Rattle.olk_answers.proofs.Fractions.{IsPlain, PrintsNone, put_prints, each_item, each_member, each_contained}
 
 abbrev ReportsNone : Meaning → Type 0
 ReportsNone m = (v : Data) → IsPlain v → (P Q : Path) → Each PrintsNone (m.report v P Q)
@@ -58,10 +58,10 @@ members_plain v h = tt
 -- ---- a keyword itself
 
 required_prints : (ns : List Name) (v : Data) (P Q : Path) → Each PrintsNone (required_faults ns v P Q)
-required_prints ns v P Q = Each-map PrintsNone (λ n. fault (Required n) v Q P) (missing ns v) (Each-any _ (λ n. refl) (missing ns v))
+required_prints ns v P Q = Each-map PrintsNone _ _ (Each-any _ (λ n. refl) _)
 
 due_prints : (es : List (Name × List Name)) (v : Data) (P Q : Path) → Each PrintsNone (flat_map (λ e. required_faults e.1 v P Q) es)
-due_prints es v P Q = Each-flat_map PrintsNone (λ e. required_faults e.1 v P Q) es (Each-any _ (λ e. required_prints e.1 v P Q) es)
+due_prints es v P Q = Each-flat_map PrintsNone _ es (Each-any _ (λ e. required_prints e.1 v P Q) _)
 
 unexpected_prints : (named : Bool) (ms : List (Name × Data)) (v : Data) (P Q : Path) → Each (λ m. IsPlain m.1) ms → Each PrintsNone (unexpected_faults named ms v P Q)
 unexpected_prints named [] v P Q h = tt
@@ -81,22 +81,23 @@ trees_plain : (ts : List Tree) → Each PlainTree ts → PlainTrees (trees_from 
 trees_plain [] h = tt
 trees_plain (t ∷ ts) h = (h.0, trees_plain ts h.1)
 
-node_plain : (P Q : Path) (b : Bool) (a : Option (List Name)) (es : List Described) (ts : Trees) → Each ToldPlain es → PlainTrees ts → PlainTree (result_node P Q b a es ts)
-node_plain P Q true a es ts h k = (h, k)
-node_plain P Q false a es ts h k = (h, k)
-
-result_plain : (P Q : Path) (a : Option (List Name)) (invalid : Bool) (es : List Described) (ts : List Tree) → Each ToldPlain es → Each PlainTree ts → PlainTree (result P Q a invalid es ts)
-result_plain P Q a invalid es ts h k = node_plain P Q _ a es (trees_from ts) h (trees_plain ts k)
-
-plain_plain : (P Q : Path) (ts : List Tree) → Each PlainTree ts → PlainTree (plain P Q ts)
-plain_plain P Q ts k = result_plain P Q None false [] ts tt k
-
 described_plain : (fs : List Fault) → Each PrintsNone fs → Each ToldPlain (described fs)
 described_plain [] h = tt
 described_plain (fault k v Q P ∷ fs) h = (h.0, described_plain fs h.1)
 
-erring_plain : (P Q : Path) (fs : List Fault) → Each PrintsNone fs → PlainTree (erring P Q fs)
-erring_plain P Q fs h = result_plain P Q None false (described fs) [] (described_plain fs h) tt
+module _ (P Q : Path) where
+  node_plain : (b : Bool) (a : Option (List Name)) (es : List Described) (ts : Trees) → Each ToldPlain es → PlainTrees ts → PlainTree (result_node P Q b a es ts)
+  node_plain true a es ts h k = (h, k)
+  node_plain false a es ts h k = (h, k)
+
+  result_plain : (a : Option (List Name)) (invalid : Bool) (es : List Described) (ts : List Tree) → Each ToldPlain es → Each PlainTree ts → PlainTree (result P Q a invalid es ts)
+  result_plain a invalid es ts h k = node_plain _ a es (trees_from ts) h (trees_plain ts k)
+
+  plain_plain : (ts : List Tree) → Each PlainTree ts → PlainTree (plain P Q ts)
+  plain_plain ts k = result_plain None false [] ts tt k
+
+  erring_plain : (fs : List Fault) → Each PrintsNone fs → PlainTree (erring P Q fs)
+  erring_plain fs h = result_plain None false _ [] (described_plain fs h) tt
 
 cond_plain : (b : Bool) (s t : Tree) → PlainTree s → PlainTree t → PlainTree (cond b s t)
 cond_plain true s t h k = h
@@ -107,15 +108,12 @@ module _ (W : World) (u : Bool) where
     own_prints : (w : Keyword) → Each PrintsNone (own W u S k p v P Q w)
     own_prints additional_properties =
         Each-flat_map PrintsNone (λ s. unexpected_faults (has_neighbour S) (additional S W u v) v (P // k) Q) (put_if (is_truth false p.whole.schema) p.whole [])
-        (Each-any _ (λ s. unexpected_prints (has_neighbour S) (additional S W u v) v (P // k) Q (Each-filter_once (λ m. IsPlain m.1) _ (members v) (members_plain v fine)))
-        (put_if (is_truth false p.whole.schema) p.whole []))
+        (Each-any _ (λ s. unexpected_prints _ _ _ _ _ (Each-filter_once (λ m. IsPlain m.1) _ _ (members_plain v fine))) _)
     own_prints property_names =
         Each-append PrintsNone (flat_map (λ s. flat_map (λ m. map (wrapped v Q) (s.answer.report (string m.0) (P // k) Q)) (members v)) (put_if (is_object p.whole.schema) p.whole [])) _
         (Each-flat_map PrintsNone (λ s. flat_map (λ m. map (wrapped v Q) (s.answer.report (string m.0) (P // k) Q)) (members v)) (put_if (is_object p.whole.schema) p.whole [])
-        (Each-implies (GoodSub Good) _ (λ s g. Each-flat_map PrintsNone (λ m. map (wrapped v Q) (s.answer.report (string m.0) (P // k) Q)) (members v)
-        (Each-any _ (λ m. Each-map PrintsNone (wrapped v Q) (s.answer.report (string m.0) (P // k) Q)
-        (Each-implies PrintsNone _ (wrapped_prints v Q) (s.answer.report (string m.0) (P // k) Q) (g.1 (string m.0) refl (P // k) Q))) (members v)))
-        (put_if (is_object p.whole.schema) p.whole []) (put_each (GoodSub Good) (is_object p.whole.schema) p.whole h.0)))
+        (Each-implies (GoodSub Good) _ (λ s g. Each-flat_map PrintsNone _ (members v) (Each-any _ (λ m. Each-map PrintsNone (wrapped v Q) _
+        (Each-implies PrintsNone _ (wrapped_prints v Q) _ (g.1 (string m.0) refl (P // k) Q))) _)) _ (put_each (GoodSub Good) _ _ h.0)))
         (put_prints (is_truth false p.whole.schema && not (is_empty (members v))) (fault FalseSchema v Q (P // k)) fine)
     own_prints required = required_prints (names p) v (P // k) Q
     own_prints dependent_required = due_prints (due p v) v (P // k) Q
@@ -123,17 +121,17 @@ module _ (W : World) (u : Bool) where
     own_prints any_of = put_prints _ (fault (AnyOf (branch_faults p v (P // k) Q)) v Q (P // k)) fine
     own_prints one_of =
         Each-append PrintsNone (fault_if (accepting p v == 0) (OneOfNotValid (branch_faults p v (P // k) Q)) v (P // k) Q) _
-        (put_prints (accepting p v == 0) (fault (OneOfNotValid (branch_faults p v (P // k) Q)) v Q (P // k)) fine)
+        (put_prints _ _ fine)
         (put_prints (nat_lt 1 (accepting p v)) (fault (OneOfMultipleValid (branch_faults p v (P // k) Q)) v Q (P // k)) fine)
     own_prints not_keyword = put_prints (holds p.whole v) (fault (Not p.whole.schema) v Q (P // k)) (rw (h.0.0, fine) refl)
-    own_prints leaf = Each-map PrintsNone (λ t. fault (Leaf k t) v Q (P // k)) (W.faults k p.whole.schema v) (Each-any _ (λ t. refl) (W.faults k p.whole.schema v))
+    own_prints leaf = Each-map PrintsNone (λ t. fault (Leaf k t) v Q (P // k)) (W.faults k p.whole.schema v) (Each-any _ (λ t. refl) _)
     own_prints w = tt
 
     keyword_prints : (w : Keyword) → Each PrintsNone (keyword_report W u S k p v P Q w)
     keyword_prints w =
-        Each-append PrintsNone (flat_map (λ a. a.sub.answer.report a.value (down P a.in_schema) (down Q a.in_instance)) (applied W u S k p v w)) (own W u S k p v P Q w)
-        (Each-flat_map PrintsNone (λ a. a.sub.answer.report a.value (down P a.in_schema) (down Q a.in_instance)) (applied W u S k p v w)
-        (Each-implies (GoodAsked Good IsPlain) _ (λ a g. g.0.1 a.value g.1 (down P a.in_schema) (down Q a.in_instance)) (applied W u S k p v w)
+        Each-append PrintsNone _ _
+        (Each-flat_map PrintsNone _ _
+        (Each-implies (GoodAsked Good IsPlain) _ (λ a g. g.0.1 a.value g.1 (down P a.in_schema) (down Q a.in_instance)) _
         (applied_good Good IsPlain W u S k p h v fine (members_plain v fine) w)))
         (own_prints w)
 
@@ -142,18 +140,18 @@ module _ (W : World) (u : Bool) where
   module _ (S : Keywords Meaning) (g : GoodKeywords Good S) (v : Data) (fine : IsPlain v) (P Q : Path) where
     declared_plain : (m : Name × Data) → IsPlain m.1 → Each PlainTree (declared_trees W u S v P Q m)
     declared_plain m h =
-        Each-map PlainTree (λ s. s.answer.tree m.1 (P // codes "properties" // m.0) (Q // m.0)) (option_to_list (lookup_name m.0 (entries_at S (codes "properties"))))
+        Each-map PlainTree _ _
         (Each-implies (GoodSub Good) _ (λ s c. c.2 m.1 h _ _) _
-        (Each-option (GoodSub Good) (lookup_name m.0 (entries_at S (codes "properties"))) (On-lookup_name (GoodSub Good) m.0 (entries_at S (codes "properties")) (entries_at_good Good S g (codes "properties")))))
+        (Each-option (GoodSub Good) _ (On-lookup_name (GoodSub Good) _ _ (entries_at_good Good S g (codes "properties")))))
 
     pattern_plain : (m : Name × Data) → IsPlain m.1 → Each PlainTree (pattern_trees W u S v P Q m)
     pattern_plain m h =
-        Each-map PlainTree (λ e. e.1.answer.tree m.1 (P // codes "patternProperties" // e.0) (Q // m.0)) (matching S W u m.0)
-        (Each-implies (GoodEntry Good) _ (λ e c. c.2 m.1 h _ _) (matching S W u m.0)
-        (Each-filter_once (GoodEntry Good) (λ e. matches W u e.0 m.0) (entries_at S (codes "patternProperties")) (entries_at_good Good S g (codes "patternProperties"))))
+        Each-map PlainTree _ _
+        (Each-implies (GoodEntry Good) _ (λ e c. c.2 m.1 h _ _) _
+        (Each-filter_once (GoodEntry Good) _ _ (entries_at_good Good S g (codes "patternProperties"))))
 
     missing_plain : (b : Bool) → Each PlainTree (missing_child W u S v P Q b)
-    missing_plain b = put_each PlainTree _ _ (erring_plain (P // codes "required") Q _ (required_prints (names_at S (codes "required")) v (P // codes "required") Q))
+    missing_plain b = put_each PlainTree _ _ (erring_plain _ _ _ (required_prints (names_at S (codes "required")) v (P // codes "required") Q))
 
     module _ (k : Name) (p : Part Meaning) (h : GoodPart Good p) where
       additional_plain : (m : Name × Data) → IsPlain m.1 → Each PlainTree (additional_trees W u S v P Q k p m)
@@ -161,23 +159,23 @@ module _ (W : World) (u : Bool) where
 
       branches_plain : (test : Subschema → Bool) → Each PlainTree (branch_trees W u S v P Q k p test)
       branches_plain test =
-          Each-map PlainTree (λ b. b.1.answer.tree v (P // k // b.0) Q) (filter_once (λ b. test b.1) (branches p))
-          (Each-implies (GoodEntry Good) _ (λ b c. c.2 v fine _ _) (filter_once (λ b. test b.1) (branches p)) (Each-filter_once (GoodEntry Good) (λ b. test b.1) (branches p) (branches_good Good p h)))
+          Each-map PlainTree _ _
+          (Each-implies (GoodEntry Good) _ (λ b c. c.2 v fine _ _) _ (Each-filter_once (GoodEntry Good) _ _ (branches_good Good p h)))
 
       asked_plain : (w : Keyword) → Each PlainTree (asked_trees W u S v P Q k p w)
       asked_plain w =
-          Each-map PlainTree (λ a. a.sub.answer.tree a.value (down P a.in_schema) (down Q a.in_instance)) (applied W u S k p v w)
-          (Each-implies (GoodAsked Good IsPlain) _ (λ a c. c.0.2 a.value c.1 _ _) (applied W u S k p v w) (applied_good Good IsPlain W u S k p h v fine (members_plain v fine) w))
+          Each-map PlainTree _ _
+          (Each-implies (GoodAsked Good IsPlain) _ (λ a c. c.0.2 a.value c.1 _ _) _ (applied_good Good IsPlain W u S k p h v fine (members_plain v fine) w))
 
       own_told : (w : Keyword) → Each ToldPlain (described (own W u S k p v P Q w))
       own_told w = described_plain _ (own_prints S k p h v fine P Q w)
 
       each_member_plain : (f : Name × Data → List Tree) → ((m : Name × Data) → IsPlain m.1 → Each PlainTree (f m)) → Each PlainTree (flat_map f (members v))
-      each_member_plain f c = Each-flat_map PlainTree f (members v) (Each-implies (λ m. IsPlain m.1) (λ m. Each PlainTree (f m)) c (members v) (members_plain v fine))
+      each_member_plain f c = Each-flat_map PlainTree _ _ (Each-implies (λ m. IsPlain m.1) (λ m. Each PlainTree (f m)) c _ (members_plain v fine))
 
       properties_plain : Each PlainTree (properties_child W u S v P Q k p)
       properties_plain = put_each PlainTree _ _ (result_plain (P // k) Q (on_objects W u S v P Q true (map (λ m. m.0) (filter_once (λ m. is_declared S m.0) (members v)))) false [] _ tt
-          (Each-append PlainTree (flat_map (declared_trees W u S v P Q) (members v)) _ (each_member_plain _ declared_plain) (missing_plain (fuses_two S))))
+          (Each-append PlainTree _ _ (each_member_plain _ declared_plain) (missing_plain (fuses_two S))))
 
       patterns_plain : Each PlainTree (patterns_child W u S v P Q k p)
       patterns_plain = put_each PlainTree _ _
@@ -185,34 +183,18 @@ module _ (W : World) (u : Bool) where
           (asked_plain pattern_properties))
 
       additionals_plain : Each PlainTree (additional_child W u S v P Q k p)
-      additionals_plain = put_each PlainTree _ _ (result_plain (P // k) Q shown_names false _ _ (own_told additional_properties)
-          (Each-append PlainTree (all_trees ++ extra) _
-          (Each-append PlainTree all_trees extra
-          (each_member_plain each_tree (λ m c. Each-append PlainTree (declared_trees W u S v P Q m ++ pattern_trees W u S v P Q m) _
-          (Each-append PlainTree (declared_trees W u S v P Q m) _ (declared_plain m c) (pattern_plain m c)) (additional_plain m c)))
+      additionals_plain = put_each PlainTree _ _ (result_plain _ _ _ false _ _ (own_told additional_properties)
+          (Each-append PlainTree _ _
+          (Each-append PlainTree _ _
+          (each_member_plain _ (λ m c. Each-append PlainTree _ _
+          (Each-append PlainTree _ _ (declared_plain m c) (pattern_plain m c)) (additional_plain m c)))
           (put_each PlainTree _ _ (tt, tt)))
           (missing_plain (fuses_one S))))
-        where
-          shown_names : Option (List Name)
-          shown_names =
-              on_objects W u S v P Q (is_object p.whole.schema && (cond (declares S) (has_patterns S) (not (has_patterns S)) || not (is_empty (additional_names W u S v P Q))))
-              (additional_names W u S v P Q)
-
-          each_tree : Name × Data → List Tree
-          each_tree m = declared_trees W u S v P Q m ++ pattern_trees W u S v P Q m ++ additional_trees W u S v P Q k p m
-
-          all_trees : List Tree
-          all_trees = flat_map each_tree (members v)
-
-          extra : List Tree
-          extra =
-              where_so (has_patterns S && not (declares S) && not (is_empty (matched_names W u S v P Q))) (node (P // codes "patternProperties") Q true (Some (matched_names W u S v P Q)) [] no_tree)
 
       names_plain : Each PlainTree (names_child W u S v P Q k p)
       names_plain =
           Each-append PlainTree (where_so (is_object p.whole.schema) (plain (P // k) Q (map (λ m. p.whole.answer.tree (string m.0) (P // k) Q) (members v)))) _
-          (put_each PlainTree _ _ (plain_plain (P // k) Q _ (Each-map PlainTree (λ m. p.whole.answer.tree (string m.0) (P // k) Q) (members v)
-          (Each-any _ (λ m. h.0.2 (string m.0) refl _ _) (members v)))))
+          (put_each PlainTree _ _ (plain_plain _ _ _ (Each-map PlainTree _ (members v) (Each-any _ (λ m. h.0.2 (string m.0) refl _ _) _))))
           (put_each PlainTree _ _ (erring_plain (P // k) Q _ (put_prints (not (is_empty (members v))) (fault FalseSchema v Q (P // k)) fine)))
 
       dependency_plain : (e : Name × Subschema) → GoodEntry Good e → PlainTree (dependency_tree W u S v P Q k p e)
@@ -226,13 +208,13 @@ module _ (W : World) (u : Bool) where
           (result_plain (P // k) Q None false _ _ (put_each ToldPlain (nat_lt 1 (accepting p v)) _ refl) (branches_plain (λ s. holds s v)))
 
       case_plain : (b : Bool) (n : Name) → Each PlainTree (case_trees W u S v P Q k p b n)
-      case_plain b n = Each-flat_map PlainTree (λ s. where_so b (s.answer.tree v (P // n) Q)) (wholes_at S n)
-          (Each-implies (GoodSub Good) _ (λ s c. put_each PlainTree b _ (c.2 v fine _ _)) (wholes_at S n) (wholes_at_good Good S g n))
+      case_plain b n = Each-flat_map PlainTree _ _
+          (Each-implies (GoodSub Good) _ (λ s c. put_each PlainTree _ _ (c.2 v fine _ _)) _ (wholes_at_good Good S g n))
 
       if_plain : Each PlainTree (if_child W u S v P Q k p)
       if_plain = put_each PlainTree _ _ (plain_plain (P // k) Q _
           (Each-append PlainTree (where_so (holds p.whole v) (p.whole.answer.tree v (P // k) Q) ++ case_trees W u S v P Q k p (holds p.whole v) (codes "then")) _
-          (Each-append PlainTree (where_so (holds p.whole v) (p.whole.answer.tree v (P // k) Q)) _ (put_each PlainTree (holds p.whole v) _ (h.0.2 v fine _ _))
+          (Each-append PlainTree _ _ (put_each PlainTree _ _ (h.0.2 v fine _ _))
           (case_plain (holds p.whole v) (codes "then")))
           (case_plain (not (holds p.whole v)) (codes "else"))))
 
@@ -241,39 +223,39 @@ module _ (W : World) (u : Bool) where
       child_plain pattern_properties = patterns_plain
       child_plain additional_properties = additionals_plain
       child_plain property_names = names_plain
-      child_plain required = put_each PlainTree _ _ (erring_plain (P // k) Q _ (required_prints (names p) v (P // k) Q))
+      child_plain required = put_each PlainTree _ _ (erring_plain _ _ _ (required_prints (names p) v (P // k) Q))
       child_plain dependent_required = (
-        plain_plain (P // k) Q _ (Each-map PlainTree (λ e. erring (P // k) Q (required_faults e.1 v (P // k) Q)) (due p v)
-            (Each-any _ (λ e. erring_plain (P // k) Q _ (required_prints e.1 v (P // k) Q)) (due p v))),
+        plain_plain _ _ _ (Each-map PlainTree _ (due p v)
+            (Each-any _ (λ e. erring_plain _ _ _ (required_prints e.1 v (P // k) Q)) _)),
         tt,
       )
-      child_plain dependent_schemas = (plain_plain (P // k) Q _ (asked_plain dependent_schemas), tt)
+      child_plain dependent_schemas = (plain_plain _ _ _ (asked_plain dependent_schemas), tt)
       child_plain dependencies = (
-        plain_plain (P // k) Q _ (Each-map PlainTree (dependency_tree W u S v P Q k p) (filter_once (λ e. has e.0 v) p.entries)
-            (Each-implies (GoodEntry Good) _ dependency_plain _ (Each-filter_once (GoodEntry Good) (λ e. has e.0 v) p.entries h.1))),
+        plain_plain _ _ _ (Each-map PlainTree _ _
+            (Each-implies (GoodEntry Good) _ dependency_plain _ (Each-filter_once (GoodEntry Good) _ _ h.1))),
         tt,
       )
-      child_plain property_dependencies = (plain_plain (P // k) Q _ (asked_plain property_dependencies), tt)
-      child_plain all_of = (plain_plain (P // k) Q _ (asked_plain all_of), tt)
+      child_plain property_dependencies = (plain_plain _ _ _ (asked_plain property_dependencies), tt)
+      child_plain all_of = (plain_plain _ _ _ (asked_plain all_of), tt)
       child_plain any_of = (any_of_plain, tt)
       child_plain one_of = (one_of_plain, tt)
-      child_plain not_keyword = (erring_plain (P // k) Q _ (own_prints S k p h v fine P Q not_keyword), tt)
+      child_plain not_keyword = (erring_plain _ _ _ (own_prints S k p h v fine P Q not_keyword), tt)
       child_plain if_keyword = if_plain
       child_plain leaf = (own_told leaf, tt)
       child_plain w = tt
 
   keywords_print : (S : Keywords Meaning) → GoodKeywords Good S → ReportsNone (meaning_step W u (keywords S))
   keywords_print S g v fine P Q =
-      Each-flat_map PrintsNone (λ m. keyword_report W u S m.0 m.1 v P Q (keyword_named W m.0)) S
-      (Each-implies (λ m. GoodPart Good m.1) _ (λ m h. keyword_prints S m.0 m.1 h v fine P Q (keyword_named W m.0)) S g)
+      Each-flat_map PrintsNone _ _
+      (Each-implies (λ m. GoodPart Good m.1) _ (λ m h. keyword_prints S m.0 m.1 h v fine P Q (keyword_named W m.0)) _ g)
 
   keywords_show : (S : Keywords Meaning) → GoodKeywords Good S → ShowsNone (meaning_step W u (keywords S))
-  keywords_show S g v fine P Q = plain_plain P Q _
-      (Each-flat_map PlainTree (λ m. keyword_child W u S v P Q m.0 m.1 (keyword_named W m.0)) S
-      (Each-implies (λ m. GoodPart Good m.1) _ (λ m h. child_plain S g v fine P Q m.0 m.1 h (keyword_named W m.0)) S g))
+  keywords_show S g v fine P Q = plain_plain _ _ _
+      (Each-flat_map PlainTree _ _
+      (Each-implies (λ m. GoodPart Good m.1) _ (λ m h. child_plain S g v fine P Q m.0 m.1 h (keyword_named W m.0)) _ g))
 
   step_prints : (d : Data) → IsPlain d → GoodSchema Good (schema_read (meaning_step W u) d) → Good d (meaning_step W u (schema_read (meaning_step W u) d))
-  step_prints (boolean b) s g = (s, λ v fine P Q. put_prints (not b) (fault FalseSchema v Q P) fine, λ v fine P Q. erring_plain P Q _ (put_prints (not b) (fault FalseSchema v Q P) fine))
+  step_prints (boolean b) s g = (s, λ v fine P Q. put_prints _ _ fine, λ v fine P Q. erring_plain _ _ _ (put_prints _ _ fine))
   step_prints (object ms) s g = let S = read_members (meaning_step W u) ms in (s, keywords_print S g, keywords_show S g)
   step_prints _ s g = (s, λ v fine P Q. tt, λ v fine P Q. (tt, tt))
 
@@ -294,11 +276,8 @@ mutual
   like_prints (fault k v Q P) (fault l w R O) (like h) = like_kind_prints k l v h
 
   like_kind_prints : (k l : Kind) (v : Data) → IsLikeKind k l → kind_prints_fraction k v ≡ kind_prints_fraction l v
-  like_kind_prints k l v itself = refl
-  like_kind_prints (AnyOf c) (AnyOf d) v (like_any_of h) = refl
-  like_kind_prints (OneOfNotValid c) (OneOfNotValid d) v (like_not_valid h) = refl
-  like_kind_prints (OneOfMultipleValid c) (OneOfMultipleValid d) v (like_multiple h) = refl
-  like_kind_prints (PropertyNames f) (PropertyNames g) v (like_names h) = like_prints f g h
+  like_kind_prints k l v (like_names {f} {g} h) = like_prints f g h
+  like_kind_prints k l v h = refl
 
 ∼_prints : {fs gs : List Fault} → fs ∼ gs → Each PrintsNone gs → Each PrintsNone fs
 ∼_prints like_empty h = tt
@@ -320,9 +299,6 @@ mutual
 pub cut_prints : (f : Fault) → PrintsNone f → PrintsNone (cut f)
 cut_prints f h = cut_fault_prints f ∙ h
 
-each_contained : (fs : List Fault) → Each PrintsNone fs → (f : Fault) → Contains fs f → PrintsNone f
-each_contained fs h f c = All-contains PrintsNone fs f (All-from_recursion PrintsNone fs (by_recursion fs h)) c
-
 module _ (W : World) (u : Bool) (S v : Data) (s : IsPlain S) (fine : IsPlain v) (P Q : Path) where
   -- a list that has the same faults, and one of them as `validate` gives it
   pub same_faults_print_none : (fs : List Fault) → IsReport W u S v P Q fs → Each PrintsNone fs
@@ -339,9 +315,9 @@ own_promised P Q ((k, t, fraction) ∷ es) h = (h.0, own_promised P Q es h.1)
 
 mutual
   pub errors_promised : (t : Tree) → PlainTree t → Each IsPromised (errors t)
-  errors_promised (node P Q b a es ts) h = Each-append IsPromised (map (λ e. (P, Q, e)) es) (errors_of ts) (own_promised P Q es h.0) (all_promised ts h.1)
+  errors_promised (node P Q b a es ts) h = Each-append IsPromised _ _ (own_promised P Q es h.0) (all_promised ts h.1)
   errors_promised (leaf_node P Q es) h = own_promised P Q es h
 
   all_promised : (ts : Trees) → PlainTrees ts → Each IsPromised (errors_of ts)
   all_promised no_tree h = tt
-  all_promised (and_tree t ts) h = Each-append IsPromised (errors t) (errors_of ts) (errors_promised t h.0) (all_promised ts h.1)
+  all_promised (and_tree t ts) h = Each-append IsPromised _ _ (errors_promised t h.0) (all_promised ts h.1)
