@@ -9,7 +9,7 @@ ghost use Rattle.olk_tree.specs.Tables.{known_says};
 ghost use Rattle.olk_evaluate.specs.Additional.{Collects, CollectsMore, declared_found, match_found, rest_found, member_found, members_found, names_of};
 ghost use Rattle.olk_evaluate.specs.Shows.{Shows};
 
-use crate::Show;
+use crate::Located;
 use crate::properties::add_child_below;
 use olk_base::{CompiledPattern, RegexEngine, ValidationContext};
 use olk_check::matches_unless_known;
@@ -57,7 +57,7 @@ fn push_if<'a>(names: &mut Vec<&'a str>, name: &'a str, is_shown: bool) -> Resul
 }
 
 /// What is met of the members, in their order.
-pub(crate) fn collect<'a, R: RegexEngine, N: Show<'a>>(
+pub(crate) fn collect<'a, R: RegexEngine, N: Located<'a>>(
     alloc: Global,
     keyword: &'a AdditionalProperties<R, N>,
     members: &'a Map<String, Value>,
@@ -90,7 +90,7 @@ pub(crate) fn collect<'a, R: RegexEngine, N: Show<'a>>(
 
 /// A member: what is declared at its name, the patterns that match it, and, where neither speaks of
 /// it, the rest.
-fn collect_member<'a, R: RegexEngine, N: Show<'a>>(
+fn collect_member<'a, R: RegexEngine, N: Located<'a>>(
     alloc: Global,
     keyword: &'a AdditionalProperties<R, N>,
     declared: Option<(usize, &'a N)>,
@@ -123,7 +123,7 @@ fn collect_member<'a, R: RegexEngine, N: Show<'a>>(
 
 /// What is declared at a member's name, if anything is.
 #[inline(always)]
-fn collect_declared<'a, N: Show<'a>>(
+fn collect_declared<'a, N: Located<'a>>(
     alloc: Global,
     declared: Option<(usize, &'a N)>,
     name: &'a str,
@@ -155,7 +155,7 @@ fn collect_declared<'a, N: Show<'a>>(
 
 /// A pattern's node, if the pattern matches the member's name, and whether it does.
 #[inline(always)]
-fn collect_if_matched<'a, R: RegexEngine, N: Show<'a>>(
+fn collect_if_matched<'a, R: RegexEngine, N: Located<'a>>(
     alloc: Global,
     entry: &'a (CompiledPattern<R>, N),
     known: Option<bool>,
@@ -191,7 +191,7 @@ fn collect_if_matched<'a, R: RegexEngine, N: Show<'a>>(
 /// A member that nothing else speaks of: its name, and what the rest shows of it, if there is a
 /// rest.
 #[inline(always)]
-fn collect_additional<'a, N: Show<'a>>(
+fn collect_additional<'a, N: Located<'a>>(
     alloc: Global,
     rest: &'a Option<N>,
     name: &'a str,

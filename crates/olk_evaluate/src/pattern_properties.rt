@@ -5,8 +5,8 @@ ghost use Rattle.olk_evaluate.specs.Members.{MeetsMore, wanted_at};
 ghost use Rattle.olk_evaluate.specs.Patterns.{match_here, matches_of, matches_of_all};
 ghost use Rattle.olk_evaluate.specs.Shows.{Shows};
 
-use crate::Show;
 use crate::properties::{Met, meet_member};
+use crate::{Located, Show};
 use olk_base::{CompiledPattern, Node, RegexEngine, ValidationContext};
 use olk_check::matches;
 use olk_paths::InstancePath;
@@ -17,8 +17,10 @@ use std::alloc::{AllocError, Global};
 
 /// A child for each match, pattern by pattern; where the value is an object, a name for each match
 /// is annotated (JSON Schema 2020-12 Core, 10.3.2.2).
-impl<'a, R: RegexEngine, N: Show<'a>> Show<'a> for PatternProperties<R, N> {
+impl<'a, R: RegexEngine, N: Located<'a>> Show<'a> for PatternProperties<R, N> {
     ghost use Rattle.olk_tree.specs.PatternProperties.{pattern_properties_answers};
+
+    ghost place = { λ k. k.location };
 
     ghost tree = { λ k. (pattern_properties_answers R.answers R.costs k).tree N.means N.tree };
 
@@ -45,8 +47,10 @@ impl<'a, R: RegexEngine, N: Show<'a>> Show<'a> for PatternProperties<R, N> {
 
 /// A child for each match; where the value is an object, the names that match are annotated (JSON
 /// Schema 2020-12 Core, 10.3.2.2).
-impl<'a, R: RegexEngine, N: Show<'a>> Show<'a> for SingleValuePatternProperties<R, N> {
+impl<'a, R: RegexEngine, N: Located<'a>> Show<'a> for SingleValuePatternProperties<R, N> {
     ghost use Rattle.olk_tree.specs.PatternProperties.{single_pattern_properties_answers};
+
+    ghost place = { λ k. k.location };
 
     ghost tree = { λ k.
         (single_pattern_properties_answers R.answers R.costs k).tree N.means N.tree };
@@ -73,7 +77,7 @@ impl<'a, R: RegexEngine, N: Show<'a>> Show<'a> for SingleValuePatternProperties<
 }
 
 /// The members whose names patterns match, pattern by pattern.
-fn meet_patterns<'a, R: RegexEngine, N: Show<'a>>(
+fn meet_patterns<'a, R: RegexEngine, N: Located<'a>>(
     alloc: Global,
     patterns: &'a Vec<(CompiledPattern<R>, N)>,
     members: &'a Map<String, Value>,
@@ -93,7 +97,7 @@ fn meet_patterns<'a, R: RegexEngine, N: Show<'a>>(
 }
 
 /// The members whose names the pattern matches.
-fn meet_matched<'a, R: RegexEngine, N: Show<'a>>(
+fn meet_matched<'a, R: RegexEngine, N: Located<'a>>(
     alloc: Global,
     pattern: &'a CompiledPattern<R>,
     subschema: &'a N,
@@ -123,7 +127,7 @@ fn meet_matched<'a, R: RegexEngine, N: Show<'a>>(
 }
 
 /// A member, if the pattern matches its name.
-fn meet_if_matched<'a, R: RegexEngine, N: Show<'a>>(
+fn meet_if_matched<'a, R: RegexEngine, N: Located<'a>>(
     alloc: Global,
     pattern: &'a CompiledPattern<R>,
     subschema: &'a N,

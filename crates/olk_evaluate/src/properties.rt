@@ -11,9 +11,9 @@ ghost use Rattle.olk_evaluate.specs.Members.{HasMet, MeetsMore, wanted_at};
 ghost use Rattle.olk_evaluate.specs.Shows.{Shows};
 ghost use Rattle.olk_evaluate.specs.Wanted.{ShowsMore, wanted, trees_of};
 
-use crate::Show;
 use crate::required::add_missing_child;
 use crate::walk::add_child;
+use crate::{Located, Show};
 use olk_base::{Node, ValidationContext};
 use olk_paths::InstancePath;
 use olk_reports::{EvaluationNode, EvaluationResult};
@@ -26,8 +26,10 @@ use std::alloc::{AllocError, Global};
 
 /// A child for each member whose name is declared; where the value is an object, these names are
 /// annotated (JSON Schema 2020-12 Core, 10.3.2.1).
-impl<'a, N: Show<'a>> Show<'a> for Properties<N> {
+impl<'a, N: Located<'a>> Show<'a> for Properties<N> {
     ghost use Rattle.olk_tree.specs.Properties.{properties_answers};
+
+    ghost place = { λ k. k.location };
 
     ghost tree = { λ k. (properties_answers k).tree N.means N.tree };
 
@@ -53,8 +55,10 @@ impl<'a, N: Show<'a>> Show<'a> for Properties<N> {
 
 /// Beside these, a child at the place of `required` where an object lacks one of the two names,
 /// with an error for each (JSON Schema 2020-12 Validation, 6.5.3).
-impl<'a, N: Show<'a>> Show<'a> for SmallPropertiesWithRequired2<N> {
+impl<'a, N: Located<'a>> Show<'a> for SmallPropertiesWithRequired2<N> {
     ghost use Rattle.olk_tree.specs.Properties.{properties_with_required2_answers};
+
+    ghost place = { λ k. k.location };
 
     ghost tree = { λ k. (properties_with_required2_answers k).tree N.means N.tree };
 
@@ -116,7 +120,7 @@ impl<'a> Met<'a> {
 }
 
 /// The members that are declared, in the order of their names.
-fn meet<'a, N: Show<'a> + 'a>(
+fn meet<'a, N: Located<'a> + 'a>(
     alloc: Global,
     properties: &'a SortedEntries<N>,
     members: &'a Map<String, Value>,
@@ -139,7 +143,7 @@ fn meet<'a, N: Show<'a> + 'a>(
 
 /// One member more: its name, and what is shown of its value.
 #[inline(always)]
-pub(crate) fn meet_member<'a, N: Show<'a>>(
+pub(crate) fn meet_member<'a, N: Located<'a>>(
     alloc: Global,
     subschema: &'a N,
     name: &'a str,
@@ -158,7 +162,7 @@ pub(crate) fn meet_member<'a, N: Show<'a>>(
 
 /// One child more: what is shown of a member's value.
 #[inline(always)]
-pub(crate) fn add_child_below<'a, N: Show<'a>>(
+pub(crate) fn add_child_below<'a, N: Located<'a>>(
     alloc: Global,
     subschema: &'a N,
     name: &str,

@@ -5,7 +5,7 @@ ghost use Rattle.olk_reports.specs.Evaluations.{nothing_shown, shown_of, tree_of
 ghost use Rattle.olk_evaluate.specs.Shows.{Shows};
 ghost use Rattle.olk_evaluate.specs.Wanted.{IsShown, AreShown, ShowsEach, ShowsMore, ShowsOne, wanted, each_wanted, trees_of};
 
-use crate::Show;
+use crate::Located;
 use olk_base::{Node, ValidationContext};
 use olk_paths::{InstancePath, PathText};
 use olk_reports::{EvaluationNode, EvaluationResult};
@@ -16,7 +16,7 @@ use std::alloc::{AllocError, Global};
 /// # Errors
 ///
 /// Out of memory.
-pub fn child<'a, N: Show<'a>>(
+pub fn child<'a, N: Located<'a>>(
     alloc: Global,
     schema: &'a N,
     node: Node<'a>,
@@ -35,7 +35,7 @@ pub fn child<'a, N: Show<'a>>(
 
 /// One child more: what the node shows.
 #[inline(always)]
-pub(crate) fn add_child<'a, N: Show<'a>>(
+pub(crate) fn add_child<'a, N: Located<'a>>(
     alloc: Global,
     schema: &'a N,
     node: Node<'a>,
@@ -55,7 +55,7 @@ pub(crate) fn add_child<'a, N: Show<'a>>(
 }
 
 /// What each of them shows, below a result that shows nothing yet.
-pub(crate) fn show_each<'a, N: Show<'a>>(
+pub(crate) fn show_each<'a, N: Located<'a>>(
     alloc: Global,
     schemas: &'a Vec<N>,
     node: Node<'a>,
@@ -74,7 +74,7 @@ pub(crate) fn show_each<'a, N: Show<'a>>(
 }
 
 /// What the one shows, below a result that shows nothing yet.
-pub(crate) fn show_one<'a, N: Show<'a>>(
+pub(crate) fn show_one<'a, N: Located<'a>>(
     alloc: Global,
     schema: &'a N,
     node: Node<'a>,
@@ -94,7 +94,7 @@ pub(crate) fn show_one<'a, N: Show<'a>>(
 }
 
 /// What each of them shows.
-pub(crate) fn each_child<'a, N: Show<'a>>(
+pub(crate) fn each_child<'a, N: Located<'a>>(
     alloc: Global,
     schemas: &'a Vec<N>,
     node: Node<'a>,
