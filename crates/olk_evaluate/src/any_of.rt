@@ -81,7 +81,7 @@ pub(crate) fn accepting_children<'a, N: Located<'a>>(
     let mut children: Vec<EvaluationNode<'a>> = Vec::new(alloc);
     for schema in schemas {
         if schema.is_valid(node, ctx) {
-            add_child(alloc, schema, node, path, ctx, &mut children)?;
+            add_child(schema, node, path, ctx, &mut children)?;
         }
     }
     Ok(children)

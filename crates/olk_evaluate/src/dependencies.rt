@@ -63,7 +63,7 @@ fn due_children<'a, N: Located<'a>>(
 {
     let mut children: Vec<EvaluationNode<'a>> = Vec::new(alloc);
     for (_, dependency, _) in dependencies.declared_members(members) {
-        add_child(alloc, dependency, object, path, ctx, &mut children)?;
+        add_child(dependency, object, path, ctx, &mut children)?;
     }
     Ok(children)
 }

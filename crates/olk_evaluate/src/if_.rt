@@ -121,8 +121,8 @@ fn show_both<'a, N: Located<'a>>(
         (first.now ∷ second.now ∷ []) (data_of node.entry) path.old (shown_of outcome.new)) }
 {
     let mut children: Vec<EvaluationNode<'a>> = Vec::with_capacity(alloc, 2)?;
-    add_child(alloc, first, node, path, ctx, &mut children)?;
-    add_child(alloc, second, node, path, ctx, &mut children)?;
+    add_child(first, node, path, ctx, &mut children)?;
+    add_child(second, node, path, ctx, &mut children)?;
     outcome.take_children(children);
     Ok(())
 }

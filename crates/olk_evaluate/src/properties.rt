@@ -136,7 +136,7 @@ fn meet<'a, N: Located<'a> + 'a>(
     let most = members.len().min(properties.len());
     let mut met: Met<'a> = Met::with_capacity(alloc, most)?;
     for (name, subschema, value) in DeclaredMembers::of(properties, members) {
-        meet_member(alloc, subschema, name, value, path, ctx, &mut met)?;
+        meet_member(subschema, (name, value), path, ctx, &mut met)?;
     }
     Ok(met)
 }
@@ -144,40 +144,37 @@ fn meet<'a, N: Located<'a> + 'a>(
 /// One member more: its name, and what is shown of its value.
 #[inline(always)]
 pub(crate) fn meet_member<'a, N: Located<'a>>(
-    alloc: Global,
     subschema: &'a N,
-    name: &'a str,
-    value: &'a Value,
+    member: (&'a str, &'a Value),
     path: &mut InstancePath,
     ctx: &mut ValidationContext,
     met: &mut Met<'a>,
 ) -> Result<(), AllocError>
     ensures { Shows result path.old path.new ctx.old ctx.new (λ _. MeetsMore
         (wanted_at N.tree N.means ctx.old.answer path.old)
-        (declared_as name.now subschema.now (view value.now)) met.old met.new) }
+        (declared_as member.entry.0.now subschema.now (view member.entry.1.now))
+        met.old met.new) }
 {
-    met.names.push(name)?;
-    add_child_below(alloc, subschema, name, value, path, ctx, &mut met.children)
+    met.names.push(member.0)?;
+    add_child_below(subschema, member, path, ctx, &mut met.children)
 }
 
 /// One child more: what is shown of a member's value.
 #[inline(always)]
 pub(crate) fn add_child_below<'a, N: Located<'a>>(
-    alloc: Global,
     subschema: &'a N,
-    name: &str,
-    value: &'a Value,
+    member: (&'a str, &'a Value),
     path: &mut InstancePath,
     ctx: &mut ValidationContext,
     children: &mut Vec<EvaluationNode<'a>>,
 ) -> Result<(), AllocError>
     ensures { Shows result path.old path.new ctx.old ctx.new (λ _. ShowsMore
         (wanted N.tree N.means ctx.old.answer
-        subschema.now (view value.now) (one_below path.old name.now))
+        subschema.now (view member.entry.1.now) (one_below path.old member.entry.0.now))
         children.old.items children.new.items) }
 {
-    let mark = path.push(name)?;
-    let added = add_child(alloc, subschema, Node::Value(value), path, ctx, children);
+    let mark = path.push(member.0)?;
+    let added = add_child(subschema, Node::Value(member.1), path, ctx, children);
     path.pop(mark);
     added
 }

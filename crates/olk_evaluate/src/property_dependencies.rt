@@ -73,7 +73,7 @@ fn chosen_children<'a, N: Located<'a>>(
     let mut children: Vec<EvaluationNode<'a>> = Vec::new(alloc);
     for (_, choices, value) in dependencies.declared_members(members) {
         if let Some(dependency) = choices.chosen_by(value) {
-            add_child(alloc, dependency, object, path, ctx, &mut children)?;
+            add_child(dependency, object, path, ctx, &mut children)?;
         }
     }
     Ok(children)

@@ -87,7 +87,7 @@ fn name_children<'a, N: Located<'a>>(
 {
     let mut children: Vec<EvaluationNode<'a>> = Vec::with_capacity(alloc, members.len())?;
     for (name, _) in members {
-        add_child(alloc, subschema, Node::Name(name), path, ctx, &mut children)?;
+        add_child(subschema, Node::Name(name), path, ctx, &mut children)?;
     }
     Ok(children)
 }

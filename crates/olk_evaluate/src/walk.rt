@@ -36,7 +36,6 @@ pub fn child<'a, N: Located<'a>>(
 /// One child more: what the node shows.
 #[inline(always)]
 pub(crate) fn add_child<'a, N: Located<'a>>(
-    alloc: Global,
     schema: &'a N,
     node: Node<'a>,
     path: &mut InstancePath,
@@ -47,6 +46,7 @@ pub(crate) fn add_child<'a, N: Located<'a>>(
         (wanted N.tree N.means ctx.old.answer schema.now (data_of node.entry) path.old)
         children.old.items children.new.items) }
 {
+    let alloc = *children.allocator();
     let text = PathText::from_str(alloc, path.as_str())?;
     let last = children.len();
     children.reserve(1)?;
@@ -88,7 +88,7 @@ pub(crate) fn show_one<'a, N: Located<'a>>(
         (shown_of outcome.new)) }
 {
     let mut children: Vec<EvaluationNode<'a>> = Vec::with_capacity(alloc, 1)?;
-    add_child(alloc, schema, node, path, ctx, &mut children)?;
+    add_child(schema, node, path, ctx, &mut children)?;
     outcome.take_children(children);
     Ok(())
 }
@@ -107,7 +107,7 @@ pub(crate) fn each_child<'a, N: Located<'a>>(
 {
     let mut children: Vec<EvaluationNode<'a>> = Vec::with_capacity(alloc, schemas.len())?;
     for schema in schemas {
-        add_child(alloc, schema, node, path, ctx, &mut children)?;
+        add_child(schema, node, path, ctx, &mut children)?;
     }
     Ok(children)
 }
