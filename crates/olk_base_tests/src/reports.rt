@@ -170,12 +170,28 @@ fn text_of_leaf(alloc: Global, instance: Node<'_>) -> Result<String, AllocError>
     text_of(alloc, ValidationErrorKind::Leaf { keyword, text }, instance)
 }
 
+/// The keyword and the text of an error, as an evaluation shows it, and the keyword of its kind.
+fn described(alloc: Global, instance: Node<'_>) -> Result<String, AllocError> {
+    let kind = ValidationErrorKind::Required { property: "a" };
+    let error = ValidationError::new(kind, instance, String::new(alloc), "");
+    let keyword = error.kind().keyword();
+    let description = ErrorDescription::from_validation_error(alloc, &error)?;
+    drop(error);
+    format!(in alloc;
+        "{} {} {keyword}",
+        description.keyword(),
+        description.message()
+    )
+}
+
 fn text_of_kind(alloc: Global, word: &str, instance: Node<'_>) -> Result<String, AllocError> {
-    if word == "leaf" {
-        text_of_leaf(alloc, instance)
-    } else {
-        let kind = kind_of_validating(alloc, word, &Value::Bool(true));
-        text_of(alloc, kind, instance)
+    match word {
+        "leaf" => text_of_leaf(alloc, instance),
+        "described" => described(alloc, instance),
+        _ => {
+            let kind = kind_of_validating(alloc, word, &Value::Bool(true));
+            text_of(alloc, kind, instance)
+        }
     }
 }
 
@@ -188,7 +204,7 @@ fn kind(alloc: Global, cells: &str) -> Result<String, Fail> {
     Ok(text?)
 }
 
-// The kind of an error, the name that it is of, and its text.
+// The kind of an error, the name that it is of, and its text; once with keywords.
 const KINDS: &str =
     r#"anyOf | k"l | "k\"l" is not valid under any of the schemas listed in the 'anyOf' keyword
 oneOf, none | k"l | "k\"l" is not valid under any of the schemas listed in the 'oneOf' keyword
@@ -197,6 +213,7 @@ not | k"l | true is not allowed for "k\"l"
 required | k"l | "a\"b" is a required property
 false | k"l | False schema does not allow "k\"l"
 leaf | k"l | 4 is less than the minimum of 5
+described | k | required "a" is a required property required
 object | k | "k" is not of type "object"
 array | k | "k" is not of type "array"
 string | k | "k" is not of type "string"

@@ -19,8 +19,8 @@ use Rattle.olk_spec.specs.Schemas.{has, listed, members}
 use Rattle.olk_spec.specs.Accepts.{missing}
 use Rattle.olk_tree.specs.Maps.{texts_of}
 use Rattle.olk_tree.specs.OwnFaults.{fault_if_agrees, unless}
-use Rattle.olk_reports.specs.Evaluations.{Shown, shown, errored, node_at}
-use Rattle.olk_evaluate.specs.Wanted.{Wanted, IsShown, AreShown, refused, lacking_trees, errored_by, AddsErrors, HasTexts, IsDescribedBy}
+use Rattle.olk_reports.specs.Evaluations.{Shown, shown, errored, node_at, IsDescribedBy}
+use Rattle.olk_evaluate.specs.Wanted.{Wanted, IsShown, AreShown, refused, lacking_trees, errored_by, AddsErrors, HasTexts}
 use Rattle.olk_evaluate.specs.Additional.{annotated_if, named_faults, names_of}
 use Rattle.olk_evaluate.proofs.Children.{emptiness_of, trees_wanted, all_wanted, shown_as, result_shown, valid_shown}
 

@@ -3,7 +3,7 @@ use Rattle.std.specs.Prelude.{◌≡◌, ⊤, Bool, false, not, List, [], ◌∷
 use Rattle.serde_json.specs.Data.{Data, string}
 use Rattle.olk_spec.specs.Names.{Name, Text, Path, put_if, is_empty}
 use Rattle.olk_spec.specs.Faults.{Fault, fault, Required}
-use Rattle.olk_spec.specs.Tree.{Tree, IsLikeTree, is_valid, Described, AreTold, described, described_fault, plain, erring}
+use Rattle.olk_spec.specs.Tree.{Tree, IsLikeTree, is_valid, Described, AreTold, described, plain, erring}
 use Rattle.olk_spec.specs.Accepts.{missing}
 use Rattle.olk_reports.specs.Evaluations.{Shown, shown, errored, tree_of, node_at}
 use Rattle.olk_reports.specs.declared.evaluation.EvaluationNode.{EvaluationNode}
@@ -52,11 +52,6 @@ pub record ShowsOne (w : Wanted) (s : Shown) : Type 0 where
   pub child : Tree
   pub is : s ≡ shown (is_valid child) None [] (child ∷ [])
   pub shown : IsShown w child
-
--- the error that shows a fault; a text that prints a fraction may be any text
-pub record IsDescribedBy (f : Fault) (d : Described) : Type 0 where
-  pub keyword : d.0 ≡ (described_fault f).0
-  pub text : (described_fault f).2 ≡ false → d.1 ≡ (described_fault f).1
 
 abbrev pub errored_by : List Described → Shown → Shown
 errored_by [] s = s

@@ -9,7 +9,7 @@ ghost use Rattle.olk_tree.specs.Tables.{known_says};
 ghost use Rattle.olk_evaluate.specs.Additional.{Collects, CollectsMore, declared_found, match_found, rest_found, member_found, members_found, names_of};
 ghost use Rattle.olk_evaluate.specs.Shows.{Shows};
 
-use crate::Show;
+use crate::Located;
 use crate::properties::add_child_below;
 use olk_base::{CompiledPattern, RegexEngine, ValidationContext};
 use olk_check::matches_unless_known;
@@ -57,7 +57,7 @@ fn push_if<'a>(names: &mut Vec<&'a str>, name: &'a str, is_shown: bool) -> Resul
 }
 
 /// What is met of the members, in their order.
-pub(crate) fn collect<'a, R: RegexEngine, N: Show<'a>>(
+pub(crate) fn collect<'a, R: RegexEngine, N: Located<'a>>(
     alloc: Global,
     keyword: &'a AdditionalProperties<R, N>,
     members: &'a Map<String, Value>,
@@ -74,80 +74,59 @@ pub(crate) fn collect<'a, R: RegexEngine, N: Show<'a>>(
         let name = name.as_str();
         let (next, declared) = keyword.declared_from(hint, name);
         hint = next;
-        collect_member(
-            alloc,
-            keyword,
-            declared,
-            name,
-            value,
-            path,
-            ctx,
-            &mut collected,
-        )?;
+        collect_member(keyword, declared, (name, value), path, ctx, &mut collected)?;
     }
     Ok(collected)
 }
 
 /// A member: what is declared at its name, the patterns that match it, and, where neither speaks of
 /// it, the rest.
-fn collect_member<'a, R: RegexEngine, N: Show<'a>>(
-    alloc: Global,
+fn collect_member<'a, R: RegexEngine, N: Located<'a>>(
     keyword: &'a AdditionalProperties<R, N>,
     declared: Option<(usize, &'a N)>,
-    name: &'a str,
-    value: &'a Value,
+    member: (&'a str, &'a Value),
     path: &mut InstancePath,
     ctx: &mut ValidationContext,
     collected: &mut Collected<'a>,
 ) -> Result<(), AllocError>
     ensures { Shows result path.old path.new ctx.old ctx.new (λ _. CollectsMore
         (member_found R.answers N.tree N.means ctx.old.answer path.old keyword.now
-        (option_map (λ f. (f.0, f.1.now)) declared.entry) name.now (view value.now))
+        (option_map (λ f. (f.0, f.1.now)) declared.entry)
+        member.entry.0.now (view member.entry.1.now))
         collected.old collected.new) }
 {
-    collect_declared(alloc, declared, name, value, path, ctx, collected)?;
+    collect_declared(declared, member, path, ctx, collected)?;
     let are_shown = keyword.properties.is_none();
     let mut spoken = declared.is_some();
     for (index, entry) in keyword.patterns().iter().enumerate() {
         let known = keyword.known(declared, index);
-        let is_match = collect_if_matched(
-            alloc, entry, known, are_shown, name, value, path, ctx, collected,
-        )?;
+        let is_match = collect_if_matched(entry, known, are_shown, member, path, ctx, collected)?;
         spoken |= is_match;
     }
     if spoken {
         return Ok(());
     }
-    collect_additional(alloc, &keyword.rest, name, value, path, ctx, collected)
+    collect_additional(&keyword.rest, member, path, ctx, collected)
 }
 
 /// What is declared at a member's name, if anything is.
 #[inline(always)]
-fn collect_declared<'a, N: Show<'a>>(
-    alloc: Global,
+fn collect_declared<'a, N: Located<'a>>(
     declared: Option<(usize, &'a N)>,
-    name: &'a str,
-    value: &'a Value,
+    member: (&'a str, &'a Value),
     path: &mut InstancePath,
     ctx: &mut ValidationContext,
     collected: &mut Collected<'a>,
 ) -> Result<(), AllocError>
     ensures { Shows result path.old path.new ctx.old ctx.new (λ _. CollectsMore
-        (declared_found N.tree N.means ctx.old.answer path.old name.now (view value.now)
+        (declared_found N.tree N.means ctx.old.answer path.old
+        member.entry.0.now (view member.entry.1.now)
         (option_map (λ f. (f.0, f.1.now)) declared.entry))
         collected.old collected.new) }
 {
     match declared {
         Some((_, subschema)) => {
-            add_child_below(
-                alloc,
-                subschema,
-                name,
-                value,
-                path,
-                ctx,
-                &mut collected.children,
-            )
+            add_child_below(subschema, member, path, ctx, &mut collected.children)
         }
         None => Ok(()),
     }
@@ -155,67 +134,49 @@ fn collect_declared<'a, N: Show<'a>>(
 
 /// A pattern's node, if the pattern matches the member's name, and whether it does.
 #[inline(always)]
-fn collect_if_matched<'a, R: RegexEngine, N: Show<'a>>(
-    alloc: Global,
+fn collect_if_matched<'a, R: RegexEngine, N: Located<'a>>(
     entry: &'a (CompiledPattern<R>, N),
     known: Option<bool>,
     is_shown: bool,
-    name: &'a str,
-    value: &'a Value,
+    member: (&'a str, &'a Value),
     path: &mut InstancePath,
     ctx: &mut ValidationContext,
     collected: &mut Collected<'a>,
 ) -> Result<bool, AllocError>
     ensures { Shows result path.old path.new ctx.old ctx.new (λ b.
         b ≡ reads_as ctx.old.answer
-        (known_or (known_says known) (pattern_answers R.answers entry.now.0 name.now))
+        (known_or (known_says known) (pattern_answers R.answers entry.now.0 member.entry.0.now))
         × CollectsMore (match_found N.tree N.means ctx.old.answer path.old
-        name.now (view value.now) is_shown entry.now.1 b) collected.old collected.new) }
+        member.entry.0.now (view member.entry.1.now) is_shown entry.now.1 b)
+        collected.old collected.new) }
 {
-    if !matches_unless_known(known, &entry.0, name, ctx) {
+    if !matches_unless_known(known, &entry.0, member.0, ctx) {
         return Ok(false);
     }
-    add_child_below(
-        alloc,
-        &entry.1,
-        name,
-        value,
-        path,
-        ctx,
-        &mut collected.children,
-    )?;
-    push_if(&mut collected.matched, name, is_shown)?;
+    add_child_below(&entry.1, member, path, ctx, &mut collected.children)?;
+    push_if(&mut collected.matched, member.0, is_shown)?;
     Ok(true)
 }
 
 /// A member that nothing else speaks of: its name, and what the rest shows of it, if there is a
 /// rest.
 #[inline(always)]
-fn collect_additional<'a, N: Show<'a>>(
-    alloc: Global,
+fn collect_additional<'a, N: Located<'a>>(
     rest: &'a Option<N>,
-    name: &'a str,
-    value: &'a Value,
+    member: (&'a str, &'a Value),
     path: &mut InstancePath,
     ctx: &mut ValidationContext,
     collected: &mut Collected<'a>,
 ) -> Result<(), AllocError>
     ensures { Shows result path.old path.new ctx.old ctx.new (λ _. CollectsMore
-        (rest_found N.tree N.means ctx.old.answer path.old name.now (view value.now) rest.now)
+        (rest_found N.tree N.means ctx.old.answer path.old
+        member.entry.0.now (view member.entry.1.now) rest.now)
         collected.old collected.new) }
 {
-    collected.additional.push(name)?;
+    collected.additional.push(member.0)?;
     match rest {
         Some(subschema) => {
-            add_child_below(
-                alloc,
-                subschema,
-                name,
-                value,
-                path,
-                ctx,
-                &mut collected.children,
-            )
+            add_child_below(subschema, member, path, ctx, &mut collected.children)
         }
         None => Ok(()),
     }

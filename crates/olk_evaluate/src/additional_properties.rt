@@ -12,10 +12,10 @@ ghost use Rattle.olk_tree.specs.Visited.{object_of};
 ghost use Rattle.olk_evaluate.specs.Additional.{matches_shown, names_of, annotated_if, rest_annotation, named_faults, faults_without_rest, Completes, HasPlaces};
 ghost use Rattle.olk_evaluate.specs.Wanted.{AddsErrors, AddsShown, AddsTrees, refused, lacking_trees};
 
-use crate::Show;
 use crate::additional_members::collect;
 use crate::own::own_error;
 use crate::required::add_missing_name;
+use crate::{Located, Show};
 use olk_base::{Node, RegexEngine, ValidationContext};
 use olk_meaning::law_of_names;
 use olk_paths::{InstancePath, PathText};
@@ -32,8 +32,10 @@ use std::alloc::{AllocError, Global};
 /// Behind these, where patterns stand there and `properties` does not, a child at their place with
 /// a name for each match, if there is one; and one at the place of `required` where its name is no
 /// member.
-impl<'a, R: RegexEngine, N: Show<'a>> Show<'a> for AdditionalProperties<R, N> {
+impl<'a, R: RegexEngine, N: Located<'a>> Show<'a> for AdditionalProperties<R, N> {
     ghost use Rattle.olk_tree.specs.AdditionalProperties.{additional_properties_answers};
+
+    ghost place = { λ k. k.location };
 
     ghost tree = { λ k. (additional_properties_answers R.answers R.costs k).tree N.means N.tree };
 

@@ -1,6 +1,6 @@
 //! `allOf`: what it shows.
-use crate::Show;
 use crate::walk::{show_each, show_one};
+use crate::{Located, Show};
 use olk_base::{Node, ValidationContext};
 use olk_paths::InstancePath;
 use olk_reports::EvaluationResult;
@@ -8,8 +8,10 @@ use olk_tree::all_of::{AllOf, SingleValueAllOf};
 use std::alloc::{AllocError, Global};
 
 /// A child for each branch (JSON Schema 2020-12 Core, 10.2.1.1).
-impl<'a, N: Show<'a>> Show<'a> for AllOf<N> {
+impl<'a, N: Located<'a>> Show<'a> for AllOf<N> {
     ghost use Rattle.olk_tree.specs.AllOf.{all_of_answers};
+
+    ghost place = { λ k. k.location };
 
     ghost tree = { λ k. (all_of_answers k).tree N.means N.tree };
 
@@ -27,8 +29,10 @@ impl<'a, N: Show<'a>> Show<'a> for AllOf<N> {
 }
 
 /// A child for the branch.
-impl<'a, N: Show<'a>> Show<'a> for SingleValueAllOf<N> {
+impl<'a, N: Located<'a>> Show<'a> for SingleValueAllOf<N> {
     ghost use Rattle.olk_tree.specs.AllOf.{single_all_of_answers};
+
+    ghost place = { λ k. k.location };
 
     ghost tree = { λ k. (single_all_of_answers k).tree N.means N.tree };
 

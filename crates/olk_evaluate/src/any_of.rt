@@ -4,8 +4,8 @@ ghost use Rattle.olk_spec.specs.Names.{filter_once};
 ghost use Rattle.olk_evaluate.specs.Shows.{Shows};
 ghost use Rattle.olk_evaluate.specs.Wanted.{AreShown, each_wanted, trees_of};
 
-use crate::Show;
 use crate::walk::{add_child, each_child, show_one};
+use crate::{Located, Show};
 use olk_base::{Node, ValidationContext};
 use olk_check::IsValid;
 use olk_paths::InstancePath;
@@ -15,8 +15,10 @@ use std::alloc::{AllocError, Global};
 
 /// A child for each branch that accepts; where there is none, a child for each branch (JSON Schema
 /// 2020-12 Core, 10.2.1.2).
-impl<'a, N: Show<'a>> Show<'a> for AnyOf<N> {
+impl<'a, N: Located<'a>> Show<'a> for AnyOf<N> {
     ghost use Rattle.olk_tree.specs.AnyOf.{any_of_answers};
+
+    ghost place = { λ k. k.location };
 
     ghost tree = { λ k. (any_of_answers k).tree N.means N.tree };
 
@@ -42,8 +44,10 @@ impl<'a, N: Show<'a>> Show<'a> for AnyOf<N> {
 }
 
 /// A child for the branch.
-impl<'a, N: Show<'a>> Show<'a> for SingleAnyOf<N> {
+impl<'a, N: Located<'a>> Show<'a> for SingleAnyOf<N> {
     ghost use Rattle.olk_tree.specs.AnyOf.{single_any_of_answers};
+
+    ghost place = { λ k. k.location };
 
     ghost tree = { λ k. (single_any_of_answers k).tree N.means N.tree };
 
@@ -61,7 +65,7 @@ impl<'a, N: Show<'a>> Show<'a> for SingleAnyOf<N> {
 }
 
 /// What each branch shows that accepts; nothing is built for the others.
-pub(crate) fn accepting_children<'a, N: Show<'a>>(
+pub(crate) fn accepting_children<'a, N: Located<'a>>(
     alloc: Global,
     schemas: &'a Vec<N>,
     node: Node<'a>,
@@ -77,7 +81,7 @@ pub(crate) fn accepting_children<'a, N: Show<'a>>(
     let mut children: Vec<EvaluationNode<'a>> = Vec::new(alloc);
     for schema in schemas {
         if schema.is_valid(node, ctx) {
-            add_child(alloc, schema, node, path, ctx, &mut children)?;
+            add_child(schema, node, path, ctx, &mut children)?;
         }
     }
     Ok(children)

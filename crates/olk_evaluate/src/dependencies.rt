@@ -7,8 +7,8 @@ ghost use Rattle.olk_tree.specs.Visited.{object_of};
 ghost use Rattle.olk_evaluate.specs.Shows.{Shows};
 ghost use Rattle.olk_evaluate.specs.Wanted.{AreShown, each_wanted, trees_of};
 
-use crate::Show;
 use crate::walk::add_child;
+use crate::{Located, Show};
 use olk_base::{Node, ValidationContext};
 use olk_paths::InstancePath;
 use olk_reports::{EvaluationNode, EvaluationResult};
@@ -19,8 +19,10 @@ use serde_json::{Map, Value};
 use std::alloc::{AllocError, Global};
 
 /// A child for each key that is a member of the object (JSON Schema 2020-12 Core, 10.2.2.4).
-impl<'a, N: Show<'a>> Show<'a> for Dependencies<N> {
+impl<'a, N: Located<'a>> Show<'a> for Dependencies<N> {
     ghost use Rattle.olk_tree.specs.Dependencies.{dependencies_answers};
+
+    ghost place = { λ k. k.location };
 
     ghost tree = { λ k. (dependencies_answers k).tree N.means N.tree };
 
@@ -45,7 +47,7 @@ impl<'a, N: Show<'a>> Show<'a> for Dependencies<N> {
 }
 
 /// What the node of each key that is a member shows of the object.
-fn due_children<'a, N: Show<'a>>(
+fn due_children<'a, N: Located<'a>>(
     alloc: Global,
     dependencies: &'a SmallMap<N>,
     members: &'a Map<String, Value>,
@@ -61,7 +63,7 @@ fn due_children<'a, N: Show<'a>>(
 {
     let mut children: Vec<EvaluationNode<'a>> = Vec::new(alloc);
     for (_, dependency, _) in dependencies.declared_members(members) {
-        add_child(alloc, dependency, object, path, ctx, &mut children)?;
+        add_child(dependency, object, path, ctx, &mut children)?;
     }
     Ok(children)
 }

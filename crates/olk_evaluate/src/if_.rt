@@ -5,8 +5,8 @@ ghost use Rattle.olk_reports.specs.Evaluations.{nothing_shown, shown_of};
 ghost use Rattle.olk_evaluate.specs.Shows.{Shows};
 ghost use Rattle.olk_evaluate.specs.Wanted.{ShowsEach};
 
-use crate::Show;
 use crate::walk::{add_child, show_one};
+use crate::{Located, Show};
 use olk_base::{Node, ValidationContext};
 use olk_check::IsValid;
 use olk_paths::InstancePath;
@@ -15,8 +15,10 @@ use olk_tree::if_::{IfElse, IfThen, IfThenElse};
 use std::alloc::{AllocError, Global};
 
 /// Where `if` accepts, a child for it and one for `then` (JSON Schema 2020-12 Core, 10.2.2).
-impl<'a, N: Show<'a>> Show<'a> for IfThen<N> {
+impl<'a, N: Located<'a>> Show<'a> for IfThen<N> {
     ghost use Rattle.olk_tree.specs.If.{if_then_answers};
+
+    ghost place = { λ k. k.location };
 
     ghost tree = { λ k. (if_then_answers k).tree N.means N.tree };
 
@@ -45,8 +47,10 @@ impl<'a, N: Show<'a>> Show<'a> for IfThen<N> {
 }
 
 /// A child for `if` where it accepts, and else one for `else` (JSON Schema 2020-12 Core, 10.2.2).
-impl<'a, N: Show<'a>> Show<'a> for IfElse<N> {
+impl<'a, N: Located<'a>> Show<'a> for IfElse<N> {
     ghost use Rattle.olk_tree.specs.If.{if_else_answers};
+
+    ghost place = { λ k. k.location };
 
     ghost tree = { λ k. (if_else_answers k).tree N.means N.tree };
 
@@ -69,8 +73,10 @@ impl<'a, N: Show<'a>> Show<'a> for IfElse<N> {
 
 /// Where `if` accepts, a child for it and one for `then`, and else one for `else` (JSON Schema
 /// 2020-12 Core, 10.2.2).
-impl<'a, N: Show<'a>> Show<'a> for IfThenElse<N> {
+impl<'a, N: Located<'a>> Show<'a> for IfThenElse<N> {
     ghost use Rattle.olk_tree.specs.If.{if_then_else_answers};
+
+    ghost place = { λ k. k.location };
 
     ghost tree = { λ k. (if_then_else_answers k).tree N.means N.tree };
 
@@ -100,7 +106,7 @@ impl<'a, N: Show<'a>> Show<'a> for IfThenElse<N> {
 }
 
 /// What the two subschemas show.
-fn show_both<'a, N: Show<'a>>(
+fn show_both<'a, N: Located<'a>>(
     alloc: Global,
     first: &'a N,
     second: &'a N,
@@ -115,8 +121,8 @@ fn show_both<'a, N: Show<'a>>(
         (first.now ∷ second.now ∷ []) (data_of node.entry) path.old (shown_of outcome.new)) }
 {
     let mut children: Vec<EvaluationNode<'a>> = Vec::with_capacity(alloc, 2)?;
-    add_child(alloc, first, node, path, ctx, &mut children)?;
-    add_child(alloc, second, node, path, ctx, &mut children)?;
+    add_child(first, node, path, ctx, &mut children)?;
+    add_child(second, node, path, ctx, &mut children)?;
     outcome.take_children(children);
     Ok(())
 }

@@ -11,20 +11,8 @@ use olk_paths::InstancePath;
 use olk_reports::EvaluationResult;
 use std::alloc::{AllocError, Global};
 
-/// What stands at a place of a schema.
-pub trait Located {
-    ghost use Rattle.std.specs.Prelude.{◌≡◌};
-    ghost use Rattle.olk_spec.specs.Names.{Path};
-
-    ghost place: { Self → Path };
-
-    /// The place, a JSON pointer (RFC 6901).
-    fn location(&self) -> &str
-        ensures { result.now ≡ place self.now };
-}
-
 /// What writes what it shows of a value, which stands at its place.
-pub trait Show<'a>: Located + IsValid {
+pub trait Show<'a>: IsValid {
     ghost use Rattle.std.specs.Prelude.{◌≡◌, Bool};
     ghost use Rattle.olk_base.specs.Nodes.{data_of};
     ghost use Rattle.olk_spec.specs.Names.{Path};
@@ -32,6 +20,9 @@ pub trait Show<'a>: Located + IsValid {
     ghost use Rattle.olk_reports.specs.Evaluations.{node_at, nothing_shown, shown_of};
     ghost use Rattle.olk_evaluate.specs.Shows.{Shows};
     ghost use Rattle.olk_evaluate.specs.Wanted.{IsShown, wanted};
+
+    // where it stands in its schema
+    ghost place: { Self → Path };
 
     // the tree that it shows of a value, with either answer for unfinished matches
     ghost tree: { Self → Bool → Data → Path → Tree };
@@ -57,7 +48,16 @@ pub trait Show<'a>: Located + IsValid {
         requires { shown_of outcome.old ≡ nothing_shown }
         ensures { Shows result path.old path.new ctx.old ctx.new (λ _. IsShown
             (wanted tree Self.means ctx.old.answer self.now (data_of node.entry) path.old)
-            (node_at (Self.place self.now) path.old (shown_of outcome.new))) };
+            (node_at (place self.now) path.old (shown_of outcome.new))) };
+}
+
+/// What stands at a place of a schema, and tells it.
+pub trait Located<'a>: Show<'a> {
+    ghost use Rattle.std.specs.Prelude.{◌≡◌};
+
+    /// The place, a JSON pointer (RFC 6901).
+    fn location(&self) -> &str
+        ensures { result.now ≡ Self.place self.now };
 }
 
 /// What can be asked what it shows of a value: all that shows.
@@ -114,7 +114,6 @@ mod all_of;
 mod any_of;
 mod dependencies;
 mod if_;
-mod locations;
 mod node;
 mod not;
 mod one_of;

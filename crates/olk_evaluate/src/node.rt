@@ -5,10 +5,10 @@ ghost use Rattle.olk_reports.specs.Evaluations.{nothing_shown, shown_of};
 ghost use Rattle.olk_evaluate.specs.Shows.{Shows};
 ghost use Rattle.olk_evaluate.specs.Wanted.{HasTexts, ShowsBody};
 
-use crate::Show;
 use crate::own::add_own_error;
 use crate::required::add_missing;
 use crate::walk::show_each;
+use crate::{Located, Show};
 use olk_base::{Leaf, Node, RegexEngine, ValidationContext};
 use olk_paths::InstancePath;
 use olk_reports::{ErrorDescription, EvaluationResult, ValidationErrorKind};
@@ -16,9 +16,11 @@ use olk_tree::node::{Body, KeywordOver};
 use std::alloc::{AllocError, Global};
 
 // `show` of a validator is never inlined here, so that a leaf doesn't pay for its frame.
-impl<'a, K: Leaf, R: RegexEngine, N: Show<'a>> Show<'a> for KeywordOver<K, R, N> {
+impl<'a, K: Leaf, R: RegexEngine, N: Located<'a>> Show<'a> for KeywordOver<K, R, N> {
     ghost use Rattle.olk_base.specs.Kit.{kit};
     ghost use Rattle.olk_tree.specs.Validators.{answers_of};
+
+    ghost place = { λ k. (answers_of (kit K.Leaf R.RegexEngine) k).location };
 
     ghost tree = { λ k. (answers_of (kit K.Leaf R.RegexEngine) k).tree N.means N.tree };
 
@@ -68,6 +70,35 @@ impl<'a, K: Leaf, R: RegexEngine, N: Show<'a>> Show<'a> for KeywordOver<K, R, N>
     }
 }
 
+impl<'a, K: Leaf, R: RegexEngine, N: Located<'a>> Located<'a> for KeywordOver<K, R, N> {
+    #[tactic(auto, unfolding(olk_tree::specs::Validators::answers_of))]
+    fn location(&self) -> &str {
+        match self {
+            KeywordOver::Properties(keyword) => keyword.location.as_str(),
+            KeywordOver::PropertiesWithRequired2(keyword) => keyword.location.as_str(),
+            KeywordOver::Required(keyword) => keyword.location.as_str(),
+            KeywordOver::AllOf(keyword) => keyword.location.as_str(),
+            KeywordOver::SingleValueAllOf(keyword) => keyword.location.as_str(),
+            KeywordOver::AnyOf(keyword) => keyword.location.as_str(),
+            KeywordOver::SingleAnyOf(keyword) => keyword.location.as_str(),
+            KeywordOver::OneOf(keyword) => keyword.location.as_str(),
+            KeywordOver::SingleOneOf(keyword) => keyword.location.as_str(),
+            KeywordOver::Not(keyword) => keyword.location.as_str(),
+            KeywordOver::IfThen(keyword) => keyword.location.as_str(),
+            KeywordOver::IfElse(keyword) => keyword.location.as_str(),
+            KeywordOver::IfThenElse(keyword) => keyword.location.as_str(),
+            KeywordOver::Dependencies(keyword) => keyword.location.as_str(),
+            KeywordOver::PropertyNames(keyword) => keyword.location.as_str(),
+            KeywordOver::PropertyNamesFalse(keyword) => keyword.location.as_str(),
+            KeywordOver::PropertyDependencies(keyword) => keyword.location.as_str(),
+            KeywordOver::PatternProperties(keyword) => keyword.location.as_str(),
+            KeywordOver::SingleValuePatternProperties(keyword) => keyword.location.as_str(),
+            KeywordOver::AdditionalProperties(keyword) => keyword.location.as_str(),
+            KeywordOver::Leaf(location, _) => location.as_str(),
+        }
+    }
+}
+
 /// The texts of a leaf as errors.
 fn show_leaf<'a, K: Leaf>(
     alloc: Global,
@@ -110,7 +141,7 @@ fn add_texts<'a, K: Leaf>(
 /// # Errors
 ///
 /// Out of memory.
-pub fn show_body<'a, W: Show<'a>>(
+pub fn show_body<'a, W: Located<'a>>(
     alloc: Global,
     body: &'a Body<W>,
     node: Node<'a>,

@@ -1,6 +1,6 @@
 //! `not`: what it shows.
-use crate::Show;
 use crate::own::add_own_error;
+use crate::{Located, Show};
 use olk_base::{Node, ValidationContext};
 use olk_check::IsValid;
 use olk_paths::InstancePath;
@@ -10,8 +10,10 @@ use std::alloc::{AllocError, Global};
 
 /// An error of its own where the subschema accepts; what the subschema shows is left out (JSON
 /// Schema 2020-12 Core, 10.2.1.4).
-impl<'a, N: Show<'a>> Show<'a> for Not<N> {
+impl<'a, N: Located<'a>> Show<'a> for Not<N> {
     ghost use Rattle.olk_tree.specs.Not.{not_answers};
+
+    ghost place = { λ k. k.location };
 
     ghost tree = { λ k. (not_answers k).tree N.means N.tree };
 

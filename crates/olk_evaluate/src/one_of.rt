@@ -4,9 +4,9 @@ ghost use Rattle.olk_reports.specs.Evaluations.{nothing_shown, shown, shown_of};
 ghost use Rattle.olk_tree.specs.Shown.{several_accept};
 ghost use Rattle.olk_evaluate.specs.Wanted.{trees_of};
 
-use crate::Show;
 use crate::any_of::accepting_children;
 use crate::walk::{each_child, show_one};
+use crate::{Located, Show};
 use olk_base::{Node, ValidationContext};
 use olk_paths::InstancePath;
 use olk_reports::{ErrorDescription, EvaluationNode, EvaluationResult};
@@ -15,8 +15,10 @@ use std::alloc::{AllocError, Global};
 
 /// A child for each branch that accepts, and an error of its own where they are several; where
 /// there is none, a child for each branch (JSON Schema 2020-12 Core, 10.2.1.3).
-impl<'a, N: Show<'a>> Show<'a> for OneOf<N> {
+impl<'a, N: Located<'a>> Show<'a> for OneOf<N> {
     ghost use Rattle.olk_tree.specs.OneOf.{one_of_answers};
+
+    ghost place = { λ k. k.location };
 
     ghost tree = { λ k. (one_of_answers k).tree N.means N.tree };
 
@@ -61,8 +63,10 @@ fn show_several<'a>(
 }
 
 /// A child for the branch.
-impl<'a, N: Show<'a>> Show<'a> for SingleOneOf<N> {
+impl<'a, N: Located<'a>> Show<'a> for SingleOneOf<N> {
     ghost use Rattle.olk_tree.specs.OneOf.{single_one_of_answers};
+
+    ghost place = { λ k. k.location };
 
     ghost tree = { λ k. (single_one_of_answers k).tree N.means N.tree };
 

@@ -3,44 +3,13 @@ ghost use Rattle.std.specs.Prelude.{◌≡◌, ◌∷◌, [], IfOk, OnOk};
 ghost use Rattle.olk_base.specs.Nodes.{data_of};
 ghost use Rattle.olk_spec.specs.Names.{Path};
 ghost use Rattle.olk_spec.specs.Faults.{fault};
-ghost use Rattle.olk_spec.specs.Texts.{keyword as keyword_name};
-ghost use Rattle.olk_reports.specs.Errors.{kind_of, fault_of};
-ghost use Rattle.olk_reports.specs.Evaluations.{described_of, shown_of};
-ghost use Rattle.olk_evaluate.specs.Wanted.{AddsErrors, IsDescribedBy};
+ghost use Rattle.olk_reports.specs.Errors.{kind_of};
+ghost use Rattle.olk_reports.specs.Evaluations.{IsDescribedBy, described_of, shown_of};
+ghost use Rattle.olk_evaluate.specs.Wanted.{AddsErrors};
 
 use olk_base::Node;
 use olk_reports::{ErrorDescription, EvaluationResult, ValidationError, ValidationErrorKind};
 use std::alloc::{AllocError, Global};
-
-/// The name of the keyword that finds errors of this kind; none of an error of building.
-#[tactic(auto, using(olk_reports::proofs::Errors::kinds))]
-fn keyword<'a>(kind: &ValidationErrorKind<'a>) -> &'a str
-    ensures { result.now ≡ keyword_name (kind_of kind.now) }
-{
-    match kind {
-        ValidationErrorKind::AdditionalProperties { unexpected: _ } => "additionalProperties",
-        ValidationErrorKind::AnyOf { context: _ } => "anyOf",
-        ValidationErrorKind::OneOfNotValid { context: _ } => "oneOf",
-        ValidationErrorKind::OneOfMultipleValid { context: _ } => "oneOf",
-        ValidationErrorKind::Not { schema: _ } => "not",
-        ValidationErrorKind::Required { property: _ } => "required",
-        ValidationErrorKind::FalseSchema => "falseSchema",
-        ValidationErrorKind::PropertyNames { error: _ } => "propertyNames",
-        ValidationErrorKind::Leaf { keyword, text: _ } => keyword,
-        _ => "",
-    }
-}
-
-/// The error as an evaluation shows it.
-fn describe<'a>(
-    alloc: Global,
-    error: ValidationError<'a>,
-) -> Result<ErrorDescription<'a>, AllocError>
-    ensures { IfOk result (λ e. IsDescribedBy (fault_of error.entry) (described_of e)) }
-{
-    let message = error.message(alloc)?;
-    Ok(ErrorDescription::new(keyword(error.kind()), message))
-}
 
 /// The error about the node, as an evaluation shows it: without its places, so none are asked for.
 pub(crate) fn own_error<'a>(
@@ -52,7 +21,7 @@ pub(crate) fn own_error<'a>(
         IsDescribedBy (fault (kind_of kind.entry) (data_of node.entry) Q P) (described_of e)) }
 {
     let error = ValidationError::new(kind, node, String::new(alloc), "");
-    describe(alloc, error)
+    ErrorDescription::from_validation_error(alloc, &error)
 }
 
 /// Adds an error of its own about the node.

@@ -5,8 +5,8 @@ ghost use Rattle.olk_evaluate.specs.Members.{MeetsMore, wanted_at};
 ghost use Rattle.olk_evaluate.specs.Patterns.{match_here, matches_of, matches_of_all};
 ghost use Rattle.olk_evaluate.specs.Shows.{Shows};
 
-use crate::Show;
 use crate::properties::{Met, meet_member};
+use crate::{Located, Show};
 use olk_base::{CompiledPattern, Node, RegexEngine, ValidationContext};
 use olk_check::matches;
 use olk_paths::InstancePath;
@@ -17,8 +17,10 @@ use std::alloc::{AllocError, Global};
 
 /// A child for each match, pattern by pattern; where the value is an object, a name for each match
 /// is annotated (JSON Schema 2020-12 Core, 10.3.2.2).
-impl<'a, R: RegexEngine, N: Show<'a>> Show<'a> for PatternProperties<R, N> {
+impl<'a, R: RegexEngine, N: Located<'a>> Show<'a> for PatternProperties<R, N> {
     ghost use Rattle.olk_tree.specs.PatternProperties.{pattern_properties_answers};
+
+    ghost place = { λ k. k.location };
 
     ghost tree = { λ k. (pattern_properties_answers R.answers R.costs k).tree N.means N.tree };
 
@@ -34,7 +36,7 @@ impl<'a, R: RegexEngine, N: Show<'a>> Show<'a> for PatternProperties<R, N> {
         match node.as_object() {
             Some(members) => {
                 let mut met: Met<'a> = Met::with_capacity(alloc, members.len())?;
-                meet_patterns(alloc, &self.patterns, members, path, ctx, &mut met)?;
+                meet_patterns(&self.patterns, members, path, ctx, &mut met)?;
                 met.show(outcome);
                 Ok(())
             }
@@ -45,8 +47,10 @@ impl<'a, R: RegexEngine, N: Show<'a>> Show<'a> for PatternProperties<R, N> {
 
 /// A child for each match; where the value is an object, the names that match are annotated (JSON
 /// Schema 2020-12 Core, 10.3.2.2).
-impl<'a, R: RegexEngine, N: Show<'a>> Show<'a> for SingleValuePatternProperties<R, N> {
+impl<'a, R: RegexEngine, N: Located<'a>> Show<'a> for SingleValuePatternProperties<R, N> {
     ghost use Rattle.olk_tree.specs.PatternProperties.{single_pattern_properties_answers};
+
+    ghost place = { λ k. k.location };
 
     ghost tree = { λ k.
         (single_pattern_properties_answers R.answers R.costs k).tree N.means N.tree };
@@ -63,7 +67,7 @@ impl<'a, R: RegexEngine, N: Show<'a>> Show<'a> for SingleValuePatternProperties<
         match node.as_object() {
             Some(members) => {
                 let mut met: Met<'a> = Met::with_capacity(alloc, members.len())?;
-                meet_matched(alloc, &self.regex, &self.node, members, path, ctx, &mut met)?;
+                meet_matched(&self.regex, &self.node, members, path, ctx, &mut met)?;
                 met.show(outcome);
                 Ok(())
             }
@@ -73,8 +77,7 @@ impl<'a, R: RegexEngine, N: Show<'a>> Show<'a> for SingleValuePatternProperties<
 }
 
 /// The members whose names patterns match, pattern by pattern.
-fn meet_patterns<'a, R: RegexEngine, N: Show<'a>>(
-    alloc: Global,
+fn meet_patterns<'a, R: RegexEngine, N: Located<'a>>(
     patterns: &'a Vec<(CompiledPattern<R>, N)>,
     members: &'a Map<String, Value>,
     path: &mut InstancePath,
@@ -87,14 +90,13 @@ fn meet_patterns<'a, R: RegexEngine, N: Show<'a>>(
         patterns.now.items (object_of members.now.entries)) met.old met.new) }
 {
     for entry in patterns {
-        meet_matched(alloc, &entry.0, &entry.1, members, path, ctx, met)?;
+        meet_matched(&entry.0, &entry.1, members, path, ctx, met)?;
     }
     Ok(())
 }
 
 /// The members whose names the pattern matches.
-fn meet_matched<'a, R: RegexEngine, N: Show<'a>>(
-    alloc: Global,
+fn meet_matched<'a, R: RegexEngine, N: Located<'a>>(
     pattern: &'a CompiledPattern<R>,
     subschema: &'a N,
     members: &'a Map<String, Value>,
@@ -108,27 +110,16 @@ fn meet_matched<'a, R: RegexEngine, N: Show<'a>>(
         pattern.now subschema.now (object_of members.now.entries)) met.old met.new) }
 {
     for (name, value) in members {
-        meet_if_matched(
-            alloc,
-            pattern,
-            subschema,
-            name.as_str(),
-            value,
-            path,
-            ctx,
-            met,
-        )?;
+        meet_if_matched(pattern, subschema, (name.as_str(), value), path, ctx, met)?;
     }
     Ok(())
 }
 
 /// A member, if the pattern matches its name.
-fn meet_if_matched<'a, R: RegexEngine, N: Show<'a>>(
-    alloc: Global,
+fn meet_if_matched<'a, R: RegexEngine, N: Located<'a>>(
     pattern: &'a CompiledPattern<R>,
     subschema: &'a N,
-    name: &'a str,
-    value: &'a Value,
+    member: (&'a str, &'a Value),
     path: &mut InstancePath,
     ctx: &mut ValidationContext,
     met: &mut Met<'a>,
@@ -136,10 +127,10 @@ fn meet_if_matched<'a, R: RegexEngine, N: Show<'a>>(
     ensures { Shows result path.old path.new ctx.old ctx.new (λ _. MeetsMore
         (wanted_at N.tree N.means ctx.old.answer path.old)
         (match_here R.answers ctx.old.answer
-        pattern.now subschema.now name.now (view value.now)) met.old met.new) }
+        pattern.now subschema.now member.entry.0.now (view member.entry.1.now)) met.old met.new) }
 {
-    if !matches(pattern, name, ctx) {
+    if !matches(pattern, member.0, ctx) {
         return Ok(());
     }
-    meet_member(alloc, subschema, name, value, path, ctx, met)
+    meet_member(subschema, member, path, ctx, met)
 }

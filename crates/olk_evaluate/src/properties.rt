@@ -11,9 +11,9 @@ ghost use Rattle.olk_evaluate.specs.Members.{HasMet, MeetsMore, wanted_at};
 ghost use Rattle.olk_evaluate.specs.Shows.{Shows};
 ghost use Rattle.olk_evaluate.specs.Wanted.{ShowsMore, wanted, trees_of};
 
-use crate::Show;
 use crate::required::add_missing_child;
 use crate::walk::add_child;
+use crate::{Located, Show};
 use olk_base::{Node, ValidationContext};
 use olk_paths::InstancePath;
 use olk_reports::{EvaluationNode, EvaluationResult};
@@ -26,8 +26,10 @@ use std::alloc::{AllocError, Global};
 
 /// A child for each member whose name is declared; where the value is an object, these names are
 /// annotated (JSON Schema 2020-12 Core, 10.3.2.1).
-impl<'a, N: Show<'a>> Show<'a> for Properties<N> {
+impl<'a, N: Located<'a>> Show<'a> for Properties<N> {
     ghost use Rattle.olk_tree.specs.Properties.{properties_answers};
+
+    ghost place = { λ k. k.location };
 
     ghost tree = { λ k. (properties_answers k).tree N.means N.tree };
 
@@ -53,8 +55,10 @@ impl<'a, N: Show<'a>> Show<'a> for Properties<N> {
 
 /// Beside these, a child at the place of `required` where an object lacks one of the two names,
 /// with an error for each (JSON Schema 2020-12 Validation, 6.5.3).
-impl<'a, N: Show<'a>> Show<'a> for SmallPropertiesWithRequired2<N> {
+impl<'a, N: Located<'a>> Show<'a> for SmallPropertiesWithRequired2<N> {
     ghost use Rattle.olk_tree.specs.Properties.{properties_with_required2_answers};
+
+    ghost place = { λ k. k.location };
 
     ghost tree = { λ k. (properties_with_required2_answers k).tree N.means N.tree };
 
@@ -116,7 +120,7 @@ impl<'a> Met<'a> {
 }
 
 /// The members that are declared, in the order of their names.
-fn meet<'a, N: Show<'a> + 'a>(
+fn meet<'a, N: Located<'a> + 'a>(
     alloc: Global,
     properties: &'a SortedEntries<N>,
     members: &'a Map<String, Value>,
@@ -132,48 +136,45 @@ fn meet<'a, N: Show<'a> + 'a>(
     let most = members.len().min(properties.len());
     let mut met: Met<'a> = Met::with_capacity(alloc, most)?;
     for (name, subschema, value) in DeclaredMembers::of(properties, members) {
-        meet_member(alloc, subschema, name, value, path, ctx, &mut met)?;
+        meet_member(subschema, (name, value), path, ctx, &mut met)?;
     }
     Ok(met)
 }
 
 /// One member more: its name, and what is shown of its value.
 #[inline(always)]
-pub(crate) fn meet_member<'a, N: Show<'a>>(
-    alloc: Global,
+pub(crate) fn meet_member<'a, N: Located<'a>>(
     subschema: &'a N,
-    name: &'a str,
-    value: &'a Value,
+    member: (&'a str, &'a Value),
     path: &mut InstancePath,
     ctx: &mut ValidationContext,
     met: &mut Met<'a>,
 ) -> Result<(), AllocError>
     ensures { Shows result path.old path.new ctx.old ctx.new (λ _. MeetsMore
         (wanted_at N.tree N.means ctx.old.answer path.old)
-        (declared_as name.now subschema.now (view value.now)) met.old met.new) }
+        (declared_as member.entry.0.now subschema.now (view member.entry.1.now))
+        met.old met.new) }
 {
-    met.names.push(name)?;
-    add_child_below(alloc, subschema, name, value, path, ctx, &mut met.children)
+    met.names.push(member.0)?;
+    add_child_below(subschema, member, path, ctx, &mut met.children)
 }
 
 /// One child more: what is shown of a member's value.
 #[inline(always)]
-pub(crate) fn add_child_below<'a, N: Show<'a>>(
-    alloc: Global,
+pub(crate) fn add_child_below<'a, N: Located<'a>>(
     subschema: &'a N,
-    name: &str,
-    value: &'a Value,
+    member: (&'a str, &'a Value),
     path: &mut InstancePath,
     ctx: &mut ValidationContext,
     children: &mut Vec<EvaluationNode<'a>>,
 ) -> Result<(), AllocError>
     ensures { Shows result path.old path.new ctx.old ctx.new (λ _. ShowsMore
         (wanted N.tree N.means ctx.old.answer
-        subschema.now (view value.now) (one_below path.old name.now))
+        subschema.now (view member.entry.1.now) (one_below path.old member.entry.0.now))
         children.old.items children.new.items) }
 {
-    let mark = path.push(name)?;
-    let added = add_child(alloc, subschema, Node::Value(value), path, ctx, children);
+    let mark = path.push(member.0)?;
+    let added = add_child(subschema, Node::Value(member.1), path, ctx, children);
     path.pop(mark);
     added
 }

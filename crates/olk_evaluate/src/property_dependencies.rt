@@ -7,8 +7,8 @@ ghost use Rattle.olk_tree.specs.Visited.{object_of};
 ghost use Rattle.olk_evaluate.specs.Shows.{Shows};
 ghost use Rattle.olk_evaluate.specs.Wanted.{AreShown, each_wanted, trees_of};
 
-use crate::Show;
 use crate::walk::add_child;
+use crate::{Located, Show};
 use olk_base::{Node, ValidationContext};
 use olk_paths::InstancePath;
 use olk_reports::{EvaluationNode, EvaluationResult};
@@ -20,8 +20,10 @@ use std::alloc::{AllocError, Global};
 
 /// A child for each key at whose text there is a subschema. The keyword is in no published version
 /// of JSON Schema.
-impl<'a, N: Show<'a>> Show<'a> for PropertyDependencies<N> {
+impl<'a, N: Located<'a>> Show<'a> for PropertyDependencies<N> {
     ghost use Rattle.olk_tree.specs.PropertyDependencies.{property_dependencies_answers};
+
+    ghost place = { λ k. k.location };
 
     ghost tree = { λ k. (property_dependencies_answers k).tree N.means N.tree };
 
@@ -53,7 +55,7 @@ impl<'a, N: Show<'a>> Show<'a> for PropertyDependencies<N> {
 }
 
 /// What each node at the text of a member shows of the object.
-fn chosen_children<'a, N: Show<'a>>(
+fn chosen_children<'a, N: Located<'a>>(
     alloc: Global,
     dependencies: &'a SmallMap<SmallMap<N>>,
     members: &'a Map<String, Value>,
@@ -71,7 +73,7 @@ fn chosen_children<'a, N: Show<'a>>(
     let mut children: Vec<EvaluationNode<'a>> = Vec::new(alloc);
     for (_, choices, value) in dependencies.declared_members(members) {
         if let Some(dependency) = choices.chosen_by(value) {
-            add_child(alloc, dependency, object, path, ctx, &mut children)?;
+            add_child(dependency, object, path, ctx, &mut children)?;
         }
     }
     Ok(children)

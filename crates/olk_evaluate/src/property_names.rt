@@ -4,9 +4,9 @@ ghost use Rattle.olk_spec.specs.Schemas.{listed};
 ghost use Rattle.olk_evaluate.specs.Shows.{Shows};
 ghost use Rattle.olk_evaluate.specs.Wanted.{AreShown, names_wanted, trees_of};
 
-use crate::Show;
 use crate::own::add_own_error;
 use crate::walk::add_child;
+use crate::{Located, Show};
 use olk_base::{Node, ValidationContext};
 use olk_paths::InstancePath;
 use olk_reports::{EvaluationNode, EvaluationResult, ValidationErrorKind};
@@ -15,8 +15,10 @@ use serde_json::{Map, Value};
 use std::alloc::{AllocError, Global};
 
 /// A child for each member's name, at the path of the object (JSON Schema 2020-12 Core, 10.3.2.4).
-impl<'a, N: Show<'a>> Show<'a> for PropertyNames<N> {
+impl<'a, N: Located<'a>> Show<'a> for PropertyNames<N> {
     ghost use Rattle.olk_tree.specs.PropertyNames.{property_names_answers};
+
+    ghost place = { λ k. k.location };
 
     ghost tree = { λ k. (property_names_answers k).tree N.means N.tree };
 
@@ -44,6 +46,8 @@ impl<'a, N: Show<'a>> Show<'a> for PropertyNames<N> {
 impl<'a> Show<'a> for PropertyNamesFalse {
     ghost use Rattle.olk_tree.specs.PropertyNames.{property_names_false_answers};
 
+    ghost place = { λ k. k.location };
+
     ghost tree = { λ k. (property_names_false_answers k).tree };
 
     #[inline(never)]
@@ -69,7 +73,7 @@ impl<'a> Show<'a> for PropertyNamesFalse {
 }
 
 /// What the subschema shows of each member's name.
-fn name_children<'a, N: Show<'a>>(
+fn name_children<'a, N: Located<'a>>(
     alloc: Global,
     subschema: &'a N,
     members: &'a Map<String, Value>,
@@ -83,7 +87,7 @@ fn name_children<'a, N: Show<'a>>(
 {
     let mut children: Vec<EvaluationNode<'a>> = Vec::with_capacity(alloc, members.len())?;
     for (name, _) in members {
-        add_child(alloc, subschema, Node::Name(name), path, ctx, &mut children)?;
+        add_child(subschema, Node::Name(name), path, ctx, &mut children)?;
     }
     Ok(children)
 }

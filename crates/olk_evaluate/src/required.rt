@@ -28,6 +28,8 @@ use std::alloc::{AllocError, Global};
 impl<'a> Show<'a> for RequiredValidator {
     ghost use Rattle.olk_tree.specs.Required.{required_answers};
 
+    ghost place = { λ k. k.location };
+
     ghost tree = { λ k. (required_answers k).tree };
 
     #[inline(never)]

@@ -5,7 +5,7 @@ ghost use Rattle.olk_reports.specs.Evaluations.{nothing_shown, shown_of, tree_of
 ghost use Rattle.olk_evaluate.specs.Shows.{Shows};
 ghost use Rattle.olk_evaluate.specs.Wanted.{IsShown, AreShown, ShowsEach, ShowsMore, ShowsOne, wanted, each_wanted, trees_of};
 
-use crate::Show;
+use crate::Located;
 use olk_base::{Node, ValidationContext};
 use olk_paths::{InstancePath, PathText};
 use olk_reports::{EvaluationNode, EvaluationResult};
@@ -16,7 +16,7 @@ use std::alloc::{AllocError, Global};
 /// # Errors
 ///
 /// Out of memory.
-pub fn child<'a, N: Show<'a>>(
+pub fn child<'a, N: Located<'a>>(
     alloc: Global,
     schema: &'a N,
     node: Node<'a>,
@@ -35,8 +35,7 @@ pub fn child<'a, N: Show<'a>>(
 
 /// One child more: what the node shows.
 #[inline(always)]
-pub(crate) fn add_child<'a, N: Show<'a>>(
-    alloc: Global,
+pub(crate) fn add_child<'a, N: Located<'a>>(
     schema: &'a N,
     node: Node<'a>,
     path: &mut InstancePath,
@@ -47,6 +46,7 @@ pub(crate) fn add_child<'a, N: Show<'a>>(
         (wanted N.tree N.means ctx.old.answer schema.now (data_of node.entry) path.old)
         children.old.items children.new.items) }
 {
+    let alloc = *children.allocator();
     let text = PathText::from_str(alloc, path.as_str())?;
     let last = children.len();
     children.reserve(1)?;
@@ -55,7 +55,7 @@ pub(crate) fn add_child<'a, N: Show<'a>>(
 }
 
 /// What each of them shows, below a result that shows nothing yet.
-pub(crate) fn show_each<'a, N: Show<'a>>(
+pub(crate) fn show_each<'a, N: Located<'a>>(
     alloc: Global,
     schemas: &'a Vec<N>,
     node: Node<'a>,
@@ -74,7 +74,7 @@ pub(crate) fn show_each<'a, N: Show<'a>>(
 }
 
 /// What the one shows, below a result that shows nothing yet.
-pub(crate) fn show_one<'a, N: Show<'a>>(
+pub(crate) fn show_one<'a, N: Located<'a>>(
     alloc: Global,
     schema: &'a N,
     node: Node<'a>,
@@ -88,13 +88,13 @@ pub(crate) fn show_one<'a, N: Show<'a>>(
         (shown_of outcome.new)) }
 {
     let mut children: Vec<EvaluationNode<'a>> = Vec::with_capacity(alloc, 1)?;
-    add_child(alloc, schema, node, path, ctx, &mut children)?;
+    add_child(schema, node, path, ctx, &mut children)?;
     outcome.take_children(children);
     Ok(())
 }
 
 /// What each of them shows.
-pub(crate) fn each_child<'a, N: Show<'a>>(
+pub(crate) fn each_child<'a, N: Located<'a>>(
     alloc: Global,
     schemas: &'a Vec<N>,
     node: Node<'a>,
@@ -107,7 +107,7 @@ pub(crate) fn each_child<'a, N: Show<'a>>(
 {
     let mut children: Vec<EvaluationNode<'a>> = Vec::with_capacity(alloc, schemas.len())?;
     for schema in schemas {
-        add_child(alloc, schema, node, path, ctx, &mut children)?;
+        add_child(schema, node, path, ctx, &mut children)?;
     }
     Ok(children)
 }

@@ -6,19 +6,12 @@ use olk_paths::InstancePath;
 use olk_reports::EvaluationResult;
 use std::alloc::{AllocError, Global};
 
-impl<K, R> Located for SchemaNode<K, R> {
-    ghost use Rattle.olk_node.specs.declared.node.SchemaNode.{out-SchemaNode};
-
-    ghost place = { λ n. (out-SchemaNode K R n).location };
-
-    fn location(&self) -> &str {
-        self.location.as_str()
-    }
-}
-
 impl<'a, K: Leaf, R: RegexEngine> Show<'a> for SchemaNode<K, R> {
     ghost use Rattle.olk_base.specs.Kit.{kit};
+    ghost use Rattle.olk_node.specs.declared.node.SchemaNode.{out-SchemaNode};
     ghost use Rattle.olk_node.specs.Nodes.{answers};
+
+    ghost place = { λ n. (out-SchemaNode K R n).location };
 
     ghost tree = { λ n. (answers (kit K.Leaf R.RegexEngine) n).tree };
 
@@ -32,5 +25,11 @@ impl<'a, K: Leaf, R: RegexEngine> Show<'a> for SchemaNode<K, R> {
         outcome: &mut EvaluationResult<'a>,
     ) -> Result<(), AllocError> {
         show_body(alloc, &self.body, node, path, ctx, outcome)
+    }
+}
+
+impl<'a, K: Leaf, R: RegexEngine> Located<'a> for SchemaNode<K, R> {
+    fn location(&self) -> &str {
+        self.location.as_str()
     }
 }

@@ -1,8 +1,9 @@
 -- The tree that an evaluation node stands for.
-use Rattle.std.specs.Prelude.{Bool, true, false, ◌&&◌, Option, Some, None, List, [], ◌∷◌, ◌++◌, map, option_map, string_bytes}
+use Rattle.std.specs.Prelude.{◌≡◌, Bool, true, false, ◌&&◌, Option, Some, None, List, [], ◌∷◌, ◌++◌, map, option_map, string_bytes}
 use Rattle.std.specs.List.{list_all}
 use Rattle.olk_spec.specs.Names.{Name, Path}
-use Rattle.olk_spec.specs.Tree.{Tree, node, leaf_node, Trees, no_tree, and_tree, Described, trees_from, result_node, is_valid}
+use Rattle.olk_spec.specs.Faults.{Fault}
+use Rattle.olk_spec.specs.Tree.{Tree, node, leaf_node, Trees, no_tree, and_tree, Described, described_fault, trees_from, result_node, is_valid}
 use Rattle.olk_reports.specs.declared.evaluation.ErrorDescription.{ErrorDescription}
 use Rattle.olk_reports.specs.declared.evaluation.EvaluationNode.{EvaluationNode, out-EvaluationNode, roll-EvaluationNode}
 use Rattle.olk_reports.specs.declared.evaluation.EvaluationResult.{EvaluationResult}
@@ -36,6 +37,11 @@ node_at P Q (shown b a es ts) = result_node P Q b a es (trees_from ts)
 
 abbrev pub described_of : ErrorDescription → Described
 described_of e = (e.keyword.now, string_bytes e.message, false)
+
+-- the error that shows a fault; a text that prints a fraction may be any text
+pub record IsDescribedBy (f : Fault) (d : Described) : Type 0 where
+  pub keyword : d.0 ≡ (described_fault f).0
+  pub text : (described_fault f).2 ≡ false → d.1 ≡ (described_fault f).1
 
 -- one level, each node below already seen as its tree
 abbrev pub result_step : EvaluationResult-F Tree Shown → Shown

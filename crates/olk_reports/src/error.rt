@@ -4,7 +4,7 @@ ghost use Rattle.serde_json.specs.View.{view};
 ghost use Rattle.olk_base.specs.Nodes.{data_of};
 ghost use Rattle.olk_spec.specs.Faults.{fault, Not, LeafRefused};
 ghost use Rattle.olk_spec.specs.Reports.{wrapped};
-ghost use Rattle.olk_spec.specs.Texts.{text, kind_text, kind_prints_fraction};
+ghost use Rattle.olk_spec.specs.Texts.{keyword as keyword_name, text, kind_text, kind_prints_fraction};
 ghost use Rattle.olk_reports.specs.Errors.{kind_of};
 ghost use Rattle.olk_reports.specs.Messages.{has_error_inside};
 
@@ -144,6 +144,28 @@ impl<'a> From<AllocError> for ValidateError<'a> {
     /// Gives `Memory`.
     fn from(error: AllocError) -> ValidateError<'a> {
         ValidateError::Memory(error)
+    }
+}
+
+impl<'a> ValidationErrorKind<'a> {
+    /// The name of the keyword that finds errors of this kind, `falseSchema` for a false schema; of
+    /// a kind of building the empty text.
+    #[tactic(auto, using(crate::proofs::Errors::kinds))]
+    pub fn keyword(&self) -> &'a str
+        ensures { result.now ≡ keyword_name (kind_of self.now) }
+    {
+        match self {
+            ValidationErrorKind::AdditionalProperties { unexpected: _ } => "additionalProperties",
+            ValidationErrorKind::AnyOf { context: _ } => "anyOf",
+            ValidationErrorKind::OneOfNotValid { context: _ } => "oneOf",
+            ValidationErrorKind::OneOfMultipleValid { context: _ } => "oneOf",
+            ValidationErrorKind::Not { schema: _ } => "not",
+            ValidationErrorKind::Required { property: _ } => "required",
+            ValidationErrorKind::FalseSchema => "falseSchema",
+            ValidationErrorKind::PropertyNames { error: _ } => "propertyNames",
+            ValidationErrorKind::Leaf { keyword, text: _ } => keyword,
+            _ => "",
+        }
     }
 }
 

@@ -1,9 +1,10 @@
 //! What a validator shows of a value: results, and nodes that have their places.
-ghost use Rattle.std.specs.Prelude.{◌≡◌, OnOk, OnErr, Some, None, true, false, string_bytes, map, option_map};
+ghost use Rattle.std.specs.Prelude.{◌≡◌, IfOk, OnOk, OnErr, Some, None, true, false, string_bytes, map, option_map};
 ghost use Rattle.olk_spec.specs.Tree.{errors, is_valid};
 ghost use Rattle.std.specs.List.{list_all};
 ghost use Rattle.olk_reports.specs.Evaluations.{tree_of};
 
+use crate::error::ValidationError;
 use olk_paths::PathText;
 use std::alloc::{AllocError, Global};
 
@@ -15,13 +16,31 @@ pub struct ErrorDescription<'a> {
 }
 
 impl<'a> ErrorDescription<'a> {
-    ghost use Rattle.olk_reports.specs.Evaluations.{described_of};
+    ghost use Rattle.olk_reports.specs.Errors.{fault_of};
+    ghost use Rattle.olk_reports.specs.Evaluations.{IsDescribedBy, described_of};
 
     /// The error of this keyword with this message.
     pub fn new(keyword: &'a str, message: String) -> Self
         ensures { described_of result ≡ (keyword.now, string_bytes message, false) }
     {
         ErrorDescription { keyword, message }
+    }
+
+    /// The error as an evaluation shows it: the name of its keyword, and its text.
+    ///
+    /// Of a number that is not a whole number of 64 bits no text is promised.
+    ///
+    /// # Errors
+    ///
+    /// Out of memory.
+    pub fn from_validation_error(
+        alloc: Global,
+        error: &ValidationError<'a>,
+    ) -> Result<Self, AllocError>
+        ensures { IfOk result (λ e. IsDescribedBy (fault_of error.now) (described_of e)) }
+    {
+        let message = error.message(alloc)?;
+        Ok(ErrorDescription::new(error.kind().keyword(), message))
     }
 
     /// The name of the keyword.

@@ -11,16 +11,16 @@ returns-in_err-push g c = shows_err c.from_residual.ensures.0 kept_same
 
 pub returns-in-Some : goal.returns-in-Some
 returns-in-Some g c = shows_weaker c.add_child_below.ensures
-    (λ _ more. subst (λ o. CollectsMore (rest_found g.N.Show.tree g.N.Means.means c.args.ctx.now.answer c.args.path.now c.args.name.now (view c.args.value.now) o) c.args.collected.now
+    (λ _ more. subst (λ o. CollectsMore (rest_found g.N.Show.tree g.N.Means.means c.args.ctx.now.answer c.args.path.now c.args.member.0.now (view c.args.member.1.now) o) c.args.collected.now
     (record { children = c.add_child_below.new.children; additional = c.push.new.self; matched = c.args.collected.now.matched })) (sym c.in-Some.is)
-    (collects_child (ap names_of c.in_ok-push.ensures.items ∙ map-append (λ n. n.now) c.args.collected.now.additional.items (c.args.name ∷ []))
+    (collects_child (ap names_of c.in_ok-push.ensures.items ∙ map-append (λ n. n.now) c.args.collected.now.additional.items (c.args.member.0 ∷ []))
     (sym (append-nil (names_of c.args.collected.now.matched.items))) more))
 
 pub returns-in-None : goal.returns-in-None
 returns-in-None g c = record {
-  shown = subst (λ o. CollectsMore (rest_found g.N.Show.tree g.N.Means.means c.args.ctx.now.answer c.args.path.now c.args.name.now (view c.args.value.now) o) c.args.collected.now
+  shown = subst (λ o. CollectsMore (rest_found g.N.Show.tree g.N.Means.means c.args.ctx.now.answer c.args.path.now c.args.member.0.now (view c.args.member.1.now) o) c.args.collected.now
       (record { children = c.args.collected.now.children; additional = c.push.new.self; matched = c.args.collected.now.matched })) (sym c.in-None.is)
-      (collects_name (ap names_of c.in_ok-push.ensures.items ∙ map-append (λ n. n.now) c.args.collected.now.additional.items (c.args.name ∷ []))
+      (collects_name (ap names_of c.in_ok-push.ensures.items ∙ map-append (λ n. n.now) c.args.collected.now.additional.items (c.args.member.0 ∷ []))
       (sym (append-nil (names_of c.args.collected.now.matched.items))) refl);
   kept = kept_same;
 }

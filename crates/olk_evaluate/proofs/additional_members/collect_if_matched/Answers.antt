@@ -15,7 +15,7 @@ pub returns-then-not-matches_unless_known : goal.returns-then-not-matches_unless
 returns-then-not-matches_unless_known g c = record {
   shown = (
     c.if-not-matches_unless_known.ensures.verdict ∙ match_is_said c.args.ctx.now.answer (pattern_costs g.R.RegexEngine.costs c.args.entry.now.0) (known_says c.args.known)
-        (pattern_answers g.R.RegexEngine.answers c.args.entry.now.0 c.args.name.now),
+        (pattern_answers g.R.RegexEngine.answers c.args.entry.now.0 c.args.member.0.now),
     collects_no_match c.args.is_shown c.args.collected.now,
   );
   kept = kept_asked c.if-not-matches_unless_known.ensures.only;
@@ -33,9 +33,9 @@ returns g c =
     record {
       shown = (
         c.if-not-matches_unless_known.ensures.verdict ∙ match_is_said c.args.ctx.now.answer (pattern_costs g.R.RegexEngine.costs c.args.entry.now.0) (known_says c.args.known)
-            (pattern_answers g.R.RegexEngine.answers c.args.entry.now.0 c.args.name.now),
+            (pattern_answers g.R.RegexEngine.answers c.args.entry.now.0 c.args.member.0.now),
         collects_child (sym (append-nil (names_of c.args.collected.now.additional.items))) c.in_ok-push_if.ensures
-            (as_before (λ u Q. ShowsMore (wanted g.N.Show.tree g.N.Means.means u c.args.entry.now.1 (view c.args.value.now) (Q // c.args.name.now))
+            (as_before (λ u Q. ShowsMore (wanted g.N.Show.tree g.N.Means.means u c.args.entry.now.1 (view c.args.member.1.now) (Q // c.args.member.0.now))
             c.args.collected.now.children.items c.add_child_below.new.children.items) asked c.in_ok-add_child_below.ensures.shown),
       );
       kept = kept_then asked c.add_child_below.ensures.kept;

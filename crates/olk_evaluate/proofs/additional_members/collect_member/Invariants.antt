@@ -13,7 +13,7 @@ invariant-loop-index g l =
       path = l.fn.path;
       keyword = l.keyword;
       declared = option_map {U = ℕ × g.row.N.Denot} (λ f. (f.0, f.1.now)) l.declared;
-      name = l.name;
-      value = view l.value;
+      name = l.member.0.now;
+      value = view l.member.1.now;
     } in
     OnTheWay w l.spoken l.index l.path l.ctx l.fn.collected l.collected

@@ -2,9 +2,8 @@ use Rattle.std.proofs.Common.{subst}
 use Rattle.std.proofs.lemmas.Result.{on_ok_weaker}
 use Rattle.serde_json.specs.View.{view}
 use Rattle.olk_spec.specs.Faults.{fault}
-use Rattle.olk_reports.specs.Evaluations.{described_of}
+use Rattle.olk_reports.specs.Evaluations.{IsDescribedBy, described_of}
 use Rattle.olk_reports.proofs.Errors.{kind_of_false_schema}
-use Rattle.olk_evaluate.specs.Wanted.{IsDescribedBy}
 use Rattle.olk_evaluate.proofs.OwnErrors.{first_told}
 use Rattle.olk_evaluate.proofs.additional_properties.add_first.Goals as goal
 

@@ -2,9 +2,8 @@ use Rattle.std.proofs.Common.{subst}
 use Rattle.std.proofs.lemmas.Result.{on_ok_weaker}
 use Rattle.olk_base.specs.Nodes.{data_of}
 use Rattle.olk_spec.specs.Faults.{fault}
-use Rattle.olk_reports.specs.Evaluations.{described_of}
+use Rattle.olk_reports.specs.Evaluations.{IsDescribedBy, described_of}
 use Rattle.olk_reports.proofs.Errors.{kind_of_additional_properties}
-use Rattle.olk_evaluate.specs.Wanted.{IsDescribedBy}
 use Rattle.olk_evaluate.proofs.OwnErrors.{names_told}
 use Rattle.olk_evaluate.proofs.additional_properties.add_named.Goals as goal
 

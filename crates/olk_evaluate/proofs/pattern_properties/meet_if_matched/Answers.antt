@@ -9,7 +9,7 @@ use Rattle.olk_evaluate.proofs.pattern_properties.meet_if_matched.Goals as goal
 pub returns-then-not-matches : goal.returns-then-not-matches
 returns-then-not-matches g c = record {
   shown = subst (λ b. MeetsMore (wanted_at g.N.Show.tree g.N.Means.means c.args.ctx.now.answer c.args.path.now)
-      (cond b (declared_as c.args.name.now c.args.subschema.now (view c.args.value.now)) []) c.args.met.now c.args.met.now)
+      (cond b (declared_as c.args.member.0.now c.args.subschema.now (view c.args.member.1.now)) []) c.args.met.now c.args.met.now)
       c.if-not-matches.ensures.verdict (meets_nothing c.args.met.now);
   kept = kept_asked c.if-not-matches.ensures.only;
 }
@@ -18,7 +18,7 @@ pub returns : goal.returns
 returns g c =
     let asked = kept_asked c.if-not-matches.ensures.only in
     shows_then asked c.meet_member.ensures (λ _ more. subst (λ b. MeetsMore (wanted_at g.N.Show.tree g.N.Means.means c.args.ctx.now.answer c.args.path.now)
-    (cond b (declared_as c.args.name.now c.args.subschema.now (view c.args.value.now)) []) c.args.met.now c.meet_member.new.met)
+    (cond b (declared_as c.args.member.0.now c.args.subschema.now (view c.args.member.1.now)) []) c.args.met.now c.meet_member.new.met)
     c.if-not-matches.ensures.verdict
-    (as_before (λ u Q. MeetsMore (wanted_at g.N.Show.tree g.N.Means.means u Q) (declared_as c.args.name.now c.args.subschema.now (view c.args.value.now)) c.args.met.now c.meet_member.new.met)
+    (as_before (λ u Q. MeetsMore (wanted_at g.N.Show.tree g.N.Means.means u Q) (declared_as c.args.member.0.now c.args.subschema.now (view c.args.member.1.now)) c.args.met.now c.meet_member.new.met)
     asked more))

@@ -11,5 +11,5 @@ returns-in_err-mark g c = shows_err c.from_residual.ensures.0 (record { path = c
 pub returns : goal.returns
 returns g c = shows_by c.add_child-added.ensures.shown
     (record { path = search rules; only = c.add_child-added.ensures.kept.only })
-    (λ _ more. subst (λ Q. ShowsMore (wanted g.N.Show.tree g.N.Means.means c.args.ctx.now.answer c.args.subschema.now (view c.args.value.now) Q)
+    (λ _ more. subst (λ Q. ShowsMore (wanted g.N.Show.tree g.N.Means.means c.args.ctx.now.answer c.args.subschema.now (view c.args.member.1.now) Q)
     c.args.children.now.items c.add_child-added.new.children.items) c.in_ok-mark.ensures.path more)

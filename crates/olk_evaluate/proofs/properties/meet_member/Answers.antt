@@ -9,4 +9,4 @@ returns-in_err-push g c = shows_err c.from_residual.ensures.0 kept_same
 
 pub returns : goal.returns
 returns g c = shows_weaker c.add_child_below.ensures
-    (λ _ more. meets_one (ap (map (λ n. n.now)) c.in_ok-push.ensures.items ∙ map-append (λ n. n.now) c.args.met.now.names.items (c.args.name ∷ [])) more)
+    (λ _ more. meets_one (ap (map (λ n. n.now)) c.in_ok-push.ensures.items ∙ map-append (λ n. n.now) c.args.met.now.names.items (c.args.member.0 ∷ [])) more)

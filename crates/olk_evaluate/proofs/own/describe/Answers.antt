@@ -1,5 +1,0 @@
-use Rattle.std.proofs.Common.{rules}
-use Rattle.olk_evaluate.proofs.own.describe.Goals as goal
-
-pub returns : goal.returns
-returns c = search rules
