@@ -25,6 +25,7 @@ use Rattle.olk_tree.specs.AdditionalAgreement.{member_accepted}
 use Rattle.olk_tree.specs.Sides.{RestAnswers, SidesStand}
 use Rattle.olk_tree.proofs.Answering.{all_accept, all_find, all_show, same_marks}
 use Rattle.olk_tree.proofs.AskedSchemas.{is_rest, is_no_rest, nodes_matching_answer, is_additional_other, pattern_schema, declared_schema, declared_schemas, matching_schemas, rest_schemas, other_schemas, asked_schemas, asked_answer}
+use Rattle.olk_meaning.proofs.Rows.{Rows}
 
 false_refuses : (W : World) (u : Bool) (d v : Data) → is_truth false d ≡ true → accepts W u d v ≡ false
 unfolding meaning
@@ -35,7 +36,7 @@ and_regroup : (a b c e : Bool) → ((a && (b && c)) && e) ≡ (a && b && (c && e
 and_regroup true true c e = refl
 and_regroup _ _ c e = refl
 
-module _ {K R N : Type 0} {o : Kit K R} {m : _} {r : _} {t : _} {S : Sides R N} {fs es : List (Name × Data)} {d : Data} {P : Path} (h : SidesStand o m r t S fs es d P) (u : Bool) where
+module _ {K R N : Type 0} {o : Kit K R} {m : _} {r : _} {t : _} {S : Sides R N} {fs es : Rows} {d : Data} {P : Path} (h : SidesStand o m r t S fs es d P) (u : Bool) where
   abbrev at_rest : Path
   at_rest = P // codes "additionalProperties"
 
@@ -83,7 +84,7 @@ module _ {K R N : Type 0} {o : Kit K R} {m : _} {r : _} {t : _} {S : Sides R N} 
   pub restricted_accepts : (v : Data) → (means_in_turn o.answers o.costs m S v).accepts u ≡ list_all (each_accepts o.world u fs es d) (members v)
   restricted_accepts v = along _
     where
-      along : (xs : List (Name × Data)) → (every (λ x. member_means o.answers o.costs m S x.0 x.1) xs).accepts u ≡ list_all (each_accepts o.world u fs es d) xs
+      along : (xs : Rows) → (every (λ x. member_means o.answers o.costs m S x.0 x.1) xs).accepts u ≡ list_all (each_accepts o.world u fs es d) xs
       along [] = refl
       along (x ∷ xs) = λ i. accepted_each x i && along xs i
 
@@ -100,7 +101,7 @@ module _ {K R N : Type 0} {o : Kit K R} {m : _} {r : _} {t : _} {S : Sides R N} 
   pub restricted_unexpected : (v : Data) → unexpected o.answers S u v ≡ cond (is_truth false d) (other_members o.world u fs es v) []
   restricted_unexpected v = (λ i. filter_once (λ x. is_no_rest h i && is_additional_other h x.0 u i) (members v)) ∙ by (is_truth false d)
     where
-      none : (xs : List (Name × Data)) → filter_once (λ x. false) xs ≡ []
+      none : (xs : Rows) → filter_once (λ x. false) xs ≡ []
       none [] = refl
       none (x ∷ xs) = none xs
 
