@@ -32,8 +32,7 @@ module _ {X : Type 0} (step : Schema X → X) (ms : Members) where
 
   module _ (W : World) (u : Bool) where
     pub matching_read : (n : Name) → matching (read_members step ms) W u n ≡ map (entry step) (matching_at W u (patterns_beside ms) n)
-    matching_read n = ap (filter_once _) (entries_beside (codes "patternProperties"))
-        ∙ filter_once-map _ _ (entry step) (λ e. refl) (patterns_beside ms)
+    matching_read n = ap (filter_once _) (entries_beside (codes "patternProperties")) ∙ filter_once-map _ _ (entry step) (λ e. refl) (patterns_beside ms)
 
     pub other_read : (n : Name) → (not (is_declared (read_members step ms) n) && is_empty (matching (read_members step ms) W u n)) ≡ is_other W u (declared_beside ms) (patterns_beside ms) n
     other_read n = λ i. not (declared_read n i) && (ap is_empty (matching_read n) ∙ is_empty-map (entry step) _) i

@@ -83,8 +83,7 @@ module _ (W : World) (u : Bool) (v : Data) where
   -- ---- branches
 
   module _ (step : Schema Meaning → Meaning) (k : Name) (P Q : Path) where
-    pub whole_shown : (es : Rows) → map (shows_it P Q)
-        (asked_whole k v (map (entry step) es)) ≡ map (λ e. (answer_for step e.1).tree v (P // k // e.0) Q) es
+    pub whole_shown : (es : Rows) → map (shows_it P Q) (asked_whole k v (map (entry step) es)) ≡ map (λ e. (answer_for step e.1).tree v (P // k // e.0) Q) es
     whole_shown [] = refl
     whole_shown (e ∷ es) = ap (λ l. (answer_for step e.1).tree v (P // k // e.0) Q ∷ l) (whole_shown es)
 

@@ -226,8 +226,7 @@ condition_there ms e = by _ refl e
 module _ (ms : Members) (distinct : has_repeat (names_of (listed ms)) ≡ false) where
   -- a keyword that is its own head and that of no other claims its own member
   pub claims_itself : (heads : Name → Name) (m : Name × Data) → ((n : Name) → bytes_eq m.0 (heads n) ≡ bytes_eq m.0 n) → lookup_name m.0 (listed ms) ≡ Some m.1 → claims heads (listed ms) m ≡ m ∷ []
-  claims_itself heads m same there =
-      filter_once-same _ _ (λ x. same x.0) (listed ms) ∙ named_once m.0 m.1 _ (Distinct-from _ distinct) there
+  claims_itself heads m same there = filter_once-same _ _ (λ x. same x.0) (listed ms) ∙ named_once m.0 m.1 _ (Distinct-from _ distinct) there
 
   pub claims_both : (t : Name × Name) (c : Bool) (d : Data) → lookup_name (codes "properties") (listed ms) ≡ Some d → Some t ≡ fused_pair ms
       → IsPermutation ((codes "properties", d) ∷ (codes "required", listing t) ∷ []) (claims (head (fusing t c)) (listed ms) (codes "properties", d))

@@ -31,7 +31,7 @@ use Rattle.olk_meaning.proofs.Rows.{Rows}
 -- a look-up finds what is declared
 pub declared_found : (n : Name) (fs : Rows) → is_declared_in fs n ≡ is_some (lookup_name n fs)
 declared_found n [] = refl
-declared_found n (e ∷ fs) = by (slice_cmp nat_cmp n e.0) (is_eq-slice_cmp n e.0) (declared_found n fs)
+declared_found n (e ∷ fs) = by _ (is_eq-slice_cmp n e.0) (declared_found n fs)
   where
     by : (c : Ordering) → is_eq c ≡ bytes_eq n e.0 → is_declared_in fs n ≡ is_some (lookup_name n fs) → (bytes_eq n e.0 || is_declared_in fs n) ≡ is_some (first_if_equal c e.1 (lookup_name n fs))
     by Less q h = ap (λ b. b || is_declared_in fs n) (sym q) ∙ h
@@ -65,7 +65,7 @@ module _ {K R N : Type 0} (o : Kit K R) (m : N → Data → Question) (r : N →
 
     found : (k : ℕ) (ns : List N) (fs : Rows) → EntriesAnswer o m r t ns fs L → FoundFrom k fs (lookup_name n (zip (map (λ e. e.0) fs) (enumerate_from k ns))) (lookup_name n fs)
     found k [] [] h = tt
-    found k (x ∷ ns) (e ∷ fs) h = by (slice_cmp nat_cmp n e.0) (is_eq-slice_cmp n e.0) (found_later k e fs _ _ (found (k + 1) ns fs h.1))
+    found k (x ∷ ns) (e ∷ fs) h = by _ (is_eq-slice_cmp n e.0) (found_later k e fs _ _ (found (k + 1) ns fs h.1))
       where
         by : (c : Ordering) → is_eq c ≡ bytes_eq n e.0 → FoundFrom k (e ∷ fs) (lookup_name n (zip (map (λ e. e.0) fs) (enumerate_from (k + 1) ns))) (lookup_name n fs)
             → FoundFrom k (e ∷ fs) (first_if_equal c (k, x) (lookup_name n (zip (map (λ e. e.0) fs) (enumerate_from (k + 1) ns)))) (first_if_equal c e.1 (lookup_name n fs))
@@ -102,7 +102,7 @@ module _ {K R N : Type 0} (o : Kit K R) (m : N → Data → Question) (r : N →
       matching_answer : (i : ℕ) (ps : List (CompiledPattern R × N)) (es : Rows) → PatternsAnswer o m r t ps es L → Recalls i ps
           → AnswerAs o m r t (matching_from o.answers S a n u i ps) (map (λ e. (e.1, L // e.0)) (matching_at o.world u es n))
       matching_answer i [] [] h k = tt
-      matching_answer i (p ∷ ps) (e ∷ es) h k = by (is_matched_by o.answers S a n u i p.0) (matches o.world u e.0 n) same (matching_answer (i + 1) ps es h.2 (recalls_later i p ps k))
+      matching_answer i (p ∷ ps) (e ∷ es) h k = by _ _ same (matching_answer (i + 1) ps es h.2 (recalls_later i p ps k))
         where
           same : is_matched_by o.answers S a n u i p.0 ≡ matches o.world u e.0 n
           same = ap (reads_as u) (ap (λ s. known_or s (pattern_answers o.answers p.0 n)) (recalls_here i p ps k) ∙ recalled_is_said a _ ∙ h.0.answers n)

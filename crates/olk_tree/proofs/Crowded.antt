@@ -34,7 +34,7 @@ module _ {N : Type 0} (f : Option N → Data → Question) (u : Bool) (closed : 
     by_order m ms s h Less q = without_first e es (m ∷ ms) (q, after_after e.0 m.0 q ms s.0) ∙ others (m ∷ ms) s (omega arith)
     by_order m ms s h Equal q =
         let same : e.0 ≡ m.0 = slice_cmp-IsAntisymmetric nat_cmp-IsAntisymmetric e.0 m.0 q in
-        let first = (f (lookup_name m.0 (e ∷ es)) m.1).accepts u in
+        let first = (f _ m.1).accepts u in
         ap (λ b. first && b) (without_first e es ms (subst (λ n. After n ms) (sym same) s.0) ∙ others ms s.1 (omega arith)) ∙ and-false first
     by_order m ms s h Greater q =
         let back : slice_cmp nat_cmp m.0 e.0 ≡ Less = nat_list_cmp_total.antisymm m.0 e.0 ∙ ap ordering_reverse q in
@@ -42,7 +42,7 @@ module _ {N : Type 0} (f : Option N → Data → Question) (u : Bool) (closed : 
 
     with_first : (ms : Rows) → Rising ms → length (e ∷ es) < length ms → all_accepted (e ∷ es) ms ≡ false
     with_first [] s h = absurd (omega arith)
-    with_first (m ∷ ms) s h = by_order m ms s h (slice_cmp nat_cmp e.0 m.0) refl
+    with_first (m ∷ ms) s h = by_order m ms s h _ refl
 
   pub one_too_many : (es : List (Name × N)) (ms : Rows) → Rising es → Rising ms → length es < length ms → (every (λ m. f (lookup_name m.0 es) m.1) ms).accepts u ≡ false
   one_too_many [] [] r s h = absurd (omega arith)

@@ -44,7 +44,7 @@ module _ {K R N : Type 0} {o : Kit K R} {m : _} {r : _} {t : _} {S : Sides R N} 
 
   pub rest_accepted : (n : Name) (v : Data) → (list_all (λ s. accepts o.world u s.0 v) (rest_schemas h n u) && not (is_unexpected o.answers S u n)) ≡
       (not (is_other o.world u fs es n) || accepts o.world u d v)
-  rest_accepted n v = (λ i. list_all accepted (rest_schemas h n u) && not (is_none S.rest && is_additional_other h n u i)) ∙ by S.rest h.rest (is_other o.world u fs es n)
+  rest_accepted n v = (λ i. list_all accepted (rest_schemas h n u) && not (is_none S.rest && is_additional_other h n u i)) ∙ by S.rest h.rest _
     where
       accepted : Data × Path → Bool
       accepted s = accepts o.world u s.0 v
@@ -72,7 +72,7 @@ module _ {K R N : Type 0} {o : Kit K R} {m : _} {r : _} {t : _} {S : Sides R N} 
 
     accepted_by_part : list_all accept (asked_schemas h x.0 u) ≡
         (declared_accepts o.world u fs es x && (matching_accept o.world u fs es x && list_all accept (rest_schemas h x.0 u)))
-    accepted_by_part = list_all-append accept (declared_schemas h x.0 u) _ ∙ (λ i. list_all-map accept (declared_schema h x.0) (declared_at fs x.0) i && accepted_by_others i)
+    accepted_by_part = list_all-append accept _ _ ∙ (λ i. list_all-map accept (declared_schema h x.0) (declared_at fs x.0) i && accepted_by_others i)
 
     accepted_each : (member_means o.answers o.costs m S x.0 x.1).accepts u ≡ each_accepts o.world u fs es d x
     accepted_each = member_accepted o.answers o.costs m S x.0 x.1 u

@@ -132,7 +132,7 @@ module _ {K R N : Type 0} (o : Kit K R) (m : N → Data → Question) (r : N →
       ∙ by (is_open o.world e.0)
     where
       by : (b : Bool) → cond b (cond (is_left e.0) 1 0) 0 + count_by is_left (open_among o.world es) ≡ count_by is_left (put_if b e.0 (open_among o.world es))
-      by true = sym (sum_by-cons (λ x. cond (is_left x) 1 0) e.0 (open_among o.world es))
+      by true = sym (sum_by-cons _ e.0 (open_among o.world es))
       by false = omega arith
   unfinished_asked f i _ _ h k = absurd h
 
@@ -145,7 +145,7 @@ module _ {K R N : Type 0} (o : Kit K R) (m : N → Data → Question) (r : N →
 
 module _ {K R N : Type 0} {o : Kit K R} {m : _} {r : _} {t : _} {S : Sides R N} {fs es : Rows} {d : Data} {P : Path} (h : SidesStand o m r t S fs es d P) (u : Bool) where
   pub matchers_for : (n : Name) → matchers_asked o.answers o.costs S n u (at_name S n) 0 S.patterns ≡ patterns_asked o.world fs es n
-  matchers_for n = matchers_counted o m r t n u S (P // codes "patternProperties") (at_name S n) S.patterns es h.patterns (recalls h n)
+  matchers_for n = matchers_counted o m r t n u S _ (at_name S n) S.patterns es h.patterns (recalls h n)
       ∙ ap {B = ℕ} (λ b. cond b (count_by (λ x. is_unfinished (o.world.says x n)) (open_among o.world es)) (length (open_among o.world es))) (is_declared h n)
 
   module _ (x : Name × Data) where
@@ -161,7 +161,7 @@ module _ {K R N : Type 0} {o : Kit K R} {m : _} {r : _} {t : _} {S : Sides R N} 
     asked_by_part = sum_by-append asking (declared_schemas h x.0 u) _ ∙ (λ i. sum_by-map asking (declared_schema h x.0) (declared_at fs x.0) i + asked_by_others i)
 
     pub rest_within : sum_by asking (rest_schemas h x.0 u) ≤ rest_asks o.world u fs es d x
-    rest_within = by (is_object d) (is_other o.world u fs es x.0)
+    rest_within = by (is_object d) _
       where
         by : (a b : Bool) → sum_by asking (put_if (a && b) (d, P // codes "additionalProperties") []) ≤ cond b (asks o.world u d x.1) 0
         by true true = omega arith

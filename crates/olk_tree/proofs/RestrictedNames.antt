@@ -80,7 +80,7 @@ module _ {K R N : Type 0} {o : Kit K R} {m : _} {r : _} {t : _} {S : Sides R N} 
   pub named_accepts : (v : Data) → (named_means o.answers o.costs m S v).accepts u ≡ (list_all (λ e. list_all (accepts o.world u e.1) (at e.0 v)) fs
       && list_all others_accept_it (members v))
   named_accepts v =
-      λ i. (ap (λ l. (every (λ e. every (m e.1.1) (at e.0 v)) l).accepts u) h.placed_zip ∙ declared_accept o m r t (P // codes "properties") u v 0 h.nodes fs h.declared) i && along (members v) i
+      λ i. (ap (λ l. (every (λ e. every (m e.1.1) (at e.0 v)) l).accepts u) h.placed_zip ∙ declared_accept o m r t _ u v 0 h.nodes fs h.declared) i && along (members v) i
     where
       along : (xs : Rows) → (every (λ x. others_mean o.answers o.costs m S x.0 x.1) xs).accepts u ≡ list_all
           others_accept_it xs
