@@ -7,7 +7,7 @@ use Rattle.serde_json.specs.Data.{Data, Members}
 use Rattle.olk_spec.specs.Names.{Name, lookup_name, filter_once, is_among, is_empty}
 use Rattle.olk_spec.specs.World.{World}
 use Rattle.olk_spec.specs.Schemas.{Sub, Schema, read_members, listed, members, entries_at}
-use Rattle.olk_spec.specs.Meanings.{matches, is_declared, matching, additional}
+use Rattle.olk_spec.specs.Meanings.{is_declared, matching, additional}
 use Rattle.olk_spec.specs.Reports.{has_neighbour}
 use Rattle.olk_spec.proofs.Maps.{map-map, filter_once-map, is_empty-map}
 use Rattle.olk_spec.proofs.Reading.{entry, lookup_listed, entries_at_read}

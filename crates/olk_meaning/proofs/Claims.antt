@@ -14,9 +14,9 @@ use Rattle.olk_spec.proofs.Each.{Each}
 use Rattle.olk_spec.proofs.Order.{along_permutation}
 use Rattle.olk_spec.proofs.Walks.{same_name, bytes_eq-sym, Distinct, Distinct-from, Each-found}
 use Rattle.olk_meaning.specs.Conditions.{is_condition, is_restricted}
-use Rattle.olk_meaning.specs.Plans.{Planned, plan_of, is_case, tells_members, is_taken_over, head, claims}
+use Rattle.olk_meaning.specs.Plans.{Planned, plan_of, is_case, is_taken_over, head, claims}
 use Rattle.olk_meaning.proofs.Heads.{those_split, those_none, filter_once-same, names_of}
-use Rattle.olk_meaning.specs.Fused.{declares_few, allows_others, two_names, fused_pair, fused_one}
+use Rattle.olk_meaning.specs.Fused.{declares_few, two_names, fused_pair, fused_one}
 pub use Rattle.olk_meaning.proofs.Listed.{members_named, members_found, named_once, found_each, present_each}
 use Rattle.olk_meaning.proofs.Listed.{lookup_among}
 use Rattle.olk_meaning.proofs.TakenOver.{IsNotTaken, past_taken, required_not_taken, taken_named, restriction_there, fused_is_restricted, fusing_is_free, free_fuses_none, absent_if}

@@ -8,7 +8,7 @@ use Rattle.std.proofs.lemmas.List.Sums.{sum_by-cons, sum_by-append}
 use Rattle.std.proofs.lemmas.Grind.{flat_map-append}
 use Rattle.std.proofs.Math.Bool.{and-true}
 use Rattle.serde_json.specs.Data.{Data, string, Members}
-use Rattle.olk_spec.specs.Names.{Name, Path, ◌//◌, down, filter_once, put_if}
+use Rattle.olk_spec.specs.Names.{Name, Path, ◌//◌, filter_once, put_if}
 use Rattle.olk_spec.specs.World.{World, is_unfinished}
 use Rattle.olk_spec.specs.Vocabulary.{pattern_properties}
 use Rattle.olk_spec.specs.Faults.{Fault, Regex}

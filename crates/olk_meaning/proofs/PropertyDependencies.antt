@@ -1,8 +1,6 @@
 -- `propertyDependencies`, over the raw data of its entries.
 use Rattle.std.specs.Prelude.{◌≡◌, Bool, List, [], ◌∷◌, ◌++◌, map, sum_by, codes, option_to_list}
 use Rattle.std.specs.List.{list_all, flat_map}
-use Rattle.std.specs.Ordering.{nat_cmp}
-use Rattle.std.specs.Cmp.Lexicographic.{slice_cmp}
 use Rattle.std.specs.declared.cmp.Ordering.{Ordering}
 use Rattle.std.specs.declared.cmp.Ordering.TheVariants.{Less, Equal, Greater}
 use Rattle.std.proofs.Common.{refl, sym, ◌∙◌, ap}
@@ -14,7 +12,6 @@ use Rattle.serde_json.specs.Data.{Data, Members}
 use Rattle.olk_spec.specs.Names.{Name, Path, ◌//◌, down, lookup_name, first_if_equal}
 use Rattle.olk_spec.specs.World.{World}
 use Rattle.olk_spec.specs.Vocabulary.{property_dependencies}
-use Rattle.olk_spec.specs.Faults.{Fault}
 use Rattle.olk_spec.specs.Schemas.{Sub, Schema, Keywords, read, read_members, members, at, as_text}
 use Rattle.olk_spec.specs.Meanings.{Meaning, Asked, asked, applied}
 use Rattle.olk_spec.specs.Meaning.{accepts, asks, report, tree, meaning, meaning_step}

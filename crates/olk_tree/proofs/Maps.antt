@@ -23,7 +23,7 @@ use Rattle.olk_tree.specs.Maps.{named, keys_in, nodes_in}
 use Rattle.olk_tree.specs.Firsts.{or_else, first_of}
 use Rattle.olk_tree.specs.Dependencies.{due_nodes}
 use Rattle.olk_tree.specs.PropertyDependencies.{chosen_at, chosen_nodes}
-use Rattle.olk_tree.specs.PatternProperties.{matched_mean, matched_report, patterns_mean, patterns_report, patterns_first}
+use Rattle.olk_tree.specs.PatternProperties.{patterns_mean, patterns_report, patterns_first}
 use Rattle.olk_tree.specs.declared.map.SmallMap.{SmallMap}
 use Rattle.olk_tree.specs.Questions.{Question, always, both, either, conditional, every, some, how_many, exactly_one}
 
@@ -113,8 +113,7 @@ module _ {X Y : Type 0} (h : Y → X) (v : Data) where
 
     at_texts-map : (m : SmallMap Y) (ts : List Name) → flat_map (λ t. option_to_list (lookup_name t (named (g m)))) ts ≡ map h (flat_map (λ t. option_to_list (lookup_name t (named m))) ts)
     at_texts-map m [] = refl
-    at_texts-map m (t ∷ ts) =
-        (λ i. at_text-map m t i ++ at_texts-map m ts i) ∙ sym (map-append h _ _)
+    at_texts-map m (t ∷ ts) = (λ i. at_text-map m t i ++ at_texts-map m ts i) ∙ sym (map-append h _ _)
 
     chosen_at-map : (m : SmallMap Y) (w : Data) → chosen_at (g m) w ≡ map h (chosen_at m w)
     chosen_at-map m w = at_texts-map m (as_text w)
@@ -173,9 +172,7 @@ module _ {R X Y : Type 0} (answers : R → Name → Says) (h : Y → X) where
   module _ (u : Bool) (v : Data) where
     module _ (r : X → Bool → Data → Path → List Fault) (k : Y → Bool → Data → Path → List Fault) (same : (y : Y) (w : Data) (Q : Path) → r (h y) u w Q ≡ k y u w Q) (Q : Path) where
       pub patterns_report-map : (es : List (CompiledPattern R × Y)) → patterns_report answers r u (map beside_pattern es) v Q ≡ patterns_report answers k u es v Q
-      patterns_report-map es =
-          flat_map-map _ _ beside_pattern
-          (λ e i. flat_map (λ x. same e.1 x.1 (Q // x.0) i) (matched answers u e.0 v)) es
+      patterns_report-map es = flat_map-map _ _ beside_pattern (λ e i. flat_map (λ x. same e.1 x.1 (Q // x.0) i) (matched answers u e.0 v)) es
 
       pub patterns_first-map : (es : List (CompiledPattern R × Y)) → patterns_first answers r u (map beside_pattern es) v Q ≡ patterns_first answers k u es v Q
       patterns_first-map es =

@@ -45,9 +45,7 @@ module _ {N : Type 0} (ms : Members) where
       mean_if_declared x (Some n) = refl
 
       mean_each : (xs : List (Name × Data)) → every (λ x. every (λ n. m n x.1) (option_to_list (lookup_name x.0 es))) xs ≡ every (λ d. m d.node d.value) (members_declared es xs)
-      mean_each xs =
-          (λ i. every (λ x. mean_if_declared x (lookup_name x.0 es) i) xs)
-          ∙ sym (every-flat_map _ _ xs)
+      mean_each xs = (λ i. every (λ x. mean_if_declared x (lookup_name x.0 es) i) xs) ∙ sym (every-flat_map _ _ xs)
 
       pub means_of_members : names_met es (listed ms) ≡ members_declared es (listed ms) → every (λ x. every (λ n. m n x.1) (option_to_list (lookup_name x.0 es)))
           (listed ms) ≡ properties_mean m es (object ms)

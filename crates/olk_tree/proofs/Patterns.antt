@@ -7,8 +7,8 @@ use Rattle.olk_spec.specs.Names.{Name, Path, ◌//◌, filter_once, put_if}
 use Rattle.olk_spec.specs.World.{Says}
 use Rattle.olk_spec.specs.Faults.{Fault}
 use Rattle.olk_base.specs.declared.pattern.CompiledPattern.{CompiledPattern}
-use Rattle.olk_tree.specs.Questions.{Question, always, conditional, every}
-use Rattle.olk_tree.specs.Matched.{is_match, matching, match_question}
+use Rattle.olk_tree.specs.Questions.{Question, always, every}
+use Rattle.olk_tree.specs.Matched.{is_match}
 use Rattle.olk_tree.specs.Firsts.{or_else, first_of}
 use Rattle.olk_tree.specs.PatternProperties.{matched_mean, patterns_mean, matched_report, patterns_report, matched_first, patterns_first}
 use Rattle.olk_tree.proofs.Questions.{every-nothing}

@@ -19,7 +19,7 @@ use Rattle.olk_spec.proofs.Maps.{flat_map-map, map-map}
 use Rattle.olk_spec.proofs.Order.{∼_append, ∼_same, ∼_flat_map_any}
 use Rattle.olk_base.specs.Kit.{Kit}
 use Rattle.olk_meaning.specs.AdditionalProperties.{declared_at, matching_at, is_other, other_members, declared_accepts, matching_accept, each_accepts, declared_report, matching_report, rest_report, each_report, others_report, each_shown, names_matched, other_names, declared_beside, patterns_beside, declares_beside, matches_beside, required_child, restriction_shown}
-use Rattle.olk_tree.specs.Questions.{Question, every}
+use Rattle.olk_tree.specs.Questions.{every}
 use Rattle.olk_tree.specs.Additional.{Sides, nodes_asked, is_unexpected, unexpected, member_means, means_in_turn, member_report, report_in_turn, additional_names, matched_names, additional_tree}
 use Rattle.olk_tree.specs.AdditionalAgreement.{member_accepted}
 use Rattle.olk_tree.specs.Sides.{RestAnswers, SidesStand}
@@ -144,8 +144,7 @@ module _ {K R N : Type 0} {o : Kit K R} {m : _} {r : _} {t : _} {S : Sides R N} 
   -- it finds what is found in each member, and the members that are not expected
   pub restricted_finds : (named : Bool) (v : Data) (Q : Path) → report_in_turn o.answers S u v Q named at_rest r ∼ flat_map
       (each_report o.world u fs es P Q d) (members v) ++ others_report o.world u fs es P Q named d v
-  restricted_finds named v Q =
-      ∼_append (∼_flat_map_any _ _ (λ x. found_each x Q v) (members v)) (∼_same (faults_of_others named v Q))
+  restricted_finds named v Q = ∼_append (∼_flat_map_any _ _ (λ x. found_each x Q v) (members v)) (∼_same (faults_of_others named v Q))
 
   -- ---- what it shows
 

@@ -9,16 +9,16 @@ use Rattle.olk_spec.specs.Names.{Name, Text, Path, ◌//◌, put_if, is_empty}
 use Rattle.olk_spec.specs.World.{World, Says, matched, unmatched, is_unfinished}
 use Rattle.olk_spec.specs.Faults.{Fault}
 use Rattle.olk_spec.specs.Schemas.{is_object, members}
-use Rattle.olk_spec.specs.Literals.{Literal, literal, passes}
+use Rattle.olk_spec.specs.Literals.{Literal, literal}
 use Rattle.olk_spec.specs.Meanings.{literal_says, pattern_says, is_open}
 use Rattle.olk_spec.specs.Meaning.{asks}
 use Rattle.olk_spec.specs.Tree.{Tree}
 use Rattle.olk_base.specs.Kit.{Kit}
 use Rattle.olk_base.specs.Compiled.{pattern_answers, pattern_costs}
 use Rattle.olk_base.specs.declared.pattern.CompiledPattern.{CompiledPattern}
-use Rattle.olk_meaning.specs.AdditionalProperties.{declared_at, matching_at, is_other, open_among, patterns_asked, declared_asks, matching_asks, rest_asks, each_asks}
+use Rattle.olk_meaning.specs.AdditionalProperties.{declared_at, matching_at, open_among, patterns_asked, declared_asks, matching_asks, rest_asks, each_asks}
 use Rattle.olk_tree.specs.Questions.{Question, said_to, every}
-use Rattle.olk_tree.specs.Additional.{Sides, known_at, known_or_asked, is_matched_by, matching_from, at_name, nodes_asked, rest_means, patterns_mean_from, member_means_at, member_means, means_in_turn}
+use Rattle.olk_tree.specs.Additional.{Sides, known_at, known_or_asked, matching_from, at_name, nodes_asked, rest_means, patterns_mean_from, member_means_at, member_means, means_in_turn}
 use Rattle.olk_tree.specs.AdditionalAgreement.{match_is_said}
 use Rattle.olk_tree.specs.Sides.{PatternsAnswer, SidesStand}
 use Rattle.olk_tree.proofs.Answering.{more_within, all_ask}
@@ -156,8 +156,7 @@ module _ {K R N : Type 0} {o : Kit K R} {m : _} {r : _} {t : _} {S : Sides R N} 
     asked_by_others =
         sum_by-append asking (matching_schemas h x.0 u) _ ∙ ap (λ k. k + sum_by asking (rest_schemas h x.0 u)) (sum_by-map asking _ (matching_at o.world u es x.0))
 
-    asked_by_part : sum_by asking (asked_schemas h x.0 u) ≡ declared_asks o.world u fs es x +
-        (matching_asks o.world u fs es x + sum_by asking (rest_schemas h x.0 u))
+    asked_by_part : sum_by asking (asked_schemas h x.0 u) ≡ declared_asks o.world u fs es x + (matching_asks o.world u fs es x + sum_by asking (rest_schemas h x.0 u))
     asked_by_part = sum_by-append asking (declared_schemas h x.0 u) _ ∙ (λ i. sum_by-map asking (declared_schema h x.0) (declared_at fs x.0) i + asked_by_others i)
 
     pub rest_within : sum_by asking (rest_schemas h x.0 u) ≤ rest_asks o.world u fs es d x

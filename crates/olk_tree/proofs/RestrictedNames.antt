@@ -57,8 +57,7 @@ module _ {K R N : Type 0} (o : Kit K R) (m : N → Data → Question) (r : N →
         → flat_map (λ e. flat_map (λ w. r e.1.1 u w (Q // e.0)) (at e.0 v)) (zip (map (λ e. e.0) fs) (enumerate_from k ns)) ∼ flat_map
         (λ e. flat_map (λ w. report o.world u e.1 w (L // e.0) (Q // e.0)) (at e.0 v)) fs
     declared_find Q k [] [] h = like_empty
-    declared_find Q k (n ∷ ns) (e ∷ fs) h =
-        ∼_append (∼_flat_map_any _ _ (λ w. h.0.faults u w (Q // e.0)) (at e.0 v)) (declared_find Q (k + 1) ns fs h.1)
+    declared_find Q k (n ∷ ns) (e ∷ fs) h = ∼_append (∼_flat_map_any _ _ (λ w. h.0.faults u w (Q // e.0)) (at e.0 v)) (declared_find Q (k + 1) ns fs h.1)
     declared_find Q k _ _ h = absurd h
 
 -- ---- all
@@ -82,8 +81,7 @@ module _ {K R N : Type 0} {o : Kit K R} {m : _} {r : _} {t : _} {S : Sides R N} 
   named_accepts v =
       λ i. (ap (λ l. (every (λ e. every (m e.1.1) (at e.0 v)) l).accepts u) h.placed_zip ∙ declared_accept o m r t _ u v 0 h.nodes fs h.declared) i && along (members v) i
     where
-      along : (xs : Rows) → (every (λ x. others_mean o.answers o.costs m S x.0 x.1) xs).accepts u ≡ list_all
-          others_accept_it xs
+      along : (xs : Rows) → (every (λ x. others_mean o.answers o.costs m S x.0 x.1) xs).accepts u ≡ list_all others_accept_it xs
       along [] = refl
       along (x ∷ xs) = λ i. others_accept x i && along xs i
 
@@ -132,7 +130,6 @@ module _ {K R N : Type 0} {o : Kit K R} {m : _} {r : _} {t : _} {S : Sides R N} 
       let parts = sum_of_both patterns_ask_it (rest_asks o.world u fs es d) (members v) in
       omega (arith, same, declared, others, parts)
     where
-      along : (xs : Rows) → (every (λ x. others_mean o.answers o.costs m S x.0 x.1) xs).asks u ≤ sum_by
-          (λ x. patterns_ask_it x + rest_asks o.world u fs es d x) xs
+      along : (xs : Rows) → (every (λ x. others_mean o.answers o.costs m S x.0 x.1) xs).asks u ≤ sum_by (λ x. patterns_ask_it x + rest_asks o.world u fs es d x) xs
       along [] = omega arith
       along (x ∷ xs) = more_within _ _ _ _ _ (others_ask x) (along xs) (sum_by-cons (λ x. patterns_ask_it x + rest_asks o.world u fs es d x) x xs)

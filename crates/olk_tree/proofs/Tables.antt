@@ -15,7 +15,7 @@ use Rattle.std.proofs.lemmas.Slice.Zip.{AllZip-left, AllZip-long, all_zipped_mor
 use native.Mathlib.Nat.{add-mul, mul-le-mul_right}
 use Rattle.olk_spec.specs.Names.{Name}
 use Rattle.olk_spec.specs.World.{Says, unmatched, unfinished}
-use Rattle.olk_base.specs.Count.{Counts, no_counts}
+use Rattle.olk_base.specs.Count.{Counts}
 use Rattle.olk_base.specs.Compiled.{pattern_answers, pattern_costs}
 use Rattle.olk_base.specs.Lawful.{count_ask}
 use Rattle.olk_base.specs.declared.pattern.CompiledPattern.{CompiledPattern}

@@ -1,5 +1,5 @@
 -- What `additionalProperties` finds is empty exactly where it accepts, and so is its first step that refuses, if that is so of its nodes.
-use Rattle.std.specs.Prelude.{◌≡◌, ℕ, ◌+◌, Bool, true, false, not, ◌&&◌, cond, List, [], ◌∷◌, ◌++◌, Option, Some, None, is_none, is_some, option_map, option_to_list}
+use Rattle.std.specs.Prelude.{◌≡◌, ℕ, ◌+◌, Bool, true, false, not, ◌&&◌, cond, List, [], ◌∷◌, ◌++◌, Option, Some, None, is_none, option_map, option_to_list}
 use Rattle.std.specs.List.{flat_map}
 use Rattle.std.proofs.Common.{refl, sym, ap, ◌∙◌}
 use Rattle.std.proofs.Math.Bool.{and_assoc}
@@ -17,7 +17,7 @@ use Rattle.olk_base.specs.Compiled.{pattern_answers, pattern_costs}
 use Rattle.olk_base.specs.declared.pattern.CompiledPattern.{CompiledPattern}
 use Rattle.olk_tree.specs.Questions.{Question, always, said_to, both, every}
 use Rattle.olk_tree.specs.Firsts.{or_else, first_of}
-use Rattle.olk_tree.specs.Additional.{Sides, known_at, known_or, known_or_asked, is_matched_by, matching_from, at_name, others_asked, nodes_asked, is_unexpected, unexpected, repeats, rest_means, patterns_mean_from, member_means_at, member_means, means_in_turn, others_mean, named_means, additional_means, member_report, others_report, report_in_turn, named_report, additional_report, member_first, others_first, first_in_turn, named_first, additional_first, sides_of, has_neighbours, required_text, required_place, lacks}
+use Rattle.olk_tree.specs.Additional.{Sides, known_at, known_or, known_or_asked, matching_from, at_name, others_asked, nodes_asked, is_unexpected, unexpected, repeats, rest_means, patterns_mean_from, member_means_at, member_means, means_in_turn, others_mean, named_means, additional_means, member_report, others_report, report_in_turn, named_report, additional_report, member_first, others_first, first_in_turn, named_first, additional_first, sides_of, has_neighbours, required_text, required_place, lacks}
 use Rattle.olk_tree.specs.Emptiness.{each_agrees, both_agree, or_else_agrees, first_of_agrees}
 use Rattle.olk_tree.specs.declared.additional_properties.AdditionalProperties.{AdditionalProperties}
 
