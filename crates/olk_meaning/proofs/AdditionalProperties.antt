@@ -102,8 +102,7 @@ module _ (W : World) (ms : Members) (d : Data) (u : Bool) (v : Data) where
           (rest_accepts W u fs es d) (members v)
       by (boolean false) = ap (λ l. list_all accepts_it l && is_empty others) (nothing_of_each others) ∙ none_passes _ (members v)
       by (object gs) =
-          and-true _ ∙ all_of_each _ _ others ∙ list_all-filter_once
-          _ _ (members v)
+          and-true _ ∙ all_of_each _ _ others ∙ list_all-filter_once _ _ (members v)
       by _ = allowing
 
   pub additional_asks : member_asks W ms (codes "additionalProperties", d) additional_properties u v ≡ sum_by (rest_asks W u fs es d) (members v)

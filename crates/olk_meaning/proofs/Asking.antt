@@ -7,12 +7,12 @@ use Rattle.olk_spec.specs.Names.{Name}
 use Rattle.olk_spec.specs.World.{World}
 use Rattle.olk_spec.specs.Vocabulary.{Keyword, pattern_properties, any_of, one_of, not_keyword, if_keyword, keyword_named}
 use Rattle.olk_spec.specs.Schemas.{Schema, keywords, Keywords, Part, members, is_object}
-use Rattle.olk_spec.specs.Meanings.{Meaning, applied, is_conditional}
-use Rattle.olk_spec.specs.Asks.{asks_at, own_asks, keyword_asks}
+use Rattle.olk_spec.specs.Meanings.{Meaning, applied}
+use Rattle.olk_spec.specs.Asks.{own_asks, keyword_asks}
 use Rattle.olk_spec.specs.Meaning.{asks, meaning, meaning_step}
 use Rattle.olk_spec.proofs.Each.{Each, Each-implies, Each-any}
 use Rattle.olk_spec.proofs.Applied.{GoodAsked, applied_good}
-use Rattle.olk_spec.proofs.Induction.{good_answer, schema_read, GoodSchema, GoodSub, GoodPart}
+use Rattle.olk_spec.proofs.Induction.{good_answer, GoodSchema, GoodPart}
 use Rattle.olk_spec.proofs.Passing.{no_members}
 use Rattle.olk_meaning.proofs.Facts.{asks_it}
 use Rattle.olk_meaning.proofs.Rows.{Rows}

@@ -7,7 +7,7 @@ use Rattle.serde_json.specs.Data.{Data, Members}
 use Rattle.olk_spec.specs.Names.{Name, lookup_name, filter_once, is_among, is_empty}
 use Rattle.olk_spec.specs.World.{World}
 use Rattle.olk_spec.specs.Schemas.{Sub, Schema, read_members, listed, members, entries_at}
-use Rattle.olk_spec.specs.Meanings.{matches, is_declared, matching, additional}
+use Rattle.olk_spec.specs.Meanings.{is_declared, matching, additional}
 use Rattle.olk_spec.specs.Reports.{has_neighbour}
 use Rattle.olk_spec.proofs.Maps.{map-map, filter_once-map, is_empty-map}
 use Rattle.olk_spec.proofs.Reading.{entry, lookup_listed, entries_at_read}
@@ -32,8 +32,7 @@ module _ {X : Type 0} (step : Schema X → X) (ms : Members) where
 
   module _ (W : World) (u : Bool) where
     pub matching_read : (n : Name) → matching (read_members step ms) W u n ≡ map (entry step) (matching_at W u (patterns_beside ms) n)
-    matching_read n = ap (filter_once _) (entries_beside (codes "patternProperties"))
-        ∙ filter_once-map _ _ (entry step) (λ e. refl) (patterns_beside ms)
+    matching_read n = ap (filter_once _) (entries_beside (codes "patternProperties")) ∙ filter_once-map _ _ (entry step) (λ e. refl) (patterns_beside ms)
 
     pub other_read : (n : Name) → (not (is_declared (read_members step ms) n) && is_empty (matching (read_members step ms) W u n)) ≡ is_other W u (declared_beside ms) (patterns_beside ms) n
     other_read n = λ i. not (declared_read n i) && (ap is_empty (matching_read n) ∙ is_empty-map (entry step) _) i

@@ -1,15 +1,13 @@
 -- What each keyword shows, over the raw data of its value.
 use Rattle.std.specs.Prelude.{◌≡◌, ℕ, ◌+◌, ◌==◌, Bool, true, false, not, cond, ◌&&◌, List, [], ◌∷◌, ◌++◌, map, count_by, codes, Some, None, option_to_list}
 use Rattle.std.specs.List.{flat_map}
-use Rattle.std.specs.Ordering.{nat_cmp}
-use Rattle.std.specs.Cmp.Lexicographic.{slice_cmp}
 use Rattle.std.specs.declared.cmp.Ordering.{Ordering}
 use Rattle.std.specs.declared.cmp.Ordering.TheVariants.{Less, Equal, Greater}
 use Rattle.std.proofs.Common.{refl, sym, ◌∙◌, ap, arith}
 use Rattle.std.proofs.lemmas.List.Sums.{sum_by-cons}
 use Rattle.std.proofs.Math.Bool.{and-true}
 use Rattle.serde_json.specs.Data.{Data, object, array, Members, Items}
-use Rattle.olk_spec.specs.Names.{Name, Path, ◌//◌, down, lookup_name, first_if_equal, filter_once, put_if, is_among, is_empty}
+use Rattle.olk_spec.specs.Names.{Name, Path, ◌//◌, lookup_name, first_if_equal, filter_once, put_if, is_among, is_empty}
 use Rattle.olk_spec.specs.World.{World}
 use Rattle.olk_spec.specs.Vocabulary.{properties, required, all_of, any_of, not_keyword, leaf}
 use Rattle.olk_spec.specs.Faults.{Not, Leaf, fault}
@@ -83,8 +81,7 @@ module _ (W : World) (u : Bool) (v : Data) where
   -- ---- branches
 
   module _ (step : Schema Meaning → Meaning) (k : Name) (P Q : Path) where
-    pub whole_shown : (es : Rows) → map (shows_it P Q)
-        (asked_whole k v (map (entry step) es)) ≡ map (λ e. (answer_for step e.1).tree v (P // k // e.0) Q) es
+    pub whole_shown : (es : Rows) → map (shows_it P Q) (asked_whole k v (map (entry step) es)) ≡ map (λ e. (answer_for step e.1).tree v (P // k // e.0) Q) es
     whole_shown [] = refl
     whole_shown (e ∷ es) = ap (λ l. (answer_for step e.1).tree v (P // k // e.0) Q ∷ l) (whole_shown es)
 

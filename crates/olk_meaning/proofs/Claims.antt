@@ -14,9 +14,9 @@ use Rattle.olk_spec.proofs.Each.{Each}
 use Rattle.olk_spec.proofs.Order.{along_permutation}
 use Rattle.olk_spec.proofs.Walks.{same_name, bytes_eq-sym, Distinct, Distinct-from, Each-found}
 use Rattle.olk_meaning.specs.Conditions.{is_condition, is_restricted}
-use Rattle.olk_meaning.specs.Plans.{Planned, plan_of, is_case, tells_members, is_taken_over, head, claims}
+use Rattle.olk_meaning.specs.Plans.{Planned, plan_of, is_case, is_taken_over, head, claims}
 use Rattle.olk_meaning.proofs.Heads.{those_split, those_none, filter_once-same, names_of}
-use Rattle.olk_meaning.specs.Fused.{declares_few, allows_others, two_names, fused_pair, fused_one}
+use Rattle.olk_meaning.specs.Fused.{declares_few, two_names, fused_pair, fused_one}
 pub use Rattle.olk_meaning.proofs.Listed.{members_named, members_found, named_once, found_each, present_each}
 use Rattle.olk_meaning.proofs.Listed.{lookup_among}
 use Rattle.olk_meaning.proofs.TakenOver.{IsNotTaken, past_taken, required_not_taken, taken_named, restriction_there, fused_is_restricted, fusing_is_free, free_fuses_none, absent_if}
@@ -226,8 +226,7 @@ condition_there ms e = by _ refl e
 module _ (ms : Members) (distinct : has_repeat (names_of (listed ms)) ≡ false) where
   -- a keyword that is its own head and that of no other claims its own member
   pub claims_itself : (heads : Name → Name) (m : Name × Data) → ((n : Name) → bytes_eq m.0 (heads n) ≡ bytes_eq m.0 n) → lookup_name m.0 (listed ms) ≡ Some m.1 → claims heads (listed ms) m ≡ m ∷ []
-  claims_itself heads m same there =
-      filter_once-same _ _ (λ x. same x.0) (listed ms) ∙ named_once m.0 m.1 _ (Distinct-from _ distinct) there
+  claims_itself heads m same there = filter_once-same _ _ (λ x. same x.0) (listed ms) ∙ named_once m.0 m.1 _ (Distinct-from _ distinct) there
 
   pub claims_both : (t : Name × Name) (c : Bool) (d : Data) → lookup_name (codes "properties") (listed ms) ≡ Some d → Some t ≡ fused_pair ms
       → IsPermutation ((codes "properties", d) ∷ (codes "required", listing t) ∷ []) (claims (head (fusing t c)) (listed ms) (codes "properties", d))

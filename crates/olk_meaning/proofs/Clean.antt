@@ -1,8 +1,7 @@
 -- Which validators a schema object has, where nothing in it is malformed.
 use Rattle.std.specs.Prelude.{◌≡◌, ⊤, Bool, true, false, not, cond, ◌&&◌, ◌||◌, nat_lt, List, [], ◌∷◌, ◌++◌, map, length, codes, Option, Some, None, is_some, is_none, unwrap_or, option_to_list, bytes_eq}
 use Rattle.std.specs.List.{flat_map}
-use Rattle.std.specs.Ordering.{nat_cmp, is_eq}
-use Rattle.std.specs.Cmp.Lexicographic.{slice_cmp}
+use Rattle.std.specs.Ordering.{is_eq}
 use Rattle.std.specs.declared.cmp.Ordering.{Ordering}
 use Rattle.std.specs.declared.cmp.Ordering.TheVariants.{Less, Equal, Greater}
 use Rattle.std.proofs.Common.{refl, sym, ◌∙◌, ap}
@@ -68,8 +67,7 @@ module _ {X : Type 0} (step : Schema X → X) where
       → (is_some p && c && not (is_some t) && nat_lt (length (flat_map (λ d. map (entry step) (members d)) (option_to_list p))) HASHMAP_THRESHOLD
       && are_two (flat_map texts (option_to_list r))) ≡ is_some (cond (declares_few p && is_none t && c) (two_names r) None)
   are_fused_names L None r t c h k = refl
-  are_fused_names L (Some (object fs)) r None true h k =
-      ap (λ n. nat_lt n HASHMAP_THRESHOLD && are_two (flat_map texts (option_to_list r))) (entry_count fs) ∙ by _
+  are_fused_names L (Some (object fs)) r None true h k = ap (λ n. nat_lt n HASHMAP_THRESHOLD && are_two (flat_map texts (option_to_list r))) (entry_count fs) ∙ by _
     where
       by : (b : Bool) → (b && are_two (flat_map texts (option_to_list r))) ≡ is_some (cond (b && true && true) (two_names r) None)
       by true = are_two_names L r k
@@ -162,8 +160,7 @@ module _ (W : World) (ms : Members) (P : Path) (clean : flat_map (λ m. member_m
     pub fused : fuses_two (read_members step ms) ≡ is_some (fused_pair ms)
     fused =
         (λ i. here i && (ap not (restricted_read step ms) ∙ others_free) i && not (patterned i) && nat_lt (length (entries i)) HASHMAP_THRESHOLD && are_two (listed_names i))
-        ∙ are_fused_names step _ _ _ _
-        _ an_object texts_listed
+        ∙ are_fused_names step _ _ _ _ _ an_object texts_listed
       where
         here : declares (read_members step ms) ≡ is_some (at_name (codes "properties"))
         here = is_present_read step ms (codes "properties") ∙ ap is_some (sym (lookup_listed (codes "properties") ms))

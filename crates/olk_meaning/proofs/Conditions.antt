@@ -7,7 +7,7 @@ use Rattle.std.proofs.lemmas.List.Sums.{sum_by-cons}
 use Rattle.std.proofs.Math.Bool.{or-true, and-true, or-false}
 use mathlib.Core.Bool.{true≢false}
 use Rattle.serde_json.specs.Data.{Data, Members}
-use Rattle.olk_spec.specs.Names.{Name, Path, ◌//◌, down, lookup_name, put_if}
+use Rattle.olk_spec.specs.Names.{Name, Path, ◌//◌, lookup_name, put_if}
 use Rattle.olk_spec.specs.World.{World}
 use Rattle.olk_spec.specs.Vocabulary.{if_keyword, then_keyword, else_keyword, keyword_named}
 use Rattle.olk_spec.specs.Schemas.{Sub, Schema, Keywords, read, read_members, listed, wholes_at, is_object, is_truth}
@@ -171,8 +171,7 @@ module _ (W : World) (ms : Members) (u : Bool) (v : Data) where
       asks_where true k = nothing_last _ ∙ sum_by-cons asks_it (asked (read to_meaning e).whole v (k ∷ []) []) [] ∙ nothing_last _
       asks_where false k = refl
 
-      found_where : (b : Bool) (k : Name) (P Q : Path) → flat_map (finds_it P Q) (asked_where b k)
-          ++ [] ≡ cond b (report W u e v (P // k) Q) []
+      found_where : (b : Bool) (k : Name) (P Q : Path) → flat_map (finds_it P Q) (asked_where b k) ++ [] ≡ cond b (report W u e v (P // k) Q) []
       unfolding meaning
       found_where true k P Q = append-nil _ ∙ append-nil _
       found_where false k P Q = refl
@@ -184,9 +183,7 @@ module _ (W : World) (ms : Members) (u : Bool) (v : Data) where
       then_asks_beside = ap (λ b. sum_by asks_it (asked_where b (codes "then")) + 0) if_holds ∙ asks_where _ (codes "then")
 
       pub then_report_beside : (P Q : Path) → member_report W ms (codes "then", e) then_keyword u v P Q ≡ cond (accepts W u d v) (report W u e v (P // codes "then") Q) []
-      then_report_beside P Q =
-          ap (λ b. flat_map (finds_it P Q) (asked_where b (codes "then")) ++ []) if_holds
-          ∙ found_where _ (codes "then") P Q
+      then_report_beside P Q = ap (λ b. flat_map (finds_it P Q) (asked_where b (codes "then")) ++ []) if_holds ∙ found_where _ (codes "then") P Q
 
       pub else_accepts_beside : member_accepts W ms (codes "else", e) else_keyword u v ≡ cond (not (accepts W u d v)) (accepts W u e v) true
       else_accepts_beside = ap (λ b. list_all accepts_it (asked_where b (codes "else")) && true) if_fails ∙ accepted_where (not _) (codes "else")
@@ -195,9 +192,7 @@ module _ (W : World) (ms : Members) (u : Bool) (v : Data) where
       else_asks_beside = ap (λ b. sum_by asks_it (asked_where b (codes "else")) + 0) if_fails ∙ asks_where (not _) (codes "else")
 
       pub else_report_beside : (P Q : Path) → member_report W ms (codes "else", e) else_keyword u v P Q ≡ cond (not (accepts W u d v)) (report W u e v (P // codes "else") Q) []
-      else_report_beside P Q =
-          ap (λ b. flat_map (finds_it P Q) (asked_where b (codes "else")) ++ []) if_fails
-          ∙ found_where _ (codes "else") P Q
+      else_report_beside P Q = ap (λ b. flat_map (finds_it P Q) (asked_where b (codes "else")) ++ []) if_fails ∙ found_where _ (codes "else") P Q
 
   -- what stands at a name, shown where the test holds
   case_read : (d : Data) (b : Bool) (k : Name) (P Q : Path) → case_trees W u neighbours v P Q (codes "if") (read to_meaning d) b k ≡ case_shown W u v b (P // k) Q (lookup_name k (listed ms))

@@ -8,7 +8,7 @@ use Rattle.std.proofs.lemmas.List.Sums.{sum_by-cons}
 use Rattle.std.proofs.Math.Bool.{and-false, and-true}
 use mathlib.Core.Path.{subst₂}
 use Rattle.serde_json.specs.Data.{Data, Members}
-use Rattle.olk_spec.specs.Names.{Name, Path, ◌//◌, down, is_empty, filter_once, put_if}
+use Rattle.olk_spec.specs.Names.{Name, Path, ◌//◌, is_empty, filter_once, put_if}
 use Rattle.olk_spec.specs.World.{World}
 use Rattle.olk_spec.specs.Vocabulary.{dependent_required, dependent_schemas, dependencies}
 use Rattle.olk_spec.specs.Faults.{Fault, ◌∼◌, like_empty, like_through}
@@ -111,9 +111,7 @@ module _ {X : Type 0} (step : Schema X → X) (d v : Data) where
   entries_due = ap (filter_once _) (entries_read step d) ∙ filter_once-map _ _ (entry step) (λ e. refl) (members d)
 
   schemas_due : filter_once (λ e. has e.0 v && not (is_array e.1.schema)) (read step d).entries ≡ map (entry step) (filter_once (λ e. has e.0 v && not (is_array e.1)) (members d))
-  schemas_due =
-      ap (filter_once _) (entries_read step d) ∙ filter_once-map _
-      _ (entry step) (λ e. refl) (members d)
+  schemas_due = ap (filter_once _) (entries_read step d) ∙ filter_once-map _ _ (entry step) (λ e. refl) (members d)
 
   lists_due : due (read step d) v ≡ map (λ e. (e.0, texts e.1)) (filter_once (λ e. has e.0 v && is_array e.1) (members d))
   lists_due = due_read ∙ ap (map {A = Name × Data} (λ e. (e.0, texts e.1))) (filter_once-filter_once _ _ (members d))
@@ -136,10 +134,7 @@ module _ (W : World) (ms : Members) (d : Data) (u : Bool) (v : Data) where
 
       pub dependent_required_report : member_report W ms (codes "dependentRequired", d) dependent_required u v P Q ≡ flat_map
           (λ e. required_faults (texts e.1) v at_required Q) (due_entries d v)
-      dependent_required_report =
-          ap (flat_map _) (due_lists to_meaning d v lists)
-          ∙ flat_map-map _ _
-          (λ e. (e.0, texts e.1)) (λ e. refl) (due_entries d v)
+      dependent_required_report = ap (flat_map _) (due_lists to_meaning d v lists) ∙ flat_map-map _ _ (λ e. (e.0, texts e.1)) (λ e. refl) (due_entries d v)
 
       pub dependent_required_child : member_child W ms (codes "dependentRequired", d) dependent_required u v P Q
           ≡ plain at_required Q (map (λ e. erring at_required Q (required_faults (texts e.1) v at_required Q)) (due_entries d v)) ∷ []
@@ -208,8 +203,7 @@ module _ (W : World) (ms : Members) (d : Data) (u : Bool) (v : Data) where
     pub dependencies_report : member_report W ms (codes "dependencies", d) dependencies u v P Q ∼ flat_map (λ e. dependency_report W u e v at_dependencies Q) (due_entries d v)
     unfolding meaning
     dependencies_report = subst (λ fs. fs ∼ flat_map (λ e. dependency_report W u e v at_dependencies Q) (due_entries d v)) (sym parted)
-        (found_parted _ _ _
-        _ _ (λ e. refl) (members d))
+        (found_parted _ _ _ _ _ (λ e. refl) (members d))
       where
         parted : member_report W ms (codes "dependencies", d) dependencies u v P Q
             ≡ flat_map (λ e. report W u e.1 v (at_dependencies // e.0) Q) (filter_once (λ e. has e.0 v && not (is_array e.1)) (members d))
@@ -225,8 +219,7 @@ module _ (W : World) (ms : Members) (d : Data) (u : Bool) (v : Data) where
         (map (λ e. dependency_shown W u e v at_dependencies Q) (due_entries d v)) ∷ []
     unfolding meaning
     dependencies_child = ap (λ ts. plain at_dependencies Q ts ∷ [])
-        (ap (map (λ e. cond (is_array e.1.schema) _
-        _)) (entries_due to_meaning d v)
+        (ap (map (λ e. cond (is_array e.1.schema) _ _)) (entries_due to_meaning d v)
         ∙ map-map (λ e. cond (is_array e.1.schema) _ _) (λ e. dependency_shown W u e v _ Q) (entry to_meaning) (λ e. refl) (due_entries d v))
 
 -- ---- what is wrong with them, and the places that they read
@@ -248,6 +241,4 @@ module _ {X : Type 0} (step : Schema X → X) (d : Data) (k : Name) where
     dependent_schemas_places = ap (each k) (entries_read step d)
 
     pub dependencies_places : read_places k S (read step d) dependencies ≡ each k (map (entry step) (schema_entries d))
-    dependencies_places = ap (each k)
-        (ap (filter_once _) (entries_read step d)
-        ∙ filter_once-map _ _ (entry step) (λ e. refl) (members d))
+    dependencies_places = ap (each k) (ap (filter_once _) (entries_read step d) ∙ filter_once-map _ _ (entry step) (λ e. refl) (members d))

@@ -143,9 +143,7 @@ module _ (step : Schema Meaning → Meaning) (k : Name) (v : Data) where
 module _ (W : World) (k : Name) (ds : Items) (u : Bool) (v : Data) (P Q : Path) where
   pub branches_report : map (λ b. b.1.answer.report v (P // k // b.0) Q) (branches (read (meaning_step W u) (array ds))) ≡ map (λ e. report W u e.1 v (P // k // e.0) Q) (numbered (items_list ds))
   unfolding meaning
-  branches_report =
-      ap (map _) (branch_entries (meaning_step W u) ds)
-      ∙ map-map _ _ (entry (meaning_step W u)) (λ e. refl) _
+  branches_report = ap (map _) (branch_entries (meaning_step W u) ds) ∙ map-map _ _ (entry (meaning_step W u)) (λ e. refl) _
 
 module _ (W : World) (ms : Members) where
   -- ---- properties

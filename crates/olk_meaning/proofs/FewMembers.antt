@@ -1,5 +1,5 @@
 -- What is decided of an object of fewer than two members: nothing that two together decide.
-use Rattle.std.specs.Prelude.{◌≡◌, ◌<◌, true, false, Bool, ◌&&◌, ◌||◌, cond, List, [], ◌∷◌, codes, bytes_eq, length, Option, Some, None, is_some, is_none}
+use Rattle.std.specs.Prelude.{◌≡◌, ◌<◌, true, false, Bool, ◌&&◌, ◌||◌, cond, [], ◌∷◌, codes, bytes_eq, length, Option, Some, None, is_some, is_none}
 use Rattle.std.proofs.Common.{refl, sym, ◌∙◌, ap, ◌⊎◌, inl, inr, arith}
 use Rattle.std.proofs.Math.Bool.{or-false}
 use mathlib.Core.Bool.{true≢false}

@@ -14,7 +14,7 @@ use Rattle.olk_spec.specs.Meaning.{meaning, meaning_step, accepts, asks, report,
 use Rattle.olk_spec.specs.Accepts.{keyword_accepts}
 use Rattle.olk_spec.specs.Asks.{keyword_asks}
 use Rattle.olk_spec.specs.Reports.{keyword_report}
-use Rattle.olk_spec.specs.Costs.{cost, cost_step, ◌⊕◌, total_cost, one_place, keyword_cost}
+use Rattle.olk_spec.specs.Costs.{cost, cost_step, ◌⊕◌, total_cost, one_place}
 use Rattle.olk_spec.specs.Tree.{plain}
 use Rattle.olk_spec.specs.Trees.{keyword_child}
 use Rattle.olk_spec.proofs.Reading.{members_read}

@@ -55,9 +55,7 @@ module _ {X : Type 0} (step : Schema X → X) (ms : Members) where
 
   -- where `required` lists texts alone, nothing else is
   pub one_fused : (L : Path) → ListsTexts L (lookup_name (codes "required") (listed ms)) → fuses_one (read_members step ms) ≡ is_some (fused_one ms)
-  one_fused L h =
-      fuses_one_read ∙ by (is_some _) (refuses_others _)
-      _ _ h
+  one_fused L h = fuses_one_read ∙ by (is_some _) (refuses_others _) _ _ h
     where
       one : (o : Option Data) → ListsTexts L o → nat_eq (length (flat_map texts (option_to_list o))) 1 ≡ is_some (one_name o)
       one None k = refl

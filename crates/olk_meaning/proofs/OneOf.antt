@@ -2,7 +2,7 @@
 use Rattle.std.specs.Prelude.{◌≡◌, ℕ, ◌==◌, nat_lt, true, false, cond, Bool, List, [], ◌∷◌, ◌++◌, map, count_by, sum_by, codes, None}
 use Rattle.std.proofs.Common.{ap, ◌∙◌}
 use Rattle.serde_json.specs.Data.{Data, array, Members, Items}
-use Rattle.olk_spec.specs.Names.{Name, Path, ◌//◌, put_if}
+use Rattle.olk_spec.specs.Names.{Path, ◌//◌, put_if}
 use Rattle.olk_spec.specs.World.{World}
 use Rattle.olk_spec.specs.Vocabulary.{one_of}
 use Rattle.olk_spec.specs.Faults.{Fault, OneOfNotValid, OneOfMultipleValid, context}

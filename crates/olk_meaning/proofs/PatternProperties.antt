@@ -8,7 +8,7 @@ use Rattle.std.proofs.lemmas.List.Sums.{sum_by-cons, sum_by-append}
 use Rattle.std.proofs.lemmas.Grind.{flat_map-append}
 use Rattle.std.proofs.Math.Bool.{and-true}
 use Rattle.serde_json.specs.Data.{Data, string, Members}
-use Rattle.olk_spec.specs.Names.{Name, Path, ◌//◌, down, filter_once, put_if}
+use Rattle.olk_spec.specs.Names.{Name, Path, ◌//◌, filter_once, put_if}
 use Rattle.olk_spec.specs.World.{World, is_unfinished}
 use Rattle.olk_spec.specs.Vocabulary.{pattern_properties}
 use Rattle.olk_spec.specs.Faults.{Fault, Regex}
@@ -44,8 +44,7 @@ module _ (W : World) (u : Bool) (step : Schema Meaning → Meaning) (k : Name) (
   abbrev at_matched : Rows → List Asked
   at_matched es = flat_map asked_in (map (entry step) es)
 
-  at_matched_accept : (es : Rows) → list_all accepts_it (at_matched es) ≡ list_all
-      (λ e. list_all (λ x. (answer_for step e.1).accepts x.1) (matched_members W u e.0 v)) es
+  at_matched_accept : (es : Rows) → list_all accepts_it (at_matched es) ≡ list_all (λ e. list_all (λ x. (answer_for step e.1).accepts x.1) (matched_members W u e.0 v)) es
   at_matched_accept [] = refl
   at_matched_accept (e ∷ es) =
       list_all-append accepts_it (asked_in (entry step e)) (at_matched es)
@@ -165,16 +164,12 @@ module _ (W : World) (ms : Members) (d : Data) (u : Bool) (v : Data) where
       where
         names : flat_map (λ e. map (λ m. m.0) (filter_once (λ m. matches W u e.0 m.0) (members v))) (read to_meaning d).entries ≡ flat_map
             (λ e. map (λ x. x.0) (matched_members W u e.0 v)) (members d)
-        names =
-            ap (flat_map _) (entries_read to_meaning d)
-            ∙ named_by_entries W u to_meaning (codes "patternProperties") v (members d)
+        names = ap (flat_map _) (entries_read to_meaning d) ∙ named_by_entries W u to_meaning (codes "patternProperties") v (members d)
 
         trees : map (shows_it P Q)
             (asked_by (read to_meaning d).entries) ≡ flat_map
             (λ e. map (λ x. tree W u e.1 x.1 (P // codes "patternProperties" // e.0) (Q // x.0)) (matched_members W u e.0 v)) (members d)
-        trees =
-            ap (λ es. map (shows_it P Q) (asked_by es))
-            (entries_read to_meaning d) ∙ at_matched_show W u to_meaning (codes "patternProperties") v P Q (members d)
+        trees = ap (λ es. map (shows_it P Q) (asked_by es)) (entries_read to_meaning d) ∙ at_matched_show W u to_meaning (codes "patternProperties") v P Q (members d)
 
   -- ---- where `additionalProperties` stands for it
 

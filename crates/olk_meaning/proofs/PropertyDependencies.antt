@@ -1,8 +1,6 @@
 -- `propertyDependencies`, over the raw data of its entries.
 use Rattle.std.specs.Prelude.{◌≡◌, Bool, List, [], ◌∷◌, ◌++◌, map, sum_by, codes, option_to_list}
 use Rattle.std.specs.List.{list_all, flat_map}
-use Rattle.std.specs.Ordering.{nat_cmp}
-use Rattle.std.specs.Cmp.Lexicographic.{slice_cmp}
 use Rattle.std.specs.declared.cmp.Ordering.{Ordering}
 use Rattle.std.specs.declared.cmp.Ordering.TheVariants.{Less, Equal, Greater}
 use Rattle.std.proofs.Common.{refl, sym, ◌∙◌, ap}
@@ -14,7 +12,6 @@ use Rattle.serde_json.specs.Data.{Data, Members}
 use Rattle.olk_spec.specs.Names.{Name, Path, ◌//◌, down, lookup_name, first_if_equal}
 use Rattle.olk_spec.specs.World.{World}
 use Rattle.olk_spec.specs.Vocabulary.{property_dependencies}
-use Rattle.olk_spec.specs.Faults.{Fault}
 use Rattle.olk_spec.specs.Schemas.{Sub, Schema, Keywords, read, read_members, members, at, as_text}
 use Rattle.olk_spec.specs.Meanings.{Meaning, Asked, asked, applied}
 use Rattle.olk_spec.specs.Meaning.{accepts, asks, report, tree, meaning, meaning_step}
@@ -77,10 +74,7 @@ module _ (step : Schema Meaning → Meaning) (k : Name) (v : Data) where
   asked_by e = asked_at e _ ∙ ap (map (asked_of e.0)) (flat_map-flat_map as_text _ (at e.0 v))
 
   asked_read : (W : World) (u : Bool) (S : Keywords Meaning) (d : Data) → applied W u S k (read step d) v property_dependencies ≡ flat_map (λ e. map (asked_of e.0) (chosen v e)) (members d)
-  asked_read W u S d =
-      ap (flat_map _) (inner_read step d)
-      ∙ flat_map-map _
-      _ (inner_entry step) asked_by (members d)
+  asked_read W u S d = ap (flat_map _) (inner_read step d) ∙ flat_map-map _ _ (inner_entry step) asked_by (members d)
 
 -- ---- what it means
 
@@ -118,8 +112,7 @@ module _ (W : World) (ms : Members) (d : Data) (u : Bool) (v : Data) where
         append-nil _
         ∙ ap (flat_map _) chosen_asked
         ∙ flat_map-flat_map _ _ (members d)
-        ∙ (λ i. flat_map (λ e. flat_map-map (finds_it P Q)
-        _ (asked_here e.0) (λ c. refl) (chosen v e) i) (members d))
+        ∙ (λ i. flat_map (λ e. flat_map-map (finds_it P Q) _ (asked_here e.0) (λ c. refl) (chosen v e) i) (members d))
 
     pub property_dependencies_child : member_child W ms (codes "propertyDependencies", d) property_dependencies u v P Q ≡ plain (P // codes "propertyDependencies") Q
         (flat_map (λ e. map (λ c. tree W u c.1 v (P // codes "propertyDependencies" // e.0 // c.0) Q) (chosen v e)) (members d)) ∷ []
@@ -142,10 +135,7 @@ module _ {X : Type 0} (step : Schema X → X) (d : Data) (k : Name) where
   inner_places = flat_map (λ e. map (λ c. (place step c.1, k ∷ e.0 ∷ c.0 ∷ [])) (members e.1)) (members d)
 
   pub property_dependencies_places : (S : Keywords X) → read_places k S (read step d) property_dependencies ≡ inner_places
-  property_dependencies_places S =
-      ap (flat_map _) (inner_read step d)
-      ∙ flat_map-map _ _ (inner_entry step)
-      (λ e. map-map _ _ _ (λ c. refl) _) (members d)
+  property_dependencies_places S = ap (flat_map _) (inner_read step d) ∙ flat_map-map _ _ (inner_entry step) (λ e. map-map _ _ _ (λ c. refl) _) (members d)
 
 module _ (W : World) (d : Data) (k : Name) where
   pub inner_malformations : (P : Path) → flat_map (λ r. r.0.answer (down P r.1)) (inner_places (malformations_step W) d k) ≡ flat_map

@@ -1,5 +1,5 @@
 -- What the validator of `additionalProperties` stands for where it restricts other members.
-use Rattle.std.specs.Prelude.{◌≡◌, ◌&&◌, ◌||◌, Bool, true, false, cond, List, [], ◌∷◌, ◌++◌, map, Option, Some, None, is_some, option_to_list, codes, bytes_eq, IsPermutation}
+use Rattle.std.specs.Prelude.{◌≡◌, ◌&&◌, ◌||◌, Bool, true, false, cond, [], ◌∷◌, ◌++◌, map, Option, Some, None, is_some, option_to_list, codes, bytes_eq, IsPermutation}
 use Rattle.std.proofs.Common.{refl, sym, ◌∙◌, ap}
 use Rattle.std.proofs.lemmas.List.Sorted.{IsPermutation-refl, IsPermutation-trans, IsPermutation-append}
 use Rattle.std.proofs.Math.Bool.{and-false, or-false}

@@ -15,7 +15,6 @@ use Rattle.olk_spec.specs.Vocabulary.{keyword_named}
 use Rattle.olk_spec.specs.Faults.{Fault, ◌∼◌, like_through}
 use Rattle.olk_spec.specs.Schemas.{listed, members, at}
 use Rattle.olk_spec.specs.Malformed.{has_repeat}
-use Rattle.olk_spec.specs.Meanings.{matches}
 use Rattle.olk_spec.specs.Meaning.{accepts, asks, report, meaning_step}
 use Rattle.olk_spec.specs.Accepts.{missing}
 use Rattle.olk_spec.specs.Reports.{required_faults}
@@ -101,8 +100,7 @@ module _ (W : World) (ms : Members) (d : Data) (distinct : has_repeat (names_of 
       by (Some n) = and-true _ ∙ required_accepts W ms (array (item (string n) no_items)) u v
 
   -- each declared schema at the member of its name, and each member by the patterns and the rest
-  pub claims_accept : list_all row_accepts claimed ≡ ((all_declared_accept
-      && list_all others_accept_it (members v)) && none_missing)
+  pub claims_accept : list_all row_accepts claimed ≡ ((all_declared_accept && list_all others_accept_it (members v)) && none_missing)
   claims_accept =
       sym (list_all-permuted row_accepts _ claimed (claims_restriction ms restricted distinct d there))
       ∙ ap (λ b. row_accepts (codes "additionalProperties", d) && b) (list_all-append row_accepts (rows_at (codes "properties") ms) (rows_at (codes "patternProperties") ms ++ fused_rows ms))
@@ -149,9 +147,7 @@ module _ (W : World) (ms : Members) (d : Data) (distinct : has_repeat (names_of 
         by (Some d) = append-nil _ ∙ declared_find W ms d u v P Q
 
     pattern_rows_find : flat_map row_report (rows_at (codes "patternProperties") ms) ∼ flat_map (matching_report W u fs es P Q) (members v)
-    pattern_rows_find =
-        like_through (∼_same (by _))
-        (∼_exchanged _ _ es _)
+    pattern_rows_find = like_through (∼_same (by _)) (∼_exchanged _ _ es _)
       where
         by : (o : Option Data) → flat_map row_report (map (λ d. (codes "patternProperties", d)) (option_to_list o)) ≡ flat_map
             (λ e. flat_map (λ x. report W u e.1 x.1 (P // codes "patternProperties" // e.0) (Q // x.0)) (matched_members W u e.0 v)) (entries_in o)

@@ -63,9 +63,7 @@ module _ (W : World) (ms : Members) (u : Bool) (v : Data) (P Q : Path) where
 
   pattern_trees_read : (x : Name × Data) → pattern_trees W u S v P Q x ≡ matching_shown W u fs es P Q x
   unfolding meaning
-  pattern_trees_read x = ap (map _) (matching_read to_meaning ms W u x.0)
-      ∙ map-map _ _
-      (entry to_meaning) (λ e. refl) _
+  pattern_trees_read x = ap (map _) (matching_read to_meaning ms W u x.0) ∙ map-map _ _ (entry to_meaning) (λ e. refl) _
 
   other_names_read : additional_names W u S v P Q ≡ other_names W u fs es v
   other_names_read = ap (map _) (additional_read to_meaning ms W u v)
@@ -77,9 +75,7 @@ module _ (W : World) (ms : Members) (u : Bool) (v : Data) (P Q : Path) where
 
   -- a member is among the others if it is one
   others_there : Each (λ x. is_among x.0 (other_names W u fs es v) ≡ is_other W u fs es x.0) (members v)
-  others_there = Each-implies _ _
-      (λ x h. is_among-filter_once _ x.0 (members v) ∙ ap (λ b. is_other W u fs es x.0 && b) h ∙ and-true _)
-      _ (Each-among _)
+  others_there = Each-implies _ _ (λ x h. is_among-filter_once _ x.0 (members v) ∙ ap (λ b. is_other W u fs es x.0 && b) h ∙ and-true _) _ (Each-among _)
 
   -- ---- `required` inside
 

@@ -85,8 +85,7 @@ refused_closed o e = no_truth e
 pub fusing_is_free : (ms : Members) → is_some (fused_pair ms) ≡ true → is_restricted ms ≡ false
 fusing_is_free ms e =
     allowed_unrestricted _
-    (by (declares_few (lookup_name (codes "properties") (listed ms))) (is_none (lookup_name (codes "patternProperties") (listed ms)))
-    _ (two_names (lookup_name (codes "required") (listed ms))) e)
+    (by (declares_few (lookup_name (codes "properties") (listed ms))) (is_none (lookup_name (codes "patternProperties") (listed ms))) _ (two_names (lookup_name (codes "required") (listed ms))) e)
   where
     by : (a b c : Bool) (o : Option (Name × Name)) → is_some (cond (a && b && c) o None) ≡ true → c ≡ true
     by true true true o h = refl

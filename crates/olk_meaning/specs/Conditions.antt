@@ -1,5 +1,5 @@
 -- What a member of a schema object has to know of its neighbours: when `if` is read, and `then` and `else` with it; whether members that no pattern matches are held to anything, and then which are declared.
-use Rattle.std.specs.Prelude.{◌≡◌, ◌&&◌, ◌||◌, Bool, true, false, cond, List, [], ◌∷◌, codes, bytes_eq, Option, Some, None, is_some, option_map, String}
+use Rattle.std.specs.Prelude.{◌≡◌, ◌&&◌, ◌||◌, Bool, true, false, cond, List, [], ◌∷◌, codes, bytes_eq, Option, Some, None, is_some, String}
 use Rattle.std.specs.declared.alloc.Global.{Global}
 use Rattle.std.specs.BTreeMap.{BTreeMap}
 use Rattle.serde_json.specs.Data.{Data, Members}

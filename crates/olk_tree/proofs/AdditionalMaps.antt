@@ -132,8 +132,7 @@ module _ {X Y : Type 0} (h : Y → X) where
         member_means-map = λ j. both ((ap (declared_means p x) (same.at n) ∙ declared_means-map x _) j) (others_mean-map j)
 
       declared_mean-map : (v : Data) → every (λ e. every (p e.1.1) (at e.0 v)) S.declared ≡ every (λ e. every (q e.1.1) (at e.0 v)) T.declared
-      declared_mean-map v = ap (every (λ e. every (p e.1.1) (at e.0 v))) same.declared
-          ∙ every-map _ _ with_place (λ e i. every (λ w. means e.1.1 w i) (at e.0 v)) T.declared
+      declared_mean-map v = ap (every _) same.declared ∙ every-map _ _ with_place (λ e i. every (λ w. means e.1.1 w i) (at e.0 v)) T.declared
 
       pub additional_means-map : (v : Data) → additional_means answers costs p S v ≡ additional_means answers costs q T v
       additional_means-map v = λ j. cond (repeats v) (both (declared_mean-map v j) (every (λ x. others_mean-map x.0 x.1 j) (members v))) (every (λ x. member_means-map x.0 x.1 j) (members v))

@@ -1,8 +1,7 @@
 -- Which schemas the nodes stand for that `additionalProperties` asks of a member.
 use Rattle.std.specs.Prelude.{◌≡◌, ⊤, ℕ, ◌+◌, suc, Bool, true, false, not, cond, ◌&&◌, ◌||◌, List, [], ◌∷◌, ◌++◌, map, codes, bytes_eq, Option, Some, None, is_none, is_some, option_map, option_to_list, slice_get}
 use Rattle.std.specs.List.{enumerate_from, zip}
-use Rattle.std.specs.Ordering.{nat_cmp, is_eq}
-use Rattle.std.specs.Cmp.Lexicographic.{slice_cmp}
+use Rattle.std.specs.Ordering.{is_eq}
 use Rattle.std.specs.declared.cmp.Ordering.{Ordering}
 use Rattle.std.specs.declared.cmp.Ordering.TheVariants.{Less, Equal, Greater}
 use Rattle.std.proofs.Common.{refl, sym, ap, ◌∙◌, subst, arith}
@@ -26,11 +25,12 @@ use Rattle.olk_tree.specs.Questions.{Question}
 use Rattle.olk_tree.specs.Additional.{Sides, known_at, known_or, is_matched_by, matching_from, at_name, nodes_matching, is_additional, others_asked, nodes_asked}
 use Rattle.olk_tree.specs.Sides.{AnswersAs, EntriesAnswer, PatternsAnswer, RestAnswers, SidesStand}
 use Rattle.olk_tree.proofs.Answering.{AnswerAs, answer_append, both_empty}
+use Rattle.olk_meaning.proofs.Rows.{Rows}
 
 -- a look-up finds what is declared
-pub declared_found : (n : Name) (fs : List (Name × Data)) → is_declared_in fs n ≡ is_some (lookup_name n fs)
+pub declared_found : (n : Name) (fs : Rows) → is_declared_in fs n ≡ is_some (lookup_name n fs)
 declared_found n [] = refl
-declared_found n (e ∷ fs) = by (slice_cmp nat_cmp n e.0) (is_eq-slice_cmp n e.0) (declared_found n fs)
+declared_found n (e ∷ fs) = by _ (is_eq-slice_cmp n e.0) (declared_found n fs)
   where
     by : (c : Ordering) → is_eq c ≡ bytes_eq n e.0 → is_declared_in fs n ≡ is_some (lookup_name n fs) → (bytes_eq n e.0 || is_declared_in fs n) ≡ is_some (first_if_equal c e.1 (lookup_name n fs))
     by Less q h = ap (λ b. b || is_declared_in fs n) (sym q) ∙ h
@@ -52,19 +52,19 @@ module _ {K R N : Type 0} (o : Kit K R) (m : N → Data → Question) (r : N →
 
   module _ (L : Path) where
     -- a node with its place from k on, for the schema of these that stands there
-    abbrev FoundFrom : ℕ → List (Name × Data) → Option (ℕ × N) → Option Data → Type 0
+    abbrev FoundFrom : ℕ → Rows → Option (ℕ × N) → Option Data → Type 0
     FoundFrom k fs None None = ⊤
     FoundFrom k fs (Some f) (Some s) = AnswersAs o m r t f.1 s (L // n) × (i : ℕ) × (f.0 ≡ k + i) × (slice_get (map (λ e. e.0) fs) i ≡ Some n)
     FoundFrom k fs _ _ = ⊥
 
-    found_later : (k : ℕ) (e : Name × Data) (fs : List (Name × Data)) (a : Option (ℕ × N)) (b : Option Data) → FoundFrom (k + 1) fs a b → FoundFrom k (e ∷ fs) a b
+    found_later : (k : ℕ) (e : Name × Data) (fs : Rows) (a : Option (ℕ × N)) (b : Option Data) → FoundFrom (k + 1) fs a b → FoundFrom k (e ∷ fs) a b
     found_later k e fs None None g = tt
     found_later k e fs (Some f) (Some s) g = let p = g.2 in (g.0, suc g.1, omega (arith, p), g.3)
     found_later k e fs _ _ g = absurd g
 
-    found : (k : ℕ) (ns : List N) (fs : List (Name × Data)) → EntriesAnswer o m r t ns fs L → FoundFrom k fs (lookup_name n (zip (map (λ e. e.0) fs) (enumerate_from k ns))) (lookup_name n fs)
+    found : (k : ℕ) (ns : List N) (fs : Rows) → EntriesAnswer o m r t ns fs L → FoundFrom k fs (lookup_name n (zip (map (λ e. e.0) fs) (enumerate_from k ns))) (lookup_name n fs)
     found k [] [] h = tt
-    found k (x ∷ ns) (e ∷ fs) h = by (slice_cmp nat_cmp n e.0) (is_eq-slice_cmp n e.0) (found_later k e fs _ _ (found (k + 1) ns fs h.1))
+    found k (x ∷ ns) (e ∷ fs) h = by _ (is_eq-slice_cmp n e.0) (found_later k e fs _ _ (found (k + 1) ns fs h.1))
       where
         by : (c : Ordering) → is_eq c ≡ bytes_eq n e.0 → FoundFrom k (e ∷ fs) (lookup_name n (zip (map (λ e. e.0) fs) (enumerate_from (k + 1) ns))) (lookup_name n fs)
             → FoundFrom k (e ∷ fs) (first_if_equal c (k, x) (lookup_name n (zip (map (λ e. e.0) fs) (enumerate_from (k + 1) ns)))) (first_if_equal c e.1 (lookup_name n fs))
@@ -73,13 +73,13 @@ module _ {K R N : Type 0} (o : Kit K R) (m : N → Data → Question) (r : N →
         by Equal q g = let same = same_name n e.0 (sym q) in (subst (λ k. AnswersAs o m r t x e.1 (L // k)) (sym same) h.0, 0, omega arith, ap Some (sym same))
     found k _ _ h = absurd h
 
-    found_answers : (fs : List (Name × Data)) (a : Option (ℕ × N)) (b : Option Data) → FoundFrom 0 fs a b → AnswerAs o m r t (option_to_list (option_map (λ f. f.1) a))
+    found_answers : (fs : Rows) (a : Option (ℕ × N)) (b : Option Data) → FoundFrom 0 fs a b → AnswerAs o m r t (option_to_list (option_map (λ f. f.1) a))
         (map (λ s. (s, L // n)) (option_to_list b))
     found_answers fs None None g = tt
     found_answers fs (Some f) (Some s) g = (g.0, tt)
     found_answers fs _ _ g = absurd g
 
-    found_both : (fs : List (Name × Data)) (a : Option (ℕ × N)) (b : Option Data) → FoundFrom 0 fs a b → is_some a ≡ is_some b
+    found_both : (fs : Rows) (a : Option (ℕ × N)) (b : Option Data) → FoundFrom 0 fs a b → is_some a ≡ is_some b
     found_both fs None None g = refl
     found_both fs (Some f) (Some s) g = refl
     found_both fs _ _ g = absurd g
@@ -98,10 +98,10 @@ module _ {K R N : Type 0} (o : Kit K R) (m : N → Data → Question) (r : N →
     recalls_here i p ps h = h 0 i p.0 (omega arith) refl
 
     module _ (u : Bool) (L : Path) where
-      matching_answer : (i : ℕ) (ps : List (CompiledPattern R × N)) (es : List (Name × Data)) → PatternsAnswer o m r t ps es L → Recalls i ps
+      matching_answer : (i : ℕ) (ps : List (CompiledPattern R × N)) (es : Rows) → PatternsAnswer o m r t ps es L → Recalls i ps
           → AnswerAs o m r t (matching_from o.answers S a n u i ps) (map (λ e. (e.1, L // e.0)) (matching_at o.world u es n))
       matching_answer i [] [] h k = tt
-      matching_answer i (p ∷ ps) (e ∷ es) h k = by (is_matched_by o.answers S a n u i p.0) (matches o.world u e.0 n) same (matching_answer (i + 1) ps es h.2 (recalls_later i p ps k))
+      matching_answer i (p ∷ ps) (e ∷ es) h k = by _ _ same (matching_answer (i + 1) ps es h.2 (recalls_later i p ps k))
         where
           same : is_matched_by o.answers S a n u i p.0 ≡ matches o.world u e.0 n
           same = ap (reads_as u) (ap (λ s. known_or s (pattern_answers o.answers p.0 n)) (recalls_here i p ps k) ∙ recalled_is_said a _ ∙ h.0.answers n)
@@ -116,7 +116,7 @@ module _ {K R N : Type 0} (o : Kit K R) (m : N → Data → Question) (r : N →
 
 -- ---- all that is asked of a member with this name
 
-module _ {K R N : Type 0} {o : Kit K R} {m : _} {r : _} {t : _} {S : Sides R N} {fs es : List (Name × Data)} {d : Data} {P : Path} (h : SidesStand o m r t S fs es d P) where
+module _ {K R N : Type 0} {o : Kit K R} {m : _} {r : _} {t : _} {S : Sides R N} {fs es : Rows} {d : Data} {P : Path} (h : SidesStand o m r t S fs es d P) where
   -- the places of the three keywords
   abbrev at_properties : Path
   at_properties = P // codes "properties"

@@ -25,7 +25,7 @@ use Rattle.olk_tree.proofs.Members_met.{no_members, object_is}
 module _ {N : Type 0} (ms : Members) where
   nodes_met : (es : List (Name × N)) → map (λ d. d.node) (names_met es (listed ms)) ≡ due_nodes es (object ms)
   nodes_met [] = refl
-  nodes_met (e ∷ es) = by (lookup_name e.0 (listed ms)) (nodes_met es)
+  nodes_met (e ∷ es) = by _ (nodes_met es)
     where
       by : (o : Option Data) → map (λ d. d.node) (names_met es (listed ms)) ≡ due_nodes es (object ms)
           → map (λ d. d.node) (flat_map (λ v. declared_as e.0 e.1 v) (option_to_list o) ++ names_met es (listed ms)) ≡ map (λ f. f.1) (put_if (is_some o) e (filter_once (λ f. has f.0 (object ms)) es))
@@ -38,16 +38,16 @@ module _ {N : Type 0} (ms : Members) where
     nodes_of_walk = ap (map (λ d. d.node)) (ap left_of same ∙ whole) ∙ nodes_met es ∙ ap (due_nodes es) (sym is)
 
     pub every_due : (q : N → Question) → every (λ d. q d.node) (left_of w) ≡ every q (due_nodes es x)
-    every_due q = sym (every-map q (λ d. q d.node) (λ d. d.node) (λ d. refl) (left_of w)) ∙ ap (every q) nodes_of_walk
+    every_due q = sym (every-map q _ (λ d. d.node) (λ d. refl) (left_of w)) ∙ ap (every q) nodes_of_walk
 
     pub each_due : {B : Type 0} (f : N → List B) → flat_map (λ d. f d.node) (left_of w) ≡ flat_map f (due_nodes es x)
-    each_due f = sym (flat_map-map f (λ d. f d.node) (λ d. d.node) (λ d. refl) (left_of w)) ∙ ap (flat_map f) nodes_of_walk
+    each_due f = sym (flat_map-map f _ (λ d. d.node) (λ d. refl) (left_of w)) ∙ ap (flat_map f) nodes_of_walk
 
     pub first_due : (f : N → List Fault) → first_of (λ d. f d.node) (left_of w) ≡ first_of f (due_nodes es x)
-    first_due f = sym (first_of-map f (λ d. f d.node) (λ d. d.node) (λ d. refl) (left_of w)) ∙ ap (first_of f) nodes_of_walk
+    first_due f = sym (first_of-map f _ (λ d. d.node) (λ d. refl) (left_of w)) ∙ ap (first_of f) nodes_of_walk
 
     pub all_due : {B : Type 0} (f : N → B) → map (λ d. f d.node) (left_of w) ≡ map f (due_nodes es x)
-    all_due f = sym (map-map f (λ d. f d.node) (λ d. d.node) (λ d. refl) (left_of w)) ∙ ap (map f) nodes_of_walk
+    all_due f = sym (map-map f _ (λ d. d.node) (λ d. refl) (left_of w)) ∙ ap (map f) nodes_of_walk
 
 -- ---- the nodes at the texts that members are
 
@@ -64,7 +64,7 @@ module _ {N : Type 0} (m : SmallMap N) (d : Data) where
   at_text t e = sym (ap (flat_map (λ s. option_to_list (lookup_name s (named m)))) (text_is d t e) ∙ append-nil (option_to_list (lookup_name t (named m))))
 
   pub at_no_text : None ≡ as_str d → [] ≡ chosen_at m d
-  at_no_text e = sym (ap (flat_map (λ s. option_to_list (lookup_name s (named m)))) (no_text d e))
+  at_no_text e = sym (ap (flat_map _) (no_text d e))
 
 module _ {N : Type 0} where
   abbrev pub chosen : Declared (SmallMap N) → List N
@@ -73,7 +73,7 @@ module _ {N : Type 0} where
   module _ (ms : Members) where
     chosen_met : (es : List (Name × SmallMap N)) → flat_map chosen (names_met es (listed ms)) ≡ chosen_nodes es (object ms)
     chosen_met [] = refl
-    chosen_met (e ∷ es) = by (lookup_name e.0 (listed ms)) (chosen_met es)
+    chosen_met (e ∷ es) = by _ (chosen_met es)
       where
         by : (o : Option Data) → flat_map chosen (names_met es (listed ms)) ≡ chosen_nodes es (object ms)
             → flat_map chosen (flat_map (λ v. declared_as e.0 e.1 v) (option_to_list o) ++ names_met es (listed ms)) ≡ flat_map (chosen_at e.1) (option_to_list o) ++ chosen_nodes es (object ms)

@@ -25,7 +25,7 @@ module _ {X : Type 0} where
 
     pub first_of-flat_map : {Y : Type 0} (h : Y → List X) (ys : List Y) → first_of f (flat_map h ys) ≡ first_of (λ y. first_of f (h y)) ys
     first_of-flat_map h [] = refl
-    first_of-flat_map h (y ∷ ys) = first_of-append (h y) (flat_map h ys) ∙ ap (or_else (first_of f (h y))) (first_of-flat_map h ys)
+    first_of-flat_map h (y ∷ ys) = first_of-append (h y) (flat_map h ys) ∙ ap (or_else _) (first_of-flat_map h ys)
 
     pub flat_map-flat_map : {Y : Type 0} (h : Y → List X) (ys : List Y) → flat_map f (flat_map h ys) ≡ flat_map (λ y. flat_map f (h y)) ys
     flat_map-flat_map h [] = refl

@@ -1,6 +1,5 @@
 -- What has the form that is chosen for it.
-use Rattle.std.specs.Prelude.{◌≡◌, ℕ, suc, ◌+◌, ◌==◌, Bool, true, false, ◌||◌, List, [], ◌∷◌, length, slice_get, bytes_eq, Some}
-use Rattle.std.specs.Cmp.Lexicographic.{pointwise}
+use Rattle.std.specs.Prelude.{◌≡◌, ℕ, suc, ◌+◌, ◌==◌, Bool, true, false, ◌||◌, List, [], ◌∷◌, length, slice_get, Some}
 use Rattle.std.specs.List.{list_all, enumerate_from}
 use Rattle.std.proofs.Common.{refl, ◌∙◌, ap, subst, arith}
 use Rattle.std.proofs.lemmas.Bool.Decides.{Decides-eqb}
@@ -18,7 +17,7 @@ use Rattle.olk_tree.specs.Formed.{is_same_answer, has_answers, is_table_formed}
 module _ {X : Type 0} (f : ℕ × X → Bool) where
   placed_from : (k : ℕ) (xs : List X) → ((i : ℕ) (x : X) → slice_get xs i ≡ Some x → f (k + i, x) ≡ true) → list_all f (enumerate_from k xs) ≡ true
   placed_from k [] h = refl
-  placed_from k (x ∷ xs) h = and_from (f (k, x)) (list_all f (enumerate_from (k + 1) xs))
+  placed_from k (x ∷ xs) h = and_from (f (k, x)) _
       (subst (λ p. f (p, x) ≡ true) (omega arith) (h 0 x refl))
       (placed_from (k + 1) xs (λ i y at. subst (λ p. f (p, y) ≡ true) (omega arith) (h (suc i) y at)))
 
@@ -36,7 +35,7 @@ same_answer s t e = subst (λ x. is_same_answer s x ≡ true) e (itself s)
 
 module _ {R : Type 0} (answers : R → Name → Says) (names : List Name) (patterns : List (CompiledPattern R)) (t : Table) (declared : t.names ≡ names) (h : IsTableOf answers patterns t) where
   answers_there : has_answers answers names patterns t ≡ true
-  answers_there = all_placed (λ n. list_all (λ p. is_same_answer (table_says t n.0 p.0) (pattern_answers answers p.1 n.1)) (enumerate_from 0 patterns)) names
+  answers_there = all_placed _ names
       (λ i n at. all_placed (λ p. is_same_answer (table_says t i p.0) (pattern_answers answers p.1 n)) patterns
       (λ j p there. same_answer (table_says t i j) (pattern_answers answers p n) (h.says i j n p (ap (λ ns. slice_get ns i) declared ∙ at) there)))
 

@@ -75,6 +75,13 @@ worth_below (suc k) (b ∷ bs) h =
     let most : suc b * 256 ^ k ≤ 256 * 256 ^ k = mul-le-mul_right _ h.0 in
     grind (arith, pow-suc 256 k)
 
+-- a smaller first byte, and a smaller number
+worth_apart : (k : ℕ) {a b : ℕ} (m n : Name) → Bytes m → a < b → a * 256 ^ k + worth k m < b * 256 ^ k + worth k n
+worth_apart k {a} {b} m n h lt =
+    let more : suc a * 256 ^ k ≤ b * 256 ^ k = mul-le-mul_right _ lt in
+    let rest = worth_below k m h in
+    grind arith
+
 worth_rises : (k : ℕ) (m n : Name) → Bytes m → Bytes n → slice_cmp nat_cmp m n ≡ Less → worth k m ≤ worth k n
 worth_rises (suc k) (a ∷ m) [] g h e = absurd (greater_less e)
   where
@@ -85,10 +92,7 @@ worth_rises (suc k) (a ∷ m) (b ∷ n) g h e = by (worth_rises k m n g.1 h.1) _
     by : (slice_cmp nat_cmp m n ≡ Less → worth k m ≤ worth k n) → (o : Ordering) → nat_cmp a b ≡ o → ordering_then o (slice_cmp nat_cmp m n) ≡ Less
         → a * 256 ^ k + worth k m ≤ b * 256 ^ k + worth k n
     by rises Less p q =
-        let lt : a < b = grind (arith, nat_tests) in
-        let more : suc a * 256 ^ k ≤ b * 256 ^ k = mul-le-mul_right _ lt in
-        let rest = worth_below k m g.1 in
-        grind arith
+        let lt : a < b = grind (arith, nat_tests) in let apart = worth_apart k m n g.1 lt in omega arith
     by rises Equal p q =
         let same : a ≡ b = grind (arith, nat_tests) in
         let rest = rises q in
@@ -124,19 +128,14 @@ heads_rise es asc i j le lt = by (nat_lt i j) refl
     inside : j < length ks
     inside = omega (arith, length-map ks first_bytes, lt)
 
-    head_at : (k : ℕ) → k < length ks → get_or (map first_bytes ks) k 0 ≡ first_bytes (get_or ks k [])
-    head_at k l = get_or-map first_bytes ks k [] 0 l
+    head_at : (k : ℕ) → k < length ks → get_or (map first_bytes ks) k 0 ≡ worth 8 (get_or ks k [])
+    head_at k l = get_or-map first_bytes ks k [] 0 l ∙ worth_is _
 
     by : (b : Bool) → nat_lt i j ≡ b → get_or (map first_bytes ks) i 0 ≤ get_or (map first_bytes ks) j 0
     by true e =
         let less : i < j = grind (arith, nat_tests) in
         let last : j < length ks = inside in
-        let lower = head_at i (omega arith) in
-        let upper = head_at j inside in
-        let rises = worth_rises 8 (get_or ks i []) (get_or ks j []) (bytes_at es i) (bytes_at es j) (asc i j less inside) in
-        let at_lower = worth_is _ in
-        let at_upper = worth_is _ in
-        subst₂ (λ x y. x ≤ y) (sym (lower ∙ at_lower)) (sym (upper ∙ at_upper)) rises
+        subst₂ (λ x y. x ≤ y) (sym (head_at i (omega arith))) (sym (head_at j inside)) (worth_rises 8 _ (get_or ks j []) (bytes_at es i) (bytes_at es j) (asc i j less inside))
     by false e = let same : i ≡ j = grind (arith, nat_tests) in subst (λ k. get_or (map first_bytes ks) i 0 ≤ get_or (map first_bytes ks) k 0) same (omega arith)
 
 -- ---- the place of the first
@@ -175,13 +174,10 @@ module _ {N : Type 0} (es : List (Entry N)) {h : ℕ} where
 
 -- a bisection of all
 module _ {N : Type 0} (es : List (Entry N)) (h : ℕ) (rise : Rise (heads_of es)) where
-  at_place : (k : ℕ) (d : Entry N) → k < length es → (get_or es k d).name.head ≡ get_or (heads_of es) k 0
-  at_place k d lt = sym (get_or-map (λ e. e.name.head) es k d 0 lt)
-
   pub heads_parted : IsPartitionedBy (λ y. nat_lt y.name.head h) es
   heads_parted i j d le lt less =
-      let lower = at_place i d (omega arith) in
-      let upper = at_place j d lt in
+      let lower = head_at_place es i d (omega arith) in
+      let upper = head_at_place es j d lt in
       let up = rise i j le (omega (arith, as_long es, lt)) in
       grind (arith, nat_tests)
 
@@ -192,7 +188,7 @@ module _ {N : Type 0} (es : List (Entry N)) (h : ℕ) (rise : Rise (heads_of es)
         let lt : p < length es = omega (arith, as_long es, l) in
         let d = some_entry es p lt in
         let t = parted.1 p d (omega arith) lt in
-        let at = at_place p d lt in
+        let at = head_at_place es p d lt in
         grind (arith, nat_tests);
   }
     where
@@ -200,7 +196,7 @@ module _ {N : Type 0} (es : List (Entry N)) (h : ℕ) (rise : Rise (heads_of es)
       below i l =
           let lt : i < length es = omega (arith, l, le) in
           let d = some_entry es i lt in
-          let at = at_place i d lt in
+          let at = head_at_place es i d lt in
           let t = parted.0 i d (omega arith) (omega (arith, l)) in
           grind (arith, nat_tests)
 
@@ -248,20 +244,11 @@ worth_same zero (a ∷ m) (b ∷ n) g h long few e = absurd (omega (arith, few))
 worth_same (suc k) (a ∷ m) (b ∷ n) g h long few e = by (worth_same k m n g.1 h.1 (omega (arith, long)) (omega (arith, few))) _ _ refl refl
   where
     by : (worth k m ≡ worth k n → m ≡ n) → (x y : Bool) → nat_lt a b ≡ x → nat_lt b a ≡ y → (a ∷ m) ≡ (b ∷ n)
-    by rest true y p q =
-        let lt : a < b = grind (arith, nat_tests) in
-        let more : suc a * 256 ^ k ≤ b * 256 ^ k = mul-le-mul_right _ lt in
-        let below = worth_below k m g.1 in
-        absurd (grind arith)
-    by rest false true p q =
-        let lt : b < a = grind (arith, nat_tests) in
-        let more : suc b * 256 ^ k ≤ a * 256 ^ k = mul-le-mul_right _ lt in
-        let below = worth_below k n h.1 in
-        absurd (grind arith)
+    by rest true y p q = let lt : a < b = grind (arith, nat_tests) in let apart = worth_apart k m n g.1 lt in absurd (omega arith)
+    by rest false true p q = let lt : b < a = grind (arith, nat_tests) in let apart = worth_apart k n m h.1 lt in absurd (omega arith)
     by rest false false p q =
         let same : a ≡ b = grind (arith, nat_tests) in
-        let other : worth k m ≡ worth k n = grind arith in
-        let tail = rest other in
+        let tail = rest (grind arith) in
         λ i. same i ∷ tail i
 worth_same k _ _ g h long few e = absurd (omega (arith, long))
 

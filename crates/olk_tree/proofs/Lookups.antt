@@ -24,7 +24,7 @@ is_eq-turned Less = refl
 is_eq-turned _ = refl
 
 pub same_name : (k n : Name) → bytes_eq k n ≡ is_eq (slice_cmp nat_cmp n k)
-same_name k n = sym (is_eq-slice_cmp k n) ∙ ap is_eq (nat_list_cmp_total.antisymm k n) ∙ is_eq-turned (slice_cmp nat_cmp n k)
+same_name k n = sym (is_eq-slice_cmp k n) ∙ ap is_eq (nat_list_cmp_total.antisymm k n) ∙ is_eq-turned _
 
 module _ {A : Type 0} where
   position-here : (p : A → Bool) (x : A) (xs : List A) → p x ≡ true → position p (x ∷ xs) ≡ Some 0
@@ -56,7 +56,7 @@ module _ {X : Type 0} where
   pub zip_place : (ks : List Name) (xs : List X) (n : Name) → option_and_then (slice_get xs) (position (λ k. bytes_eq k n) ks) ≡ lookup_name n (zip ks xs)
   zip_place [] xs n = refl
   zip_place (k ∷ ks) [] n = nothing _
-  zip_place (k ∷ ks) (x ∷ xs) n = by (slice_cmp nat_cmp n k) (same_name k n) (zip_place ks xs n)
+  zip_place (k ∷ ks) (x ∷ xs) n = by _ (same_name k n) (zip_place ks xs n)
     where
       by : (o : Ordering) → bytes_eq k n ≡ is_eq o → option_and_then (slice_get xs) (position (λ k. bytes_eq k n) ks) ≡ lookup_name n (zip ks xs)
           → option_and_then (slice_get (x ∷ xs)) (position (λ k. bytes_eq k n) (k ∷ ks)) ≡ first_if_equal o x (lookup_name n (zip ks xs))
@@ -111,7 +111,7 @@ module _ {N : Type 0} (es : List (Entry N)) (n : Name) where
 
     pub node_placed : Some (p, here) ≡ lookup_name n (placed_entries (entries_are es))
     node_placed =
-        ap (option_map {U = ℕ × N} (λ x. (p, x))) node_at ∙ sym (numbered_get 0 (nodes_of es) p p (omega arith)) ∙ ap (option_and_then (slice_get (placed (nodes_of es)))) e
+        ap (option_map {U = ℕ × N} (λ x. (p, x))) node_at ∙ sym (numbered_get 0 (nodes_of es) p p (omega arith)) ∙ ap (option_and_then _) e
         ∙ zip_place (names_of es) (placed (nodes_of es)) n ∙ (λ i. lookup_name n (zip (keys_are es i) (placed (nodes_are es i))))
 
     pub key_read : text_of (get_or es p d) ≡ n

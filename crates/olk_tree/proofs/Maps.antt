@@ -23,7 +23,7 @@ use Rattle.olk_tree.specs.Maps.{named, keys_in, nodes_in}
 use Rattle.olk_tree.specs.Firsts.{or_else, first_of}
 use Rattle.olk_tree.specs.Dependencies.{due_nodes}
 use Rattle.olk_tree.specs.PropertyDependencies.{chosen_at, chosen_nodes}
-use Rattle.olk_tree.specs.PatternProperties.{matched_mean, matched_report, patterns_mean, patterns_report, patterns_first}
+use Rattle.olk_tree.specs.PatternProperties.{patterns_mean, patterns_report, patterns_first}
 use Rattle.olk_tree.specs.declared.map.SmallMap.{SmallMap}
 use Rattle.olk_tree.specs.Questions.{Question, always, both, either, conditional, every, some, how_many, exactly_one}
 
@@ -42,11 +42,11 @@ module _ {X Y : Type 0} (p : X → Question) (q : Y → Question) (h : Y → X) 
 
 pub count_by-map : {X Y : Type 0} (p : X → Bool) (q : Y → Bool) (h : Y → X) → ((y : Y) → p (h y) ≡ q y) → (ys : List Y) → count_by p (map h ys) ≡ count_by q ys
 count_by-map p q h e [] = refl
-count_by-map p q h e (y ∷ ys) = sum_by-cons (λ x. cond _ 1 0) (h y) (map h ys) ∙ (λ i. cond (e y i) 1 0 + count_by-map p q h e ys i) ∙ sym (sum_by-cons _ y ys)
+count_by-map p q h e (y ∷ ys) = sum_by-cons _ (h y) (map h ys) ∙ (λ i. cond (e y i) 1 0 + count_by-map p q h e ys i) ∙ sym (sum_by-cons _ y ys)
 
 module _ {X Y : Type 0} (p : X → Question) (q : Y → Question) (h : Y → X) (same : (y : Y) → p (h y) ≡ q y) where
   pub how_many-map : (u : Bool) (ys : List Y) → how_many p u (map h ys) ≡ how_many q u ys
-  how_many-map u ys = count_by-map (λ x. (p x).accepts u) (λ y. (q y).accepts u) h (λ y. ap (λ z. z.accepts u) (same y)) ys
+  how_many-map u ys = count_by-map _ _ h (λ y. ap (λ z. z.accepts u) (same y)) ys
 
   pub exactly_one-map : (ys : List Y) → exactly_one p (map h ys) ≡ exactly_one q ys
   exactly_one-map ys = λ i. record { accepts = λ u. how_many-map u ys i == 1; asks = (some-map p q h same ys i).asks }
@@ -78,7 +78,7 @@ module _ {X Y : Type 0} (h : Y → X) where
 
   pub lookup_name-map : (n : Name) (es : List (Name × Y)) → lookup_name n (map with_name es) ≡ option_map h (lookup_name n es)
   lookup_name-map n [] = refl
-  lookup_name-map n (e ∷ es) = found_at (slice_cmp nat_cmp n e.0) e.1 _ _ (lookup_name-map n es)
+  lookup_name-map n (e ∷ es) = found_at _ e.1 _ _ (lookup_name-map n es)
 
 -- ---- lists of lists
 
@@ -109,23 +109,22 @@ module _ {X Y : Type 0} (h : Y → X) (v : Data) where
 
   module _ (g : SmallMap Y → SmallMap X) (names : (m : SmallMap Y) → named (g m) ≡ map (with_name h) (named m)) where
     at_text-map : (m : SmallMap Y) (t : Name) → option_to_list (lookup_name t (named (g m))) ≡ map h (option_to_list (lookup_name t (named m)))
-    at_text-map m t = ap option_to_list (ap (lookup_name t) (names m) ∙ lookup_name-map h t (named m)) ∙ listed-map (lookup_name t (named m))
+    at_text-map m t = ap option_to_list (ap (lookup_name t) (names m) ∙ lookup_name-map h t (named m)) ∙ listed-map _
 
     at_texts-map : (m : SmallMap Y) (ts : List Name) → flat_map (λ t. option_to_list (lookup_name t (named (g m)))) ts ≡ map h (flat_map (λ t. option_to_list (lookup_name t (named m))) ts)
     at_texts-map m [] = refl
-    at_texts-map m (t ∷ ts) =
-        (λ i. at_text-map m t i ++ at_texts-map m ts i) ∙ sym (map-append h (option_to_list (lookup_name t (named m))) (flat_map (λ t. option_to_list (lookup_name t (named m))) ts))
+    at_texts-map m (t ∷ ts) = (λ i. at_text-map m t i ++ at_texts-map m ts i) ∙ sym (map-append h _ _)
 
     chosen_at-map : (m : SmallMap Y) (w : Data) → chosen_at (g m) w ≡ map h (chosen_at m w)
     chosen_at-map m w = at_texts-map m (as_text w)
 
     chosen_in-map : (m : SmallMap Y) (ws : List Data) → flat_map (chosen_at (g m)) ws ≡ map h (flat_map (chosen_at m) ws)
     chosen_in-map m [] = refl
-    chosen_in-map m (w ∷ ws) = (λ i. chosen_at-map m w i ++ chosen_in-map m ws i) ∙ sym (map-append h (chosen_at m w) (flat_map (chosen_at m) ws))
+    chosen_in-map m (w ∷ ws) = (λ i. chosen_at-map m w i ++ chosen_in-map m ws i) ∙ sym (map-append h (chosen_at m w) _)
 
     pub chosen_nodes-map : (es : List (Name × SmallMap Y)) → chosen_nodes (map (with_name g) es) v ≡ map h (chosen_nodes es v)
     chosen_nodes-map [] = refl
-    chosen_nodes-map (e ∷ es) = (λ i. chosen_in-map e.1 (at e.0 v) i ++ chosen_nodes-map es i) ∙ sym (map-append h (flat_map (chosen_at e.1) (at e.0 v)) (chosen_nodes es v))
+    chosen_nodes-map (e ∷ es) = (λ i. chosen_in-map e.1 (at e.0 v) i ++ chosen_nodes-map es i) ∙ sym (map-append h _ (chosen_nodes es v))
 
 -- ---- what is shown
 
@@ -145,7 +144,7 @@ module _ {X Y : Type 0} (t : X → Data → Path → Tree) (s : Y → Data → P
       λ i. result P Q (cond (is_object v) (Some (map (λ m. m.0) (filter_once (λ m. is_among m.0 (keys_in-map h es i)) (members v)))) None) false [] (at_members es (members v) i ++ more)
 
   pub branch_trees-map : (ys : List Y) → branch_trees t v Q (map h ys) ≡ branch_trees s v Q ys
-  branch_trees-map ys = map-map (λ x. t x v Q) (λ y. s y v Q) h (λ y. same y v Q) ys
+  branch_trees-map ys = map-map _ _ h (λ y. same y v Q) ys
 
   pub any_of_tree-map : (a : X → Bool) (b : Y → Bool) → ((y : Y) → a (h y) ≡ b y) → (P : Path) (ys : List Y) → any_of_tree t v Q a P (map h ys) ≡ any_of_tree s v Q b P ys
   any_of_tree-map a b e P ys =
@@ -167,15 +166,13 @@ module _ {R X Y : Type 0} (answers : R → Name → Says) (h : Y → X) where
     pub patterns_mean-map : (costs : R → Bool) (m : X → Data → Question) (k : Y → Data → Question) → ((y : Y) (w : Data) → m (h y) w ≡ k y w)
         → (es : List (CompiledPattern R × Y)) → patterns_mean answers costs m (map beside_pattern es) v ≡ patterns_mean answers costs k es v
     patterns_mean-map costs m k same es =
-        every-map (λ e. matched_mean answers costs m e.0 e.1 v) (λ e. matched_mean answers costs k e.0 e.1 v) beside_pattern
+        every-map _ _ beside_pattern
         (λ e i. every (λ x. conditional (match_question answers costs e.0 x.0) (same e.1 x.1 i) (always true)) (members v)) es
 
   module _ (u : Bool) (v : Data) where
     module _ (r : X → Bool → Data → Path → List Fault) (k : Y → Bool → Data → Path → List Fault) (same : (y : Y) (w : Data) (Q : Path) → r (h y) u w Q ≡ k y u w Q) (Q : Path) where
       pub patterns_report-map : (es : List (CompiledPattern R × Y)) → patterns_report answers r u (map beside_pattern es) v Q ≡ patterns_report answers k u es v Q
-      patterns_report-map es =
-          flat_map-map (λ e. matched_report answers r u e.0 e.1 v Q) (λ e. matched_report answers k u e.0 e.1 v Q) beside_pattern
-          (λ e i. flat_map (λ x. same e.1 x.1 (Q // x.0) i) (matched answers u e.0 v)) es
+      patterns_report-map es = flat_map-map _ _ beside_pattern (λ e i. flat_map (λ x. same e.1 x.1 (Q // x.0) i) (matched answers u e.0 v)) es
 
       pub patterns_first-map : (es : List (CompiledPattern R × Y)) → patterns_first answers r u (map beside_pattern es) v Q ≡ patterns_first answers k u es v Q
       patterns_first-map es =

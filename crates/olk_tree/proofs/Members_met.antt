@@ -36,7 +36,7 @@ module _ {N : Type 0} (ms : Members) where
     means_at (e ∷ es) = λ i. both (mean_at e (lookup_name e.0 (listed ms)) i) (means_at es i)
 
     pub means_of_met : (es : List (Name × N)) → every (λ d. m d.node d.value) (names_met es (listed ms)) ≡ properties_mean m es (object ms)
-    means_of_met es = every-flat_map (λ d. m d.node d.value) (λ e. met_at e (lookup_name e.0 (listed ms))) es ∙ means_at es
+    means_of_met es = every-flat_map _ _ es ∙ means_at es
 
     -- the same member by member
     module _ (es : List (Name × N)) where
@@ -45,13 +45,11 @@ module _ {N : Type 0} (ms : Members) where
       mean_if_declared x (Some n) = refl
 
       mean_each : (xs : List (Name × Data)) → every (λ x. every (λ n. m n x.1) (option_to_list (lookup_name x.0 es))) xs ≡ every (λ d. m d.node d.value) (members_declared es xs)
-      mean_each xs =
-          (λ i. every (λ x. mean_if_declared x (lookup_name x.0 es) i) xs)
-          ∙ sym (every-flat_map (λ d. m d.node d.value) (λ x. flat_map (λ n. declared_as x.0 n x.1) (option_to_list (lookup_name x.0 es))) xs)
+      mean_each xs = (λ i. every (λ x. mean_if_declared x (lookup_name x.0 es) i) xs) ∙ sym (every-flat_map _ _ xs)
 
       pub means_of_members : names_met es (listed ms) ≡ members_declared es (listed ms) → every (λ x. every (λ n. m n x.1) (option_to_list (lookup_name x.0 es)))
           (listed ms) ≡ properties_mean m es (object ms)
-      means_of_members agree = mean_each (listed ms) ∙ ap (every (λ d. m d.node d.value)) (sym agree) ∙ means_of_met es
+      means_of_members agree = mean_each (listed ms) ∙ ap (every _) (sym agree) ∙ means_of_met es
 
   module _ (f : N → Bool → Data → Path → List Fault) (u : Bool) (Q : Path) where
     abbrev pub fault_at : Declared N → List Fault
@@ -66,7 +64,7 @@ module _ {N : Type 0} (ms : Members) where
     reports_at (e ∷ es) = λ i. report_at e (lookup_name e.0 (listed ms)) i ++ reports_at es i
 
     pub report_of_met : (es : List (Name × N)) → flat_map fault_at (names_met es (listed ms)) ≡ properties_report f u es (object ms) Q
-    report_of_met es = flat_map-flat_map fault_at (λ e. met_at e (lookup_name e.0 (listed ms))) es ∙ reports_at es
+    report_of_met es = flat_map-flat_map fault_at _ es ∙ reports_at es
 
     first_at : (e : Name × N) (o : Option Data) → first_of fault_at (met_at e o) ≡ first_of (λ x. f e.1 u x (Q // e.0)) (option_to_list o)
     first_at e None = refl
@@ -77,7 +75,7 @@ module _ {N : Type 0} (ms : Members) where
     firsts_at (e ∷ es) = λ i. or_else (first_at e (lookup_name e.0 (listed ms)) i) (firsts_at es i)
 
     pub first_of_met : (es : List (Name × N)) → first_of fault_at (names_met es (listed ms)) ≡ properties_first f u es (object ms) Q
-    first_of_met es = first_of-flat_map fault_at (λ e. met_at e (lookup_name e.0 (listed ms))) es ∙ firsts_at es
+    first_of_met es = first_of-flat_map fault_at _ es ∙ firsts_at es
 
   -- ---- over what a walk has left at its start
 

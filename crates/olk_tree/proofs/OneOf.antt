@@ -30,7 +30,7 @@ module _ (n : ℕ) where
 
 pub count_those : {X : Type 0} (p : X → Bool) (xs : List X) → count_by p xs ≡ length (filter_once p xs)
 count_those p [] = refl
-count_those p (x ∷ xs) = sum_by-cons (λ y. cond _ 1 0) x xs ∙ ap (λ n. cond (p x) 1 0 + n) (count_those p xs) ∙ by (p x)
+count_those p (x ∷ xs) = sum_by-cons _ x xs ∙ ap (λ n. cond (p x) 1 0 + n) (count_those p xs) ∙ by (p x)
   where
     by : (b : Bool) → cond b 1 0 + length (filter_once p xs) ≡ length (put_if b x (filter_once p xs))
     by true = omega arith

@@ -7,8 +7,8 @@ use Rattle.olk_spec.specs.Names.{Name, Path, ◌//◌, filter_once, put_if}
 use Rattle.olk_spec.specs.World.{Says}
 use Rattle.olk_spec.specs.Faults.{Fault}
 use Rattle.olk_base.specs.declared.pattern.CompiledPattern.{CompiledPattern}
-use Rattle.olk_tree.specs.Questions.{Question, always, conditional, every}
-use Rattle.olk_tree.specs.Matched.{is_match, matching, match_question}
+use Rattle.olk_tree.specs.Questions.{Question, always, every}
+use Rattle.olk_tree.specs.Matched.{is_match}
 use Rattle.olk_tree.specs.Firsts.{or_else, first_of}
 use Rattle.olk_tree.specs.PatternProperties.{matched_mean, patterns_mean, matched_report, patterns_report, matched_first, patterns_first}
 use Rattle.olk_tree.proofs.Questions.{every-nothing}
@@ -39,7 +39,7 @@ module _ {X : Type 0} (t : X → Bool) where
 module _ {R N : Type 0} (answers : R → Name → Says) (v : Data) (none : None ≡ as_object v) where
   module _ (costs : R → Bool) (m : N → Data → Question) where
     pub matched_nothing : (p : CompiledPattern R) (n : N) → matched_mean answers costs m p n v ≡ always true
-    matched_nothing p n = ap (every (λ (x : Name × Data). conditional (match_question answers costs p x.0) (m n x.1) (always true))) (no_members v none)
+    matched_nothing p n = ap (every _) (no_members v none)
 
     pub patterns_nothing : (es : List (CompiledPattern R × N)) → patterns_mean answers costs m es v ≡ always true
     patterns_nothing es = (λ i. every (λ e. matched_nothing e.0 e.1 i) es) ∙ every-nothing es
@@ -55,4 +55,4 @@ module _ {R N : Type 0} (answers : R → Name → Says) (v : Data) (none : None 
     matched_first_nothing p n = λ i. first_of (λ (x : Name × Data). r n u x.1 (Q // x.0)) (filter_once (λ x. is_match answers u p x.0) (no_members v none i))
 
     pub patterns_first_nothing : (es : List (CompiledPattern R × N)) → patterns_first answers r u es v Q ≡ []
-    patterns_first_nothing es = ap (first_of (λ (x : Name × Data). first_of (λ e. r e.1 u x.1 (Q // x.0)) (matching answers u es x.0))) (no_members v none)
+    patterns_first_nothing es = ap (first_of _) (no_members v none)

@@ -20,7 +20,7 @@ both_around m n p = alike (λ u. and_assoc (m.accepts u) (n.accepts u) (p.accept
 module _ {X : Type 0} where
   pub every-nothing : (xs : List X) → every (λ x. always true) xs ≡ always true
   every-nothing [] = refl
-  every-nothing (x ∷ xs) = both_first (every (λ y. always true) xs) ∙ every-nothing xs
+  every-nothing (x ∷ xs) = both_first _ ∙ every-nothing xs
 
   module _ (g : X → Question) where
     pub every-append : (xs ys : List X) → every g (xs ++ ys) ≡ both (every g xs) (every g ys)
@@ -29,4 +29,4 @@ module _ {X : Type 0} where
 
     pub every-flat_map : {Y : Type 0} (h : Y → List X) (ys : List Y) → every g (flat_map h ys) ≡ every (λ y. every g (h y)) ys
     every-flat_map h [] = refl
-    every-flat_map h (y ∷ ys) = every-append (h y) (flat_map h ys) ∙ ap (both (every g (h y))) (every-flat_map h ys)
+    every-flat_map h (y ∷ ys) = every-append (h y) (flat_map h ys) ∙ ap (both _) (every-flat_map h ys)

@@ -19,12 +19,13 @@ use Rattle.olk_spec.proofs.Maps.{flat_map-map, map-map}
 use Rattle.olk_spec.proofs.Order.{∼_append, ∼_same, ∼_flat_map_any}
 use Rattle.olk_base.specs.Kit.{Kit}
 use Rattle.olk_meaning.specs.AdditionalProperties.{declared_at, matching_at, is_other, other_members, declared_accepts, matching_accept, each_accepts, declared_report, matching_report, rest_report, each_report, others_report, each_shown, names_matched, other_names, declared_beside, patterns_beside, declares_beside, matches_beside, required_child, restriction_shown}
-use Rattle.olk_tree.specs.Questions.{Question, every}
+use Rattle.olk_tree.specs.Questions.{every}
 use Rattle.olk_tree.specs.Additional.{Sides, nodes_asked, is_unexpected, unexpected, member_means, means_in_turn, member_report, report_in_turn, additional_names, matched_names, additional_tree}
 use Rattle.olk_tree.specs.AdditionalAgreement.{member_accepted}
 use Rattle.olk_tree.specs.Sides.{RestAnswers, SidesStand}
 use Rattle.olk_tree.proofs.Answering.{all_accept, all_find, all_show, same_marks}
 use Rattle.olk_tree.proofs.AskedSchemas.{is_rest, is_no_rest, nodes_matching_answer, is_additional_other, pattern_schema, declared_schema, declared_schemas, matching_schemas, rest_schemas, other_schemas, asked_schemas, asked_answer}
+use Rattle.olk_meaning.proofs.Rows.{Rows}
 
 false_refuses : (W : World) (u : Bool) (d v : Data) → is_truth false d ≡ true → accepts W u d v ≡ false
 unfolding meaning
@@ -35,7 +36,7 @@ and_regroup : (a b c e : Bool) → ((a && (b && c)) && e) ≡ (a && b && (c && e
 and_regroup true true c e = refl
 and_regroup _ _ c e = refl
 
-module _ {K R N : Type 0} {o : Kit K R} {m : _} {r : _} {t : _} {S : Sides R N} {fs es : List (Name × Data)} {d : Data} {P : Path} (h : SidesStand o m r t S fs es d P) (u : Bool) where
+module _ {K R N : Type 0} {o : Kit K R} {m : _} {r : _} {t : _} {S : Sides R N} {fs es : Rows} {d : Data} {P : Path} (h : SidesStand o m r t S fs es d P) (u : Bool) where
   abbrev at_rest : Path
   at_rest = P // codes "additionalProperties"
 
@@ -43,7 +44,7 @@ module _ {K R N : Type 0} {o : Kit K R} {m : _} {r : _} {t : _} {S : Sides R N} 
 
   pub rest_accepted : (n : Name) (v : Data) → (list_all (λ s. accepts o.world u s.0 v) (rest_schemas h n u) && not (is_unexpected o.answers S u n)) ≡
       (not (is_other o.world u fs es n) || accepts o.world u d v)
-  rest_accepted n v = (λ i. list_all accepted (rest_schemas h n u) && not (is_none S.rest && is_additional_other h n u i)) ∙ by S.rest h.rest (is_other o.world u fs es n)
+  rest_accepted n v = (λ i. list_all accepted (rest_schemas h n u) && not (is_none S.rest && is_additional_other h n u i)) ∙ by S.rest h.rest _
     where
       accepted : Data × Path → Bool
       accepted s = accepts o.world u s.0 v
@@ -71,7 +72,7 @@ module _ {K R N : Type 0} {o : Kit K R} {m : _} {r : _} {t : _} {S : Sides R N} 
 
     accepted_by_part : list_all accept (asked_schemas h x.0 u) ≡
         (declared_accepts o.world u fs es x && (matching_accept o.world u fs es x && list_all accept (rest_schemas h x.0 u)))
-    accepted_by_part = list_all-append accept (declared_schemas h x.0 u) _ ∙ (λ i. list_all-map accept (declared_schema h x.0) (declared_at fs x.0) i && accepted_by_others i)
+    accepted_by_part = list_all-append accept _ _ ∙ (λ i. list_all-map accept (declared_schema h x.0) (declared_at fs x.0) i && accepted_by_others i)
 
     accepted_each : (member_means o.answers o.costs m S x.0 x.1).accepts u ≡ each_accepts o.world u fs es d x
     accepted_each = member_accepted o.answers o.costs m S x.0 x.1 u
@@ -83,7 +84,7 @@ module _ {K R N : Type 0} {o : Kit K R} {m : _} {r : _} {t : _} {S : Sides R N} 
   pub restricted_accepts : (v : Data) → (means_in_turn o.answers o.costs m S v).accepts u ≡ list_all (each_accepts o.world u fs es d) (members v)
   restricted_accepts v = along _
     where
-      along : (xs : List (Name × Data)) → (every (λ x. member_means o.answers o.costs m S x.0 x.1) xs).accepts u ≡ list_all (each_accepts o.world u fs es d) xs
+      along : (xs : Rows) → (every (λ x. member_means o.answers o.costs m S x.0 x.1) xs).accepts u ≡ list_all (each_accepts o.world u fs es d) xs
       along [] = refl
       along (x ∷ xs) = λ i. accepted_each x i && along xs i
 
@@ -100,7 +101,7 @@ module _ {K R N : Type 0} {o : Kit K R} {m : _} {r : _} {t : _} {S : Sides R N} 
   pub restricted_unexpected : (v : Data) → unexpected o.answers S u v ≡ cond (is_truth false d) (other_members o.world u fs es v) []
   restricted_unexpected v = (λ i. filter_once (λ x. is_no_rest h i && is_additional_other h x.0 u i) (members v)) ∙ by (is_truth false d)
     where
-      none : (xs : List (Name × Data)) → filter_once (λ x. false) xs ≡ []
+      none : (xs : Rows) → filter_once (λ x. false) xs ≡ []
       none [] = refl
       none (x ∷ xs) = none xs
 
@@ -143,8 +144,7 @@ module _ {K R N : Type 0} {o : Kit K R} {m : _} {r : _} {t : _} {S : Sides R N} 
   -- it finds what is found in each member, and the members that are not expected
   pub restricted_finds : (named : Bool) (v : Data) (Q : Path) → report_in_turn o.answers S u v Q named at_rest r ∼ flat_map
       (each_report o.world u fs es P Q d) (members v) ++ others_report o.world u fs es P Q named d v
-  restricted_finds named v Q =
-      ∼_append (∼_flat_map_any _ _ (λ x. found_each x Q v) (members v)) (∼_same (faults_of_others named v Q))
+  restricted_finds named v Q = ∼_append (∼_flat_map_any _ _ (λ x. found_each x Q v) (members v)) (∼_same (faults_of_others named v Q))
 
   -- ---- what it shows
 

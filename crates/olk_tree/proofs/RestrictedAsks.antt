@@ -9,20 +9,21 @@ use Rattle.olk_spec.specs.Names.{Name, Text, Path, ◌//◌, put_if, is_empty}
 use Rattle.olk_spec.specs.World.{World, Says, matched, unmatched, is_unfinished}
 use Rattle.olk_spec.specs.Faults.{Fault}
 use Rattle.olk_spec.specs.Schemas.{is_object, members}
-use Rattle.olk_spec.specs.Literals.{Literal, literal, passes}
+use Rattle.olk_spec.specs.Literals.{Literal, literal}
 use Rattle.olk_spec.specs.Meanings.{literal_says, pattern_says, is_open}
 use Rattle.olk_spec.specs.Meaning.{asks}
 use Rattle.olk_spec.specs.Tree.{Tree}
 use Rattle.olk_base.specs.Kit.{Kit}
 use Rattle.olk_base.specs.Compiled.{pattern_answers, pattern_costs}
 use Rattle.olk_base.specs.declared.pattern.CompiledPattern.{CompiledPattern}
-use Rattle.olk_meaning.specs.AdditionalProperties.{declared_at, matching_at, is_other, open_among, patterns_asked, declared_asks, matching_asks, rest_asks, each_asks}
+use Rattle.olk_meaning.specs.AdditionalProperties.{declared_at, matching_at, open_among, patterns_asked, declared_asks, matching_asks, rest_asks, each_asks}
 use Rattle.olk_tree.specs.Questions.{Question, said_to, every}
-use Rattle.olk_tree.specs.Additional.{Sides, known_at, known_or_asked, is_matched_by, matching_from, at_name, nodes_asked, rest_means, patterns_mean_from, member_means_at, member_means, means_in_turn}
+use Rattle.olk_tree.specs.Additional.{Sides, known_at, known_or_asked, matching_from, at_name, nodes_asked, rest_means, patterns_mean_from, member_means_at, member_means, means_in_turn}
 use Rattle.olk_tree.specs.AdditionalAgreement.{match_is_said}
 use Rattle.olk_tree.specs.Sides.{PatternsAnswer, SidesStand}
 use Rattle.olk_tree.proofs.Answering.{more_within, all_ask}
 use Rattle.olk_tree.proofs.AskedSchemas.{Recalls, recalls_here, recalls_later, recalls, is_declared, declared_schema, declared_schemas, matching_schemas, rest_schemas, other_schemas, asked_schemas, asked_answer}
+use Rattle.olk_meaning.proofs.Rows.{Rows}
 
 -- ---- what a member asks is what its nodes ask, and the matchers that are asked for its name
 
@@ -106,7 +107,7 @@ open_counts W text n = by (literal text) _
 
 module _ {K R N : Type 0} (o : Kit K R) (m : N → Data → Question) (r : N → Bool → Data → Path → List Fault) (t : N → Bool → Data → Path → Tree) (n : Name) (u : Bool) (S : Sides R N) (L : Path) where
   -- of a name that isn't declared, each
-  all_asked : (i : ℕ) (ps : List (CompiledPattern R × N)) (es : List (Name × Data)) → PatternsAnswer o m r t ps es L → matchers_asked o.answers o.costs S n u None i ps ≡ length (open_among o.world es)
+  all_asked : (i : ℕ) (ps : List (CompiledPattern R × N)) (es : Rows) → PatternsAnswer o m r t ps es L → matchers_asked o.answers o.costs S n u None i ps ≡ length (open_among o.world es)
   all_asked i [] [] h = refl
   all_asked i (p ∷ ps) (e ∷ es) h =
       (λ j. cond (h.0.costs j || is_unfinished (h.0.answers n j)) 1 0 + all_asked (i + 1) ps es h.2 j) ∙ ap (λ c. c + length (open_among o.world es))
@@ -121,7 +122,7 @@ module _ {K R N : Type 0} (o : Kit K R) (m : N → Data → Question) (r : N →
   is_left text = is_unfinished (o.world.says text n)
 
   -- of a declared one, those that left it unfinished
-  unfinished_asked : (f : ℕ × N) (i : ℕ) (ps : List (CompiledPattern R × N)) (es : List (Name × Data)) → PatternsAnswer o m r t ps es L
+  unfinished_asked : (f : ℕ × N) (i : ℕ) (ps : List (CompiledPattern R × N)) (es : Rows) → PatternsAnswer o m r t ps es L
       → Recalls o m r t n S (Some f) i ps → matchers_asked o.answers o.costs S n u (Some f) i ps ≡ count_by is_left (open_among o.world es)
   unfinished_asked f i [] [] h k = refl
   unfinished_asked f i (p ∷ ps) (e ∷ es) h k =
@@ -131,20 +132,20 @@ module _ {K R N : Type 0} (o : Kit K R) (m : N → Data → Question) (r : N →
       ∙ by (is_open o.world e.0)
     where
       by : (b : Bool) → cond b (cond (is_left e.0) 1 0) 0 + count_by is_left (open_among o.world es) ≡ count_by is_left (put_if b e.0 (open_among o.world es))
-      by true = sym (sum_by-cons (λ x. cond (is_left x) 1 0) e.0 (open_among o.world es))
+      by true = sym (sum_by-cons _ e.0 (open_among o.world es))
       by false = omega arith
   unfinished_asked f i _ _ h k = absurd h
 
-  matchers_counted : (a : Option (ℕ × N)) (ps : List (CompiledPattern R × N)) (es : List (Name × Data)) → PatternsAnswer o m r t ps es L
+  matchers_counted : (a : Option (ℕ × N)) (ps : List (CompiledPattern R × N)) (es : Rows) → PatternsAnswer o m r t ps es L
       → Recalls o m r t n S a 0 ps → matchers_asked o.answers o.costs S n u a 0 ps ≡ cond (is_some a) (count_by is_left (open_among o.world es)) (length (open_among o.world es))
   matchers_counted None ps es h k = all_asked 0 ps es h
   matchers_counted (Some f) ps es h k = unfinished_asked f 0 ps es h k
 
 -- ---- all
 
-module _ {K R N : Type 0} {o : Kit K R} {m : _} {r : _} {t : _} {S : Sides R N} {fs es : List (Name × Data)} {d : Data} {P : Path} (h : SidesStand o m r t S fs es d P) (u : Bool) where
+module _ {K R N : Type 0} {o : Kit K R} {m : _} {r : _} {t : _} {S : Sides R N} {fs es : Rows} {d : Data} {P : Path} (h : SidesStand o m r t S fs es d P) (u : Bool) where
   pub matchers_for : (n : Name) → matchers_asked o.answers o.costs S n u (at_name S n) 0 S.patterns ≡ patterns_asked o.world fs es n
-  matchers_for n = matchers_counted o m r t n u S (P // codes "patternProperties") (at_name S n) S.patterns es h.patterns (recalls h n)
+  matchers_for n = matchers_counted o m r t n u S _ (at_name S n) S.patterns es h.patterns (recalls h n)
       ∙ ap {B = ℕ} (λ b. cond b (count_by (λ x. is_unfinished (o.world.says x n)) (open_among o.world es)) (length (open_among o.world es))) (is_declared h n)
 
   module _ (x : Name × Data) where
@@ -155,12 +156,11 @@ module _ {K R N : Type 0} {o : Kit K R} {m : _} {r : _} {t : _} {S : Sides R N} 
     asked_by_others =
         sum_by-append asking (matching_schemas h x.0 u) _ ∙ ap (λ k. k + sum_by asking (rest_schemas h x.0 u)) (sum_by-map asking _ (matching_at o.world u es x.0))
 
-    asked_by_part : sum_by asking (asked_schemas h x.0 u) ≡ declared_asks o.world u fs es x +
-        (matching_asks o.world u fs es x + sum_by asking (rest_schemas h x.0 u))
+    asked_by_part : sum_by asking (asked_schemas h x.0 u) ≡ declared_asks o.world u fs es x + (matching_asks o.world u fs es x + sum_by asking (rest_schemas h x.0 u))
     asked_by_part = sum_by-append asking (declared_schemas h x.0 u) _ ∙ (λ i. sum_by-map asking (declared_schema h x.0) (declared_at fs x.0) i + asked_by_others i)
 
     pub rest_within : sum_by asking (rest_schemas h x.0 u) ≤ rest_asks o.world u fs es d x
-    rest_within = by (is_object d) (is_other o.world u fs es x.0)
+    rest_within = by (is_object d) _
       where
         by : (a b : Bool) → sum_by asking (put_if (a && b) (d, P // codes "additionalProperties") []) ≤ cond b (asks o.world u d x.1) 0
         by true true = omega arith
@@ -181,6 +181,6 @@ module _ {K R N : Type 0} {o : Kit K R} {m : _} {r : _} {t : _} {S : Sides R N} 
   pub restricted_asks : (v : Data) → (means_in_turn o.answers o.costs m S v).asks u ≤ sum_by (each_asks o.world u fs es d) (members v)
   restricted_asks v = along (members v)
     where
-      along : (xs : List (Name × Data)) → (every (λ x. member_means o.answers o.costs m S x.0 x.1) xs).asks u ≤ sum_by (each_asks o.world u fs es d) xs
+      along : (xs : Rows) → (every (λ x. member_means o.answers o.costs m S x.0 x.1) xs).asks u ≤ sum_by (each_asks o.world u fs es d) xs
       along [] = omega arith
       along (x ∷ xs) = more_within _ _ _ _ _ (asked_each x) (along xs) (sum_by-cons (each_asks o.world u fs es d) x xs)

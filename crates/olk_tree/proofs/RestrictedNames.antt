@@ -23,6 +23,7 @@ use Rattle.olk_tree.proofs.Answering.{more_within, all_accept, all_ask, all_find
 use Rattle.olk_tree.proofs.AskedSchemas.{rest_schemas, others_answer}
 use Rattle.olk_tree.proofs.Restricted.{rest_accepted, accepted_by_others, faults_of_others, found_by_others}
 use Rattle.olk_tree.proofs.RestrictedAsks.{patterns_ask, asked_by_others, rest_within, matchers_for}
+use Rattle.olk_meaning.proofs.Rows.{Rows}
 
 -- ---- what is declared
 
@@ -39,33 +40,36 @@ module _ {K R N : Type 0} (o : Kit K R) (m : N → Data → Question) (r : N →
 
   -- nodes under their names, with their places from k on
   module _ (L : Path) (u : Bool) (v : Data) where
-    declared_accept : (k : ℕ) (ns : List N) (fs : List (Name × Data)) → EntriesAnswer o m r t ns fs L
+    declared_accept : (k : ℕ) (ns : List N) (fs : Rows) → EntriesAnswer o m r t ns fs L
         → (every (λ e. every (m e.1.1) (at e.0 v)) (zip (map (λ e. e.0) fs) (enumerate_from k ns))).accepts u ≡ list_all (λ e. list_all (accepts o.world u e.1) (at e.0 v)) fs
     declared_accept k [] [] h = refl
     declared_accept k (n ∷ ns) (e ∷ fs) h = λ i. values_accept n e.1 (L // e.0) h.0 u (at e.0 v) i && declared_accept (k + 1) ns fs h.1 i
     declared_accept k _ _ h = absurd h
 
-    declared_ask : (k : ℕ) (ns : List N) (fs : List (Name × Data)) → EntriesAnswer o m r t ns fs L
+    declared_ask : (k : ℕ) (ns : List N) (fs : Rows) → EntriesAnswer o m r t ns fs L
         → (every (λ e. every (m e.1.1) (at e.0 v)) (zip (map (λ e. e.0) fs) (enumerate_from k ns))).asks u ≤ sum_by (λ e. sum_by (asks o.world u e.1) (at e.0 v)) fs
     declared_ask k [] [] h = omega arith
     declared_ask k (n ∷ ns) (e ∷ fs) h =
         more_within _ _ _ _ _ (values_ask n e.1 (L // e.0) h.0 u (at e.0 v)) (declared_ask (k + 1) ns fs h.1) (sum_by-cons (λ (e : Name × Data). sum_by (asks o.world u e.1) (at e.0 v)) e fs)
     declared_ask k _ _ h = absurd h
 
-    declared_find : (Q : Path) (k : ℕ) (ns : List N) (fs : List (Name × Data)) → EntriesAnswer o m r t ns fs L
+    declared_find : (Q : Path) (k : ℕ) (ns : List N) (fs : Rows) → EntriesAnswer o m r t ns fs L
         → flat_map (λ e. flat_map (λ w. r e.1.1 u w (Q // e.0)) (at e.0 v)) (zip (map (λ e. e.0) fs) (enumerate_from k ns)) ∼ flat_map
         (λ e. flat_map (λ w. report o.world u e.1 w (L // e.0) (Q // e.0)) (at e.0 v)) fs
     declared_find Q k [] [] h = like_empty
-    declared_find Q k (n ∷ ns) (e ∷ fs) h =
-        ∼_append (∼_flat_map_any (λ w. r n u w (Q // e.0)) (λ w. report o.world u e.1 w (L // e.0) (Q // e.0)) (λ w. h.0.faults u w (Q // e.0)) (at e.0 v)) (declared_find Q (k + 1) ns fs h.1)
+    declared_find Q k (n ∷ ns) (e ∷ fs) h = ∼_append (∼_flat_map_any _ _ (λ w. h.0.faults u w (Q // e.0)) (at e.0 v)) (declared_find Q (k + 1) ns fs h.1)
     declared_find Q k _ _ h = absurd h
 
 -- ---- all
 
-module _ {K R N : Type 0} {o : Kit K R} {m : _} {r : _} {t : _} {S : Sides R N} {fs es : List (Name × Data)} {d : Data} {P : Path} (h : SidesStand o m r t S fs es d P) (u : Bool) where
+module _ {K R N : Type 0} {o : Kit K R} {m : _} {r : _} {t : _} {S : Sides R N} {fs es : Rows} {d : Data} {P : Path} (h : SidesStand o m r t S fs es d P) (u : Bool) where
   -- ---- whether it accepts
 
-  others_accept : (x : Name × Data) → (others_mean o.answers o.costs m S x.0 x.1).accepts u ≡ (matching_accept o.world u fs es x && rest_accepts o.world u fs es d x)
+  -- a member, by the patterns and the rest
+  abbrev others_accept_it : Name × Data → Bool
+  others_accept_it x = matching_accept o.world u fs es x && rest_accepts o.world u fs es d x
+
+  others_accept : (x : Name × Data) → (others_mean o.answers o.costs m S x.0 x.1).accepts u ≡ others_accept_it x
   others_accept x = others_accepted o.answers o.costs m S x.0 x.1 u
       ∙ (λ i. (all_accept o m r t u x.1 _ _ (others_answer h x.0 u) ∙ accepted_by_others h u x) i && not (is_unexpected o.answers S u x.0))
       ∙ and_assoc (matching_accept o.world u fs es x) (list_all (λ s. accepts o.world u s.0 x.1) (rest_schemas h x.0 u)) (not (is_unexpected o.answers S u x.0))
@@ -73,34 +77,41 @@ module _ {K R N : Type 0} {o : Kit K R} {m : _} {r : _} {t : _} {S : Sides R N} 
 
   -- it accepts where the declared schemas accept the members of their names, and each member is accepted by the patterns and the rest
   pub named_accepts : (v : Data) → (named_means o.answers o.costs m S v).accepts u ≡ (list_all (λ e. list_all (accepts o.world u e.1) (at e.0 v)) fs
-      && list_all (λ x. matching_accept o.world u fs es x && rest_accepts o.world u fs es d x) (members v))
+      && list_all others_accept_it (members v))
   named_accepts v =
-      λ i. (ap (λ l. (every (λ e. every (m e.1.1) (at e.0 v)) l).accepts u) h.placed_zip ∙ declared_accept o m r t (P // codes "properties") u v 0 h.nodes fs h.declared) i && along (members v) i
+      λ i. (ap (λ l. (every (λ e. every (m e.1.1) (at e.0 v)) l).accepts u) h.placed_zip ∙ declared_accept o m r t _ u v 0 h.nodes fs h.declared) i && along (members v) i
     where
-      along : (xs : List (Name × Data)) → (every (λ x. others_mean o.answers o.costs m S x.0 x.1) xs).accepts u ≡ list_all
-          (λ x. matching_accept o.world u fs es x && rest_accepts o.world u fs es d x) xs
+      along : (xs : Rows) → (every (λ x. others_mean o.answers o.costs m S x.0 x.1) xs).accepts u ≡ list_all others_accept_it xs
       along [] = refl
       along (x ∷ xs) = λ i. others_accept x i && along xs i
 
   -- ---- what it finds
 
-  others_find : (v : Data) (Q : Path) (x : Name × Data) → others_found o.answers S u v Q r x ∼ matching_report o.world u fs es P Q x ++ rest_report o.world u fs es P Q d x
+  -- in a member, by the patterns and the rest
+  abbrev others_find_it : Path → Name × Data → List Fault
+  others_find_it Q x = matching_report o.world u fs es P Q x ++ rest_report o.world u fs es P Q d x
+
+  others_find : (v : Data) (Q : Path) (x : Name × Data) → others_found o.answers S u v Q r x ∼ others_find_it Q x
   others_find v Q x = like_through (all_find o m r t u x.1 (Q // x.0) _ _ (others_answer h x.0 u)) (∼_same (found_by_others h u x Q))
 
   -- it finds what the declared schemas find, what the patterns and the rest find in each member, and the members that are not expected
   pub named_finds : (named : Bool) (v : Data) (Q : Path) → named_report o.answers S u v Q named (P // codes "additionalProperties") r
       ∼ flat_map (λ e. flat_map (λ x. report o.world u e.1 x (P // codes "properties" // e.0) (Q // e.0)) (at e.0 v)) fs
-      ++ flat_map (λ x. matching_report o.world u fs es P Q x ++ rest_report o.world u fs es P Q d x) (members v) ++ others_report o.world u fs es P Q named d v
+      ++ flat_map (others_find_it Q) (members v) ++ others_report o.world u fs es P Q named d v
   named_finds named v Q = like_through
       (∼_append (like_through (∼_same (ap (flat_map _) h.placed_zip))
       (declared_find o m r t _ u v Q 0 h.nodes fs h.declared))
-      (∼_append (∼_flat_map_any (others_found o.answers S u v Q r) (λ x. matching_report o.world u fs es P Q x ++ rest_report o.world u fs es P Q d x) (others_find v Q) (members v)) (∼_same (faults_of_others h u named v Q))))
+      (∼_append (∼_flat_map_any _ (others_find_it Q) (others_find v Q) (members v)) (∼_same (faults_of_others h u named v Q))))
       (∼_same (sym (append_assoc (flat_map _ fs)
-      (flat_map (λ x. matching_report o.world u fs es P Q x ++ rest_report o.world u fs es P Q d x) (members v)) (others_report o.world u fs es P Q named d v))))
+      (flat_map (others_find_it Q) (members v)) (others_report o.world u fs es P Q named d v))))
 
   -- ---- how many matchers are asked
 
-  others_ask : (x : Name × Data) → (others_mean o.answers o.costs m S x.0 x.1).asks u ≤ (matching_asks o.world u fs es x + patterns_asked o.world fs es x.0) + rest_asks o.world u fs es d x
+  -- of a member, by the patterns and their schemas
+  abbrev patterns_ask_it : Name × Data → ℕ
+  patterns_ask_it x = matching_asks o.world u fs es x + patterns_asked o.world fs es x.0
+
+  others_ask : (x : Name × Data) → (others_mean o.answers o.costs m S x.0 x.1).asks u ≤ patterns_ask_it x + rest_asks o.world u fs es d x
   others_ask x =
       let whole = patterns_ask o.answers o.costs S x.0 u (at_name S x.0) m x.1 (is_some (at_name S x.0)) 0 S.patterns in
       let nodes = all_ask o m r t u x.1 _ _ (others_answer h x.0 u) in
@@ -111,15 +122,14 @@ module _ {K R N : Type 0} {o : Kit K R} {m : _} {r : _} {t : _} {S : Sides R N} 
 
   -- it asks at most what the declared schemas ask, and what the patterns and the rest ask of each member
   pub named_asks : (v : Data) → (named_means o.answers o.costs m S v).asks u ≤ sum_by (λ e. sum_by (asks o.world u e.1) (at e.0 v)) fs + sum_by
-      (λ x. matching_asks o.world u fs es x + patterns_asked o.world fs es x.0) (members v) + sum_by (rest_asks o.world u fs es d) (members v)
+      patterns_ask_it (members v) + sum_by (rest_asks o.world u fs es d) (members v)
   named_asks v =
       let same = ap (λ l. (every (λ e. every (m e.1.1) (at e.0 v)) l).asks u) h.placed_zip in
       let declared = declared_ask o m r t (P // codes "properties") u v 0 h.nodes fs h.declared in
       let others = along (members v) in
-      let parts = sum_of_both (λ x. matching_asks o.world u fs es x + patterns_asked o.world fs es x.0) (rest_asks o.world u fs es d) (members v) in
+      let parts = sum_of_both patterns_ask_it (rest_asks o.world u fs es d) (members v) in
       omega (arith, same, declared, others, parts)
     where
-      along : (xs : List (Name × Data)) → (every (λ x. others_mean o.answers o.costs m S x.0 x.1) xs).asks u ≤ sum_by
-          (λ x. (matching_asks o.world u fs es x + patterns_asked o.world fs es x.0) + rest_asks o.world u fs es d x) xs
+      along : (xs : Rows) → (every (λ x. others_mean o.answers o.costs m S x.0 x.1) xs).asks u ≤ sum_by (λ x. patterns_ask_it x + rest_asks o.world u fs es d x) xs
       along [] = omega arith
-      along (x ∷ xs) = more_within _ _ _ _ _ (others_ask x) (along xs) (sum_by-cons (λ x. (matching_asks o.world u fs es x + patterns_asked o.world fs es x.0) + rest_asks o.world u fs es d x) x xs)
+      along (x ∷ xs) = more_within _ _ _ _ _ (others_ask x) (along xs) (sum_by-cons (λ x. patterns_ask_it x + rest_asks o.world u fs es d x) x xs)

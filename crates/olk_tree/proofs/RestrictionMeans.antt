@@ -112,9 +112,7 @@ module _ {K R N : Type 0} (o : Kit K R) (m : N → Data → Question) (r : N →
 
         by : (b : Bool) → repeats v ≡ b → reported u v Q b (has_beside ms) (P // codes "additionalProperties") ++ required_faults (required_beside ms) v
             (P // codes "required") Q ∼ flat_map (λ x. member_report o.world ms x (keyword_named o.world x.0) u v P Q) claimed
-        by true q =
-            like_through (∼_behind (required_faults _ v _ Q) (named_finds h.sides u _ v Q))
-            (∼_sym (claims_find o.world ms d distinct there restricted u v P Q))
+        by true q = like_through (∼_behind (required_faults _ v _ Q) (named_finds h.sides u _ v Q)) (∼_sym (claims_find o.world ms d distinct there restricted u v P Q))
         by false q =
             like_through (∼_behind (required_faults _ v _ Q) (restricted_finds h.sides u _ v Q))
             (∼_sym (claims_find_each o.world ms d distinct there restricted u v P Q h.declared_once q))

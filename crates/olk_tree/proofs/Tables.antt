@@ -15,7 +15,7 @@ use Rattle.std.proofs.lemmas.Slice.Zip.{AllZip-left, AllZip-long, all_zipped_mor
 use native.Mathlib.Nat.{add-mul, mul-le-mul_right}
 use Rattle.olk_spec.specs.Names.{Name}
 use Rattle.olk_spec.specs.World.{Says, unmatched, unfinished}
-use Rattle.olk_base.specs.Count.{Counts, no_counts}
+use Rattle.olk_base.specs.Count.{Counts}
 use Rattle.olk_base.specs.Compiled.{pattern_answers, pattern_costs}
 use Rattle.olk_base.specs.Lawful.{count_ask}
 use Rattle.olk_base.specs.declared.pattern.CompiledPattern.{CompiledPattern}
@@ -81,8 +81,8 @@ module _ {R : Type 0} (answers : R → Name → Says) (costs : R → Bool) (patt
     asked_once_more counts =
         counts
         ∙ ask_counts (pattern_costs costs e) new
-        ∙ ap (count_asks (cond (pattern_costs costs e) 1 0)) so_far.asked
-        ∙ asks_asks (how_many_cost costs (take k patterns)) (cond (pattern_costs costs e) 1 0) old
+        ∙ ap (count_asks _) so_far.asked
+        ∙ asks_asks _ _ old
         ∙ ap (λ m. count_asks m old) (one_more k e lt (pattern_costs costs e) (ap (λ x. pattern_costs costs x) (sym is)))
 
     noted_once_more : row_says row' k ≡ pattern_answers answers e n → ((i : ℕ) → i ≢ k → row_says row' i ≡ row_says row i) → (i : ℕ) (x : CompiledPattern R)

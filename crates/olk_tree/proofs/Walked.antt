@@ -14,6 +14,7 @@ use Rattle.olk_tree.specs.Ascending.{Ascend}
 use Rattle.olk_tree.specs.Maps.{keys_in, nodes_in}
 use Rattle.olk_tree.proofs.Merge.{Rising, in_step, ascending_rising, sorted_rising}
 use Rattle.olk_tree.specs.Visited.{Declared, declared_as, members_declared, names_met}
+use Rattle.olk_meaning.proofs.Rows.{Rows}
 
 module _ {N : Type 0} where
   module _ (es : List (Name × N)) where
@@ -42,7 +43,7 @@ module _ {N : Type 0} where
     pub no_member_left : {left : List (String Global × Value)} → left ≡ [] → members_declared es (listed (members_view left)) ≡ []
     no_member_left none = ap (λ l. members_declared es (listed (members_view l))) none
 
-  module _ (ms : List (Name × Data)) {es rest : List (Name × N)} (n : Name) (x : N) (next : es ≡ (n, x) ∷ rest) where
+  module _ (ms : Rows) {es rest : List (Name × N)} (n : Name) (x : N) (next : es ≡ (n, x) ∷ rest) where
     -- a declared name at which there is a member, and one at which there is none
     pub name_met : (v : Data) (o : Option Data) → Some v ≡ o → o ≡ lookup_name n ms → names_met es ms ≡ record { name = n; node = x; value = v } ∷ names_met rest ms
     name_met v o is at = ap (λ l. names_met l ms) next ∙ ap (λ p. flat_map (λ w. declared_as n x w) (option_to_list p) ++ names_met rest ms) (sym (is ∙ at))
@@ -54,7 +55,7 @@ module _ {N : Type 0} where
   pub entries_more : (left rest : List (Entry N)) (e : Entry N) → left ≡ e ∷ rest → (n : Name) → n ≡ text_of e → entries_are left ≡ (n, e.node) ∷ entries_are rest
   entries_more left rest e steps n name = ap entries_are steps ∙ ap (λ m. (m, e.node) ∷ entries_are rest) (sym name)
 
-  pub no_name_left : (ms : List (Name × Data)) (left : List (Entry N)) → left ≡ [] → names_met (entries_are left) ms ≡ []
+  pub no_name_left : (ms : Rows) (left : List (Entry N)) → left ≡ [] → names_met (entries_are left) ms ≡ []
   no_name_left ms left none = ap (λ es. names_met (entries_are es) ms) none
 
   -- whichever side is walked

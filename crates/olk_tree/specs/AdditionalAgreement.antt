@@ -1,5 +1,5 @@
 -- What `additionalProperties` finds is empty exactly where it accepts, and so is its first step that refuses, if that is so of its nodes.
-use Rattle.std.specs.Prelude.{◌≡◌, ℕ, ◌+◌, Bool, true, false, not, ◌&&◌, cond, List, [], ◌∷◌, ◌++◌, Option, Some, None, is_none, is_some, option_map, option_to_list}
+use Rattle.std.specs.Prelude.{◌≡◌, ℕ, ◌+◌, Bool, true, false, not, ◌&&◌, cond, List, [], ◌∷◌, ◌++◌, Option, Some, None, is_none, option_map, option_to_list}
 use Rattle.std.specs.List.{flat_map}
 use Rattle.std.proofs.Common.{refl, sym, ap, ◌∙◌}
 use Rattle.std.proofs.Math.Bool.{and_assoc}
@@ -17,7 +17,7 @@ use Rattle.olk_base.specs.Compiled.{pattern_answers, pattern_costs}
 use Rattle.olk_base.specs.declared.pattern.CompiledPattern.{CompiledPattern}
 use Rattle.olk_tree.specs.Questions.{Question, always, said_to, both, every}
 use Rattle.olk_tree.specs.Firsts.{or_else, first_of}
-use Rattle.olk_tree.specs.Additional.{Sides, known_at, known_or, known_or_asked, is_matched_by, matching_from, at_name, others_asked, nodes_asked, is_unexpected, unexpected, repeats, rest_means, patterns_mean_from, member_means_at, member_means, means_in_turn, others_mean, named_means, additional_means, member_report, others_report, report_in_turn, named_report, additional_report, member_first, others_first, first_in_turn, named_first, additional_first, sides_of, has_neighbours, required_text, required_place, lacks}
+use Rattle.olk_tree.specs.Additional.{Sides, known_at, known_or, known_or_asked, matching_from, at_name, others_asked, nodes_asked, is_unexpected, unexpected, repeats, rest_means, patterns_mean_from, member_means_at, member_means, means_in_turn, others_mean, named_means, additional_means, member_report, others_report, report_in_turn, named_report, additional_report, member_first, others_first, first_in_turn, named_first, additional_first, sides_of, has_neighbours, required_text, required_place, lacks}
 use Rattle.olk_tree.specs.Emptiness.{each_agrees, both_agree, or_else_agrees, first_of_agrees}
 use Rattle.olk_tree.specs.declared.additional_properties.AdditionalProperties.{AdditionalProperties}
 
@@ -62,7 +62,7 @@ module _ {R N : Type 0} (answers : R → Name → Says) (costs : R → Bool) (m 
       where
         by : (o : Option N) → (rest_means m x o).accepts u ≡ ((every (λ e. m e x) (option_to_list o)).accepts u && not (is_none o && true))
         by None = refl
-        by (Some r) = and_true ((m r x).accepts u)
+        by (Some r) = and_true _
     patterns_accept spoken i (e ∷ es) =
         ap (λ b. cond b ((m e.1 x).accepts u && accepts_from true (i + 1) es) (accepts_from spoken (i + 1) es)) (match_is_said u (pattern_costs costs e.0) (known_at S d i) (pattern_answers answers e.0 n))
         ∙ one_more spoken _ e.1 _ _ _ (patterns_accept true _ es) (patterns_accept spoken _ es)
@@ -73,7 +73,7 @@ module _ {R N : Type 0} (answers : R → Name → Says) (costs : R → Bool) (m 
 
   -- a member is accepted where each node accepts that is asked, and where it is expected
   pub others_accepted : (others_mean answers costs m S n x).accepts u ≡ ((every (λ e. m e x) (others_asked answers S u n)).accepts u && not (is_unexpected answers S u n))
-  others_accepted = patterns_accept (at_name S n) (is_some (at_name S n)) 0 S.patterns
+  others_accepted = patterns_accept (at_name S n) _ 0 S.patterns
 
   pub member_accepted : (member_means answers costs m S n x).accepts u ≡ ((every (λ e. m e x) (nodes_asked answers S u n)).accepts u && not (is_unexpected answers S u n))
   member_accepted = member_accepts_at (at_name S n)
@@ -95,7 +95,7 @@ module _ (named : Bool) (v : Data) (P Q : Path) where
 each_and_none : {X : Type 0} (f : X → List Fault) (p : X → Bool) (q : X → Question) (u : Bool) → ((x : X) → (is_empty (f x) && not (p x)) ≡ (q x).accepts u) → (xs : List X) → (is_empty (flat_map f xs) && is_empty (filter_once p xs)) ≡ (every q xs).accepts u
 each_and_none f p q u h [] = refl
 each_and_none f p q u h (x ∷ xs) = (λ i. is_empty-append (f x) (flat_map f xs) i && none_more (p x) i)
-    ∙ and_middle (is_empty (f x)) (is_empty (flat_map f xs)) (not (p x)) (is_empty (filter_once p xs))
+    ∙ and_middle (is_empty (f x)) _ (not (p x)) _
     ∙ (λ i. h x i && each_and_none f p q u h xs i)
   where
     none_more : (b : Bool) → is_empty (put_if b x (filter_once p xs)) ≡ (not b && is_empty (filter_once p xs))
@@ -117,7 +117,7 @@ module _ {R N : Type 0} (answers : R → Name → Says) (costs : R → Bool) (m 
         is_empty-append (flat_map f (members v)) _ ∙ ap (λ b. is_empty (flat_map f (members v)) && b) (unexpected_agree named v P Q (unexpected answers S u v)) ∙ each_and_none f _ q u agrees (members v)
 
     report_in_turn_agrees : (named : Bool) (P : Path) → is_empty (report_in_turn answers S u v Q named P r) ≡ (means_in_turn answers costs m S v).accepts u
-    report_in_turn_agrees = with_unexpected (member_report answers S u v Q r) _ member_agrees
+    report_in_turn_agrees = with_unexpected _ _ member_agrees
 
     others_agree : (x : Name × Data) → (is_empty (others_report answers S u v Q r x) && not (is_unexpected answers S u x.0)) ≡ (others_mean answers costs m S x.0 x.1).accepts u
     others_agree x = ap (λ b. b && not (is_unexpected answers S u x.0)) (each_agrees _ _ u (λ e. h e x.1 (Q // x.0)) (others_asked answers S u x.0)) ∙ sym (others_accepted answers costs m S x.0 x.1 u)
@@ -138,7 +138,7 @@ module _ {R N : Type 0} (answers : R → Name → Says) (costs : R → Bool) (m 
 
     module _ (named : Bool) (P : Path) where
       pub member_first_agrees : (x : Name × Data) → is_empty (member_first answers S u v Q named P r x) ≡ (member_means answers costs m S x.0 x.1).accepts u
-      member_first_agrees x = or_else_agrees (first_of _ (nodes_asked answers S u x.0)) _ (asked_first_agrees x) (unexpected_if named v P Q (is_unexpected answers S u x.0) x) ∙ sym (member_accepted answers costs m S x.0 x.1 u)
+      member_first_agrees x = or_else_agrees _ _ (asked_first_agrees x) (unexpected_if named v P Q (is_unexpected answers S u x.0) x) ∙ sym (member_accepted answers costs m S x.0 x.1 u)
 
       others_first_agrees : (x : Name × Data) → is_empty (others_first answers S u v Q named P r x) ≡ (others_mean answers costs m S x.0 x.1).accepts u
       others_first_agrees x = or_else_agrees (first_of _ (others_asked answers S u x.0)) _

@@ -1,6 +1,6 @@
-use Rattle.std.proofs.Common.{Some, refl, ◌∙◌}
+use Rattle.std.proofs.Common.{refl, ◌∙◌}
 use Rattle.std.proofs.lemmas.List.{nil_from_length}
-use Rattle.serde_json.specs.View.{view, members_view}
+use Rattle.serde_json.specs.View.{view}
 use Rattle.olk_spec.specs.Schemas.{listed}
 use Rattle.olk_tree.proofs.Walked.{name_met, name_passed, no_name_left, entries_more}
 use Rattle.olk_tree.proofs.declared.next_name.Goals as goal

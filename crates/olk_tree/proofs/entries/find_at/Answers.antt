@@ -1,5 +1,4 @@
 use Rattle.std.proofs.Common.{◌<◌, length, sym, ◌∙◌, arith}
-use Rattle.olk_tree.specs.Entries.{names_of}
 use Rattle.olk_tree.proofs.Heads.{head_at_place, unlike_none}
 use Rattle.olk_tree.proofs.Places.{place_told}
 use Rattle.olk_tree.proofs.entries.find_at.Goals as goal

@@ -1,4 +1,4 @@
-use Rattle.std.proofs.Common.{bytes_eq, sym, ◌∙◌, arith, []}
+use Rattle.std.proofs.Common.{sym, ◌∙◌, arith, []}
 use Rattle.std.proofs.lemmas.List.Quantifiers.{position-Some}
 use Rattle.olk_tree.specs.Entries.{names_of}
 use Rattle.olk_tree.proofs.Places.{as_many_names, equal_at, equal_here, seen_at}

@@ -1,4 +1,4 @@
-use Rattle.std.proofs.Common.{bytes_eq, ap, ◌∙◌}
+use Rattle.std.proofs.Common.{ap, ◌∙◌}
 use Rattle.std.specs.List.{position}
 use Rattle.olk_tree.specs.Maps.{keys_in}
 use Rattle.olk_tree.proofs.Lookups.{keys_are}

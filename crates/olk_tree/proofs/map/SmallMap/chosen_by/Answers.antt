@@ -1,6 +1,5 @@
 use Rattle.std.proofs.Common.{ap, ◌∙◌}
 use Rattle.std.specs.Prelude.{option_to_list}
-use Rattle.serde_json.specs.View.{view}
 use Rattle.olk_tree.proofs.Due.{at_text, at_no_text}
 use Rattle.olk_tree.proofs.map.SmallMap.chosen_by.Goals as goal
 
