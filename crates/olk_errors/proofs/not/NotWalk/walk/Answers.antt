@@ -9,7 +9,7 @@ use Rattle.olk_errors.proofs.not.NotWalk.walk.Goals as goal
 
 pub returns-then-not-is_valid : goal.returns-then-not-is_valid
 returns-then-not-is_valid g c = let refused = sym c.if-not-is_valid.ensures.verdict in
-    own_past (Not (view c.args.self.now.original)) (data_of c.args.node) c.args.self.now.location (path_at c.args.trail.now) c.if-not-is_valid.ensures.only (ap not refused) refused
+    own_past _ _ c.args.self.now.location _ c.if-not-is_valid.ensures.only (ap not refused) refused
 
 pub returns : goal.returns
 returns g c = let accepted = sym c.if-not-is_valid.ensures.verdict in

@@ -8,7 +8,7 @@ use Rattle.olk_errors.proofs.property_names.PropertyNamesFalseWalk.walk.Goals as
 
 pub returns-then-is_valid : goal.returns-then-is_valid
 returns-then-is_valid c = let accepted = sym c.if-is_valid.ensures.verdict in
-    own_past FalseSchema (data_of c.args.node) c.args.self.now.location (path_at c.args.trail.now) c.if-is_valid.ensures.only accepted (ap not accepted)
+    own_past FalseSchema _ c.args.self.now.location _ c.if-is_valid.ensures.only accepted (ap not accepted)
 
 pub returns : goal.returns
 returns c = let refused = sym c.if-is_valid.ensures.verdict in
