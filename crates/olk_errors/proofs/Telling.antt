@@ -1,16 +1,15 @@
 -- One error for each of a list, in a sink that wants all.
-use Rattle.std.proofs.Common.{◌≡◌, Bool, true, false, true≢false, List, [], ◌∷◌, length, map, arith, refl, sym, ap, subst, ◌∙◌, Result, Ok, Err}
+use Rattle.std.proofs.Common.{◌≡◌, true, false, List, [], ◌∷◌, length, map, arith, refl, sym, ap, subst, ◌∙◌, Ok, Err}
 use Rattle.std.specs.List.{flat_map}
 use Rattle.olk_spec.specs.Faults.{Fault, ◌∼◌}
 use Rattle.olk_tree.specs.Questions.{Question, always}
 use Rattle.olk_errors.specs.Found.{Outcome, IsErrorOf}
-use Rattle.olk_errors.specs.Sinks.{wants_one, held, Took, GoesOn, Stopped, Ends, Takes}
+use Rattle.olk_errors.specs.Sinks.{wants_one, GoesOn, Stopped, Ends, Takes}
 use Rattle.olk_errors.specs.declared.sink.ErrorSink.{ErrorSink}
 use Rattle.olk_errors.specs.declared.sink.Stop.{Stop}
-use Rattle.olk_reports.specs.declared.error.ValidationError.{ValidationError}
 use Rattle.olk_errors.proofs.Appending.{appends_like}
 use Rattle.olk_errors.proofs.Sinks.{goes_by, goes_all, stopped_all}
-use Rattle.olk_errors.proofs.Loops.{Turns, Walked, walked_start, walked_turn, walked_end}
+use Rattle.olk_errors.proofs.Loops.{Walked, walked_start, walked_turn, walked_end}
 
 -- ---- by what the sink wants
 

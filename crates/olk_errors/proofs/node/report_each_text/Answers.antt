@@ -9,7 +9,6 @@ use Rattle.olk_tree.specs.Maps.{texts_of}
 use Rattle.olk_errors.proofs.Own.{leaf_fault}
 use Rattle.olk_errors.proofs.Sinks.{ends_left, ends_nowhere}
 use Rattle.olk_errors.proofs.Telling.{nothing_left, telling_start, telling_more, telling_stopped, telling_end}
-use Rattle.olk_errors.specs.Outcomes.{of_leaf}
 use Rattle.olk_errors.specs.Sinks.{Takes}
 use Rattle.olk_errors.proofs.node.report_each_text.Goals as goal
 

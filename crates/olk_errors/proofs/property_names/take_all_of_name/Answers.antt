@@ -9,7 +9,6 @@ use Rattle.olk_reports.specs.Errors.{fault_of}
 use Rattle.olk_errors.proofs.Names.{names_told}
 use Rattle.olk_errors.proofs.Sinks.{ends_left, walks_nowhere}
 use Rattle.olk_errors.proofs.Telling.{nothing_left, telling_start, telling_more, telling_stopped, telling_like}
-use Rattle.olk_errors.specs.Outcomes.{of_asked_name}
 use Rattle.olk_errors.proofs.property_names.take_all_of_name.Goals as goal
 
 pub returns-in_err-errors : goal.returns-in_err-errors
