@@ -22,5 +22,5 @@ returns g c =
     (map (λ n. g.N.Reports.report n u (data_of c.args.node) (path_at c.args.trail.now)) c.args.self.now.schemas.items)) c.if-is_valid.ensures.only.answer
     c.in_ok-context.ensures.contexts in
     walks_own (only_then c.if-is_valid.ensures.only c.contexts.ensures.context)
-    (any_of_own (context_faults c.in_ok-context.context) _ alike (data_of c.args.node) c.as_str.ensures (sym c.if-is_valid.ensures.verdict)
+    (any_of_own (context_faults c.in_ok-context.context) _ alike _ c.as_str.ensures (sym c.if-is_valid.ensures.verdict)
     (kind_of_any_of c.in_ok-context.context)) c.report.ensures

@@ -21,5 +21,5 @@ returns g c =
     let alike = subst (λ u. AreLike (context_faults c.in_ok-context.context) (g.N.Reports.report c.args.self.now.node u (data_of c.args.node) (path_at c.args.trail.now) ∷ []))
     c.if-is_valid.ensures.only.answer c.in_ok-context.ensures.contexts in
     walks_own (only_then c.if-is_valid.ensures.only c.one_context.ensures.context)
-    (any_of_own (context_faults c.in_ok-context.context) _ alike (data_of c.args.node) c.as_str.ensures (sym c.if-is_valid.ensures.verdict)
+    (any_of_own (context_faults c.in_ok-context.context) _ alike _ c.as_str.ensures (sym c.if-is_valid.ensures.verdict)
     (kind_of_any_of c.in_ok-context.context)) c.report.ensures

@@ -1,7 +1,5 @@
 use Rattle.std.proofs.Common.{not, refl, sym, ap}
-use Rattle.olk_base.specs.Nodes.{data_of}
 use Rattle.olk_spec.specs.Faults.{itself, FalseSchema}
-use Rattle.olk_paths.specs.Trails.{path_at}
 use Rattle.olk_reports.proofs.Errors.{kind_of_false_schema}
 use Rattle.olk_errors.proofs.Own.{like_at, walks_own, own_past, is_own}
 use Rattle.olk_errors.proofs.property_names.PropertyNamesFalseWalk.walk.Goals as goal
@@ -12,5 +10,5 @@ returns-then-is_valid c = let accepted = sym c.if-is_valid.ensures.verdict in
 
 pub returns : goal.returns
 returns c = let refused = sym c.if-is_valid.ensures.verdict in
-    walks_own c.if-is_valid.ensures.only (is_own FalseSchema (data_of c.args.node) c.args.self.now.location (path_at c.args.trail.now)
+    walks_own c.if-is_valid.ensures.only (is_own FalseSchema _ c.args.self.now.location _
     refused (ap not refused) refl (like_at kind_of_false_schema itself refl c.as_str.ensures)) c.report.ensures
