@@ -1,5 +1,5 @@
 -- The error of `oneOf`.
-use Rattle.std.proofs.Common.{◌≡◌, inl, inr, not, Bool, ℕ, ◌<◌, ◌==◌, true, false, List, [], Option, Some, None, refl, sym, ap, subst}
+use Rattle.std.proofs.Common.{◌≡◌, inl, inr, not, Bool, ℕ, ◌<◌, ◌==◌, true, false, List, Option, Some, None, refl, sym, ap, subst}
 use Rattle.serde_json.specs.Data.{Data}
 use Rattle.olk_spec.specs.Names.{Path}
 use Rattle.olk_spec.specs.Faults.{Fault, fault, Kind, OneOfNotValid, OneOfMultipleValid, IsLikeKind, context}

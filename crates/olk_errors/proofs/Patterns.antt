@@ -49,7 +49,7 @@ module _ {R N : Type 0} (answers : R → Name → Says) (costs : R → Bool) (m 
 
   module _ (p : CompiledPattern R) (n : N) (x : Name) (w : Data) where
     pub unmatched : false ≡ is_match answers u p x → of_match answers costs m s r u p n x w Q ≡ unasked
-    unmatched no = λ i. record { accepts = cond (sym no i) ((m n w).accepts u) true; first = cond (sym no i) (s n u w (Q // x)) []; all = cond (sym no i) (r n u w (Q // x)) [] }
+    unmatched differs = λ i. record { accepts = cond (sym differs i) ((m n w).accepts u) true; first = cond (sym differs i) (s n u w (Q // x)) []; all = cond (sym differs i) (r n u w (Q // x)) [] }
 
     -- where it matches, the node is asked, with the same answer
     pub matched_as_node : {t : Bool} → t ≡ u → true ≡ is_match answers u p x → of_node m s r t n w (Q // x) ≡ of_match answers costs m s r u p n x w Q

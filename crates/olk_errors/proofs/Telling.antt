@@ -1,16 +1,15 @@
 -- One error for each of a list, in a sink that wants all.
-use Rattle.std.proofs.Common.{◌≡◌, Bool, true, false, true≢false, List, [], ◌∷◌, length, map, arith, refl, sym, ap, subst, ◌∙◌, Result, Ok, Err}
+use Rattle.std.proofs.Common.{◌≡◌, true, false, List, [], ◌∷◌, length, map, arith, refl, sym, ap, subst, ◌∙◌, Ok, Err}
 use Rattle.std.specs.List.{flat_map}
 use Rattle.olk_spec.specs.Faults.{Fault, ◌∼◌}
 use Rattle.olk_tree.specs.Questions.{Question, always}
-use Rattle.olk_errors.specs.Found.{Outcome}
-use Rattle.olk_errors.specs.Sinks.{wants_one, held, Took, GoesOn, Ends, Takes}
+use Rattle.olk_errors.specs.Found.{Outcome, IsErrorOf}
+use Rattle.olk_errors.specs.Sinks.{wants_one, GoesOn, Stopped, Ends, Takes}
 use Rattle.olk_errors.specs.declared.sink.ErrorSink.{ErrorSink}
 use Rattle.olk_errors.specs.declared.sink.Stop.{Stop}
-use Rattle.olk_reports.specs.declared.error.ValidationError.{ValidationError}
 use Rattle.olk_errors.proofs.Appending.{appends_like}
 use Rattle.olk_errors.proofs.Sinks.{goes_by, goes_all, stopped_all}
-use Rattle.olk_errors.proofs.Loops.{Turns, Walked, walked_start, walked_turn, walked_end}
+use Rattle.olk_errors.proofs.Loops.{Walked, walked_start, walked_turn, walked_end}
 
 -- ---- by what the sink wants
 
@@ -45,18 +44,17 @@ module _ {X : Type 0} {h : X → Fault} {all : List X} where
   telling_start wants = record { so_far = walked_start; before = wants; now = wants }
 
   module _ {rest : List X} {old new : ErrorSink} (loop : Telling h all rest old new) where
-    pub telling_turn : {x : X} {more : List X} {newer : ErrorSink} {T : Type 0} {r : Result T Stop} (o : Outcome) → rest ≡ x ∷ more → Takes r new newer (h x)
-        → Turns r (Telling h all more old newer) (Ends r old newer o)
-    telling_turn {x} {more} {newer} {T} {r} o next = turn r
-      where
-        turn : (r : Result T Stop) → Takes r new newer (h x) → Turns r (Telling h all more old newer) (Ends r old newer o)
-        turn (Ok y) takes = record { so_far = walked_turn loop.so_far (x ∷ []) more next {T = T} {r = Ok y} (record { so = takes.so }); before = loop.before; now = takes.so.same ∙ loop.now }
-        turn (Err t) takes = record { so = stopped_all loop.before (walked_turn loop.so_far (x ∷ []) more next {T = T} {r = Err t} (record { so = stopped_all loop.now takes.so })).so }
+    module _ {x : X} {more : List X} (next : rest ≡ x ∷ more) {newer : ErrorSink} {T : Type 0} where
+      pub telling_more : {y : T} → Takes (Ok y) new newer (h x) → Telling h all more old newer
+      telling_more {y} takes = record { so_far = walked_turn loop.so_far (x ∷ []) more next {T = T} {r = Ok y} (record { so = takes.so }); before = loop.before; now = takes.so.same ∙ loop.now }
 
-    module _ {T : Type 0} {y : T} (o : Outcome) where
+      pub telling_stopped : {t : Stop} {o : Outcome} → Takes {T = T} (Err t) new newer (h x) → Stopped old newer (IsErrorOf o)
+      telling_stopped {t} takes = stopped_all loop.before (walked_turn loop.so_far (x ∷ []) more next {T = T} {r = Err t} (record { so = stopped_all loop.now takes.so })).so
+
+    module _ {T : Type 0} {y : T} {o : Outcome} where
       pub telling_end : map h all ≡ o.all → rest ≡ [] → Ends (Ok y) old new o
-      telling_end same none = record { so = goes_all o loop.before (each_told h all ∙ same) (walked_end loop.so_far none) }
+      telling_end same none = record { so = goes_all _ loop.before (each_told h all ∙ same) (walked_end loop.so_far none) }
 
       -- the same up to order
       pub telling_like : map h all ∼ o.all → rest ≡ [] → Ends (Ok y) old new o
-      telling_like like none = record { so = goes_alike o loop.before (subst (λ l. l ∼ o.all) (sym (each_told h all)) like) (walked_end loop.so_far none) }
+      telling_like like none = record { so = goes_alike _ loop.before (subst (λ l. l ∼ o.all) (sym (each_told h all)) like) (walked_end loop.so_far none) }

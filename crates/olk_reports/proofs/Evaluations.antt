@@ -19,26 +19,48 @@ trees_in-from : (ts : List Tree) → trees_in (trees_from ts) ≡ ts
 trees_in-from [] = refl
 trees_in-from (t ∷ ts) = ap (λ us. t ∷ us) (trees_in-from ts)
 
-children_of_node : (P Q : Path) (b : Bool) (a : Option (List Name)) (es : List Described) (ts : List Tree) → tree_children (result_node P Q b a es (trees_from ts)) ≡ ts
-children_of_node P Q true a es ts = trees_in-from ts
-children_of_node P Q false a es ts = trees_in-from ts
+module _ (P Q : Path) (a : Option (List Name)) (es : List Described) (ts : List Tree) where
+  children_of_parts : (b : Bool) → tree_children (node_at P Q (shown b a es ts)) ≡ ts
+  children_of_parts true = trees_in-from ts
+  children_of_parts false = trees_in-from ts
 
-children_shown : (P Q : Path) (s : Shown) (b : Bool) (a : Option (List Name)) (es : List Described) (ts : List Tree) → s ≡ shown b a es ts → tree_children (node_at P Q s) ≡ ts
-children_shown P Q s b a es ts e = ap (λ r. tree_children (node_at P Q r)) e ∙ children_of_node P Q b a es ts
+  valid_of_parts : (b : Bool) → is_valid (node_at P Q (shown b a es ts)) ≡ b
+  valid_of_parts true = refl
+  valid_of_parts false = refl
+
+  errors_of_parts : (b : Bool) → tree_errors (node_at P Q (shown b a es ts)) ≡ es
+  errors_of_parts true = refl
+  errors_of_parts false = refl
+
+module _ (P Q : Path) where
+  schema_path_of_parts : (s : Shown) → tree_schema_path (node_at P Q s) ≡ P
+  schema_path_of_parts (shown true a es ts) = refl
+  schema_path_of_parts (shown false a es ts) = refl
+
+  instance_path_of_parts : (s : Shown) → tree_instance_path (node_at P Q s) ≡ Q
+  instance_path_of_parts (shown true a es ts) = refl
+  instance_path_of_parts (shown false a es ts) = refl
+
+pub node_of_parts : (n : EvaluationNode) → tree_of n ≡ node_at (out-EvaluationNode n).schema_path.now (out-EvaluationNode n).instance_path (shown_of (out-EvaluationNode n).result)
+node_of_parts n = fold_out-EvaluationNode Tree Shown node_step result_step n
+
+pub parts_of_shown : (r : EvaluationResult) → shown_of r ≡ shown (out-EvaluationResult r).valid (option_map (λ ns. map (λ n. n.now) ns.items) (out-EvaluationResult r).annotation)
+    (map described_of (out-EvaluationResult r).errors.items) (map tree_of (out-EvaluationResult r).children.items)
+parts_of_shown r = fold_out-EvaluationResult Tree Shown node_step result_step r
+
+-- what is read off a node's tree, off what its result shows
+by_parts : {A : Type 0} (f : Tree → A) (n : EvaluationNode) → f (tree_of n) ≡ f (node_at (out-EvaluationNode n).schema_path.now (out-EvaluationNode n).instance_path
+    (shown (out-EvaluationResult (out-EvaluationNode n).result).valid (option_map (λ ns. map (λ m. m.now) ns.items) (out-EvaluationResult (out-EvaluationNode n).result).annotation)
+    (map described_of (out-EvaluationResult (out-EvaluationNode n).result).errors.items) (map tree_of (out-EvaluationResult (out-EvaluationNode n).result).children.items)))
+by_parts f n = ap f (node_of_parts n ∙ ap (node_at _ _) (parts_of_shown (out-EvaluationNode n).result))
 
 pub children_of : (n : EvaluationNode) → tree_children (tree_of n) ≡ map tree_of (out-EvaluationResult (out-EvaluationNode n).result).children.items
-children_of n =
-    ap tree_children (fold_out-EvaluationNode Tree Shown node_step result_step n)
-    ∙ children_shown _ _ _ _ _ _ _ (fold_out-EvaluationResult Tree Shown node_step result_step (out-EvaluationNode n).result)
+children_of n = by_parts tree_children n ∙ children_of_parts _ _ _ _ _ _
 
 pub shown_of_parts : (b : Bool) (a : Option (Vec (Bor (List ℕ)) Global)) (es : Vec ErrorDescription Global) (ts : Vec EvaluationNode Global)
     → shown_of (roll-EvaluationResult record { valid = b; annotation = a; errors = es; children = ts }) ≡ shown b (option_map (λ ns. map (λ n. n.now) ns.items) a)
     (map described_of es.items) (map tree_of ts.items)
 shown_of_parts b a es ts = fold-roll-EvaluationResult Tree Shown node_step result_step record { valid = b; annotation = a; errors = es; children = ts }
-
-pub parts_of_shown : (r : EvaluationResult) → shown_of r ≡ shown (out-EvaluationResult r).valid (option_map (λ ns. map (λ n. n.now) ns.items) (out-EvaluationResult r).annotation)
-    (map described_of (out-EvaluationResult r).errors.items) (map tree_of (out-EvaluationResult r).children.items)
-parts_of_shown r = fold_out-EvaluationResult Tree Shown node_step result_step r
 
 -- one more error, which makes it invalid
 pub shown_errored : (r : EvaluationResult) (es : Vec ErrorDescription Global) (e : ErrorDescription) → es.items ≡ (out-EvaluationResult r).errors.items
@@ -49,34 +71,11 @@ shown_errored r es e more =
     (ap (map described_of) more ∙ map-append described_of (out-EvaluationResult r).errors.items (e ∷ []))
     ∙ ap (errored (described_of e)) (sym (parts_of_shown r))
 
-valid_of_parts : (P Q : Path) (b : Bool) (a : Option (List Name)) (es : List Described) (ts : List Tree) → is_valid (node_at P Q (shown b a es ts)) ≡ b
-valid_of_parts P Q true a es ts = refl
-valid_of_parts P Q false a es ts = refl
-
-errors_of_parts : (P Q : Path) (b : Bool) (a : Option (List Name)) (es : List Described) (ts : List Tree) → tree_errors (node_at P Q (shown b a es ts)) ≡ es
-errors_of_parts P Q true a es ts = refl
-errors_of_parts P Q false a es ts = refl
-
-schema_path_of_parts : (P Q : Path) (s : Shown) → tree_schema_path (node_at P Q s) ≡ P
-schema_path_of_parts P Q (shown true a es ts) = refl
-schema_path_of_parts P Q (shown false a es ts) = refl
-
-instance_path_of_parts : (P Q : Path) (s : Shown) → tree_instance_path (node_at P Q s) ≡ Q
-instance_path_of_parts P Q (shown true a es ts) = refl
-instance_path_of_parts P Q (shown false a es ts) = refl
-
-pub node_of_parts : (n : EvaluationNode) → tree_of n ≡ node_at (out-EvaluationNode n).schema_path.now (out-EvaluationNode n).instance_path (shown_of (out-EvaluationNode n).result)
-node_of_parts n = fold_out-EvaluationNode Tree Shown node_step result_step n
-
 pub valid_of : (n : EvaluationNode) → is_valid (tree_of n) ≡ (out-EvaluationResult (out-EvaluationNode n).result).valid
-valid_of n =
-    ap is_valid (node_of_parts n) ∙ ap (λ s. is_valid (node_at (out-EvaluationNode n).schema_path.now (out-EvaluationNode n).instance_path s))
-    (parts_of_shown (out-EvaluationNode n).result) ∙ valid_of_parts _ _ _ _ _ _
+valid_of n = by_parts is_valid n ∙ valid_of_parts _ _ _ _ _ _
 
 pub errors_of : (n : EvaluationNode) → tree_errors (tree_of n) ≡ map described_of (out-EvaluationResult (out-EvaluationNode n).result).errors.items
-errors_of n =
-    ap tree_errors (node_of_parts n) ∙ ap (λ s. tree_errors (node_at (out-EvaluationNode n).schema_path.now (out-EvaluationNode n).instance_path s))
-    (parts_of_shown (out-EvaluationNode n).result) ∙ errors_of_parts _ _ _ _ _ _
+errors_of n = by_parts tree_errors n ∙ errors_of_parts _ _ _ _ _ _
 
 pub schema_path_of : (n : EvaluationNode) → tree_schema_path (tree_of n) ≡ (out-EvaluationNode n).schema_path.now
 schema_path_of n = ap tree_schema_path (node_of_parts n) ∙ schema_path_of_parts _ _ (shown_of (out-EvaluationNode n).result)

@@ -52,10 +52,8 @@ is_eq-compared x y = go (lt x y) (eq x y) (lt y x) (floats.eq-not_lt x y)
   where
     go : (a e b : Bool) → (T e → ¬ T a) → is_some_and is_eq (cond a (Some Less) (cond e (Some Equal) (cond b (Some Greater) None))) ≡ e
     go true true b f = absurd (f tt tt)
-    go true false b f = refl
-    go false true b f = refl
-    go false false true f = refl
     go false false false f = refl
+    go _ _ _ f = refl
 
 true_from_T : (b : Bool) → T b → b ≡ true
 true_from_T true t = refl

@@ -24,8 +24,7 @@ of_int-exact k h =
 -- a number is its whole quotient times the divisor just where nothing remains
 nothing_remains : (a c : ℕ) → nat_eq (a / c * c) a ≡ nat_eq (a % c) 0
 nothing_remains a c =
-    let parts : a / c * c + a % c ≡ a = div-add-mod' a c in
-    same_eq (a / c * c) a (a % c) 0 (λ h. omega (arith, h, parts)) (λ h. omega (arith, h, parts))
+    same_eq (a / c * c) a (a % c) 0 (λ h. omega (arith, h, div-add-mod' a c)) (λ h. omega (arith, h, div-add-mod' a c))
 
 -- a float of the value q is the same as m * 2 ^ e just where these are the same number
 eq_by_value : (y : Float) (q m : ℕ) (e : ℤ) → HasValue y false q 1 → eq y (fin false m e) ≡ nat_eq (q * down e) (m * up e)
@@ -85,9 +84,7 @@ multiple_small : (t : Bool) (m : ℕ) (e : ℤ) (w k : ℕ) → lt (fin false m 
 unfolding lt
 multiple_small t m e w k h i c =
     let room : m * up e < 2 ^ 64 * down e = omega (arith, ltb-true _ _ h) in
-    let parts : m * up e / down e * down e + (m * up e) % down e ≡ m * up e = div-add-mod' (m * up e) (down e) in
-    let none : (m * up e) % down e ≡ 0 = eqb-true _ _ i in
-    let all : m * up e / down e * down e ≡ m * up e = omega (arith, parts, none) in
+    let all : m * up e / down e * down e ≡ m * up e = omega (arith, div-add-mod' (m * up e) (down e), eqb-true _ _ i) in
     let product : w * down e ≡ m * up e = ap (λ j. j * down e) (to_unsigned-whole m e w h c) ∙ all in
     let scaled : (m * up e) % (k * down e) ≡ w % k * down e = ap (λ j. j % (k * down e)) (sym product) ∙ remainder_scaled w k (down e) (down_pos e) in
     let none_scaled : 0 * down e ≡ 0 = zero-mul (down e) in
@@ -111,8 +108,7 @@ multiple_past _ y k s h = refl
 
 multiples_are_whole : (a k d : ℕ) → a % (k * d) ≡ 0 → a % d ≡ 0
 multiples_are_whole a k d z =
-    let parts : a / (k * d) * (k * d) + a % (k * d) ≡ a = div-add-mod' a (k * d) in
-    let all : a / (k * d) * (k * d) ≡ a = omega (arith, parts, z) in
+    let all : a / (k * d) * (k * d) ≡ a = omega (arith, div-add-mod' a (k * d), z) in
     ap (λ j. j % d) (sym all ∙ sym (mul_assoc (a / (k * d)) k d)) ∙ mul-mod_left (a / (k * d) * k) d
 
 pub fraction_is_none : (x y : Float) (k : ℕ) → y ≡ float_with_sign false x → is_integral y ≡ false → false ≡ is_multiple_of x k

@@ -4,7 +4,7 @@ use Rattle.serde_json.specs.View.{view}
 use Rattle.olk_spec.proofs.Maps.{is_some-map}
 use Rattle.olk_paths.specs.Trails.{path_at}
 use Rattle.olk_tree.proofs.Lists.{next_at, past_end}
-use Rattle.olk_errors.proofs.Additional.{asked_member, unexpected, named_turn, pattern_turn, spoken_expected, rest_unexpected, spoken_end, rest_end}
+use Rattle.olk_errors.proofs.Additional.{asked_member, named_turn, pattern_turn, spoken_expected, rest_unexpected, spoken_end, rest_end}
 use Rattle.olk_errors.proofs.Sinks.{walks_left}
 use Rattle.olk_errors.proofs.additional_properties.walk_asked.Goals as goal
 

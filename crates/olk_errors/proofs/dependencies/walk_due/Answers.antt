@@ -1,6 +1,4 @@
 use Rattle.serde_json.specs.View.{members_view}
-use Rattle.olk_base.specs.Nodes.{data_of}
-use Rattle.olk_paths.specs.Trails.{path_at}
 use Rattle.olk_tree.specs.Maps.{named}
 use Rattle.olk_errors.proofs.Due.{due_of_walk}
 use Rattle.olk_errors.proofs.Loops.{walking_start, walking_turn, walking_end}
@@ -14,13 +12,13 @@ pub loop-dependency-preserved : goal.loop-dependency-preserved
 loop-dependency-preserved g c = walking_turn c.loop-dependency.invariant c.in-Some.ensures.steps c.in_ok-walk.ensures
 
 pub returns-in_err-walk : goal.returns-in_err-walk
-returns-in_err-walk g c = walks_same (due_of_walk g.N.Means.means g.N.Reports.first g.N.Reports.report c.args.ctx.now.answer (data_of c.args.object) (path_at c.args.trail.now)
+returns-in_err-walk g c = walks_same (due_of_walk g.N.Means.means g.N.Reports.first g.N.Reports.report c.args.ctx.now.answer _ _
     (members_view c.args.members.now.entries) c.requires (named c.args.dependencies.now) c.into_iter-dependency-iterator.ensures.into_iter_gives
     c.declared_members-dependency-items.ensures.by_names)
     (walks_left c.from_residual.ensures.0 (walking_turn c.loop-dependency.invariant c.in-Some.ensures.steps c.in_err-walk.ensures))
 
 pub returns : goal.returns
-returns g c = walks_same (due_of_walk g.N.Means.means g.N.Reports.first g.N.Reports.report c.args.ctx.now.answer (data_of c.args.object) (path_at c.args.trail.now)
+returns g c = walks_same (due_of_walk g.N.Means.means g.N.Reports.first g.N.Reports.report c.args.ctx.now.answer _ _
     (members_view c.args.members.now.entries) c.requires (named c.args.dependencies.now) c.into_iter-dependency-iterator.ensures.into_iter_gives
     c.declared_members-dependency-items.ensures.by_names)
     (walking_end c.loop-dependency.invariant c.in-None.ensures.steps)

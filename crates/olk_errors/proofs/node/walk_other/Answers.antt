@@ -18,5 +18,5 @@ returns-in-True g c = subst (λ b. Walks (Ok tt) c.args.sink.now c.args.sink.now
 pub returns-in-False : goal.returns-in-False
 returns-in-False g c = subst (λ b. Walks c.report.result c.args.sink.now c.report.new.self c.args.ctx.now c.args.ctx.now
     (of_body g.W.Means.means g.W.Reports.first g.W.Reports.report c.args.ctx.now.answer c.args.location.now b (data_of c.args.node) (path_at c.args.trail.now))) (sym c.in-False.is)
-    (walks_own (only_same c.args.ctx.now) (is_own FalseSchema (data_of c.args.node) c.args.location.now (path_at c.args.trail.now) {accepts = false} {case = true} refl refl refl
+    (walks_own (only_same c.args.ctx.now) (is_own FalseSchema _ c.args.location.now _ {accepts = false} {case = true} refl refl refl
     (like_at kind_of_false_schema itself refl refl)) c.report.ensures)

@@ -1,7 +1,6 @@
 use Rattle.std.proofs.Common.{ap}
 use Rattle.serde_json.specs.View.{members_view}
 use Rattle.olk_spec.specs.Schemas.{listed}
-use Rattle.olk_paths.specs.Trails.{path_at}
 use Rattle.olk_tree.proofs.Due.{name_next, no_name_next}
 use Rattle.olk_errors.proofs.Loops.{walking_from, walking_turn, walking_end}
 use Rattle.olk_errors.proofs.Patterns.{matched_of_walk}
@@ -16,12 +15,12 @@ loop-name-preserved g c = walking_turn c.loop-name.invariant (name_next c.in-Som
 
 pub returns-in_err-walk_if_matched : goal.returns-in_err-walk_if_matched
 returns-in_err-walk_if_matched g c = walks_same (matched_of_walk g.R.RegexEngine.answers g.R.RegexEngine.costs g.N.Means.means g.N.Reports.first g.N.Reports.report
-    c.args.ctx.now.answer (path_at c.args.trail.now)
+    c.args.ctx.now.answer _
     c.args.pattern.now c.args.subschema.now (members_view c.args.members.now.entries))
     (walks_left c.from_residual.ensures.0 (walking_turn c.loop-name.invariant (name_next c.in-Some.ensures.steps c.as_str.ensures.value) c.in_err-walk_if_matched.ensures))
 
 pub returns : goal.returns
 returns g c = walks_same (matched_of_walk g.R.RegexEngine.answers g.R.RegexEngine.costs g.N.Means.means g.N.Reports.first g.N.Reports.report c.args.ctx.now.answer
-    (path_at c.args.trail.now)
+    _
     c.args.pattern.now c.args.subschema.now (members_view c.args.members.now.entries))
     (walking_end c.loop-name.invariant (no_name_next c.in-None.ensures.steps.0))

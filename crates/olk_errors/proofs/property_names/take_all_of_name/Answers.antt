@@ -8,9 +8,7 @@ use Rattle.olk_paths.specs.Trails.{path_at}
 use Rattle.olk_reports.specs.Errors.{fault_of}
 use Rattle.olk_errors.proofs.Names.{names_told}
 use Rattle.olk_errors.proofs.Sinks.{ends_left, walks_nowhere}
-use Rattle.olk_errors.proofs.Telling.{nothing_left, telling_start, telling_turn, telling_like}
-use Rattle.olk_errors.proofs.Unexpected.{told}
-use Rattle.olk_errors.specs.Outcomes.{of_asked_name}
+use Rattle.olk_errors.proofs.Telling.{nothing_left, telling_start, telling_more, telling_stopped, telling_like}
 use Rattle.olk_errors.proofs.property_names.take_all_of_name.Goals as goal
 
 pub returns-in_err-errors : goal.returns-in_err-errors
@@ -23,8 +21,7 @@ pub loop-error-preserved : goal.loop-error-preserved
 loop-error-preserved g c =
     let next : into_iter_items c.loop-error.error-iterator ≡ c.in-Some.error ∷ into_iter_items c.next.new.self = c.in-Some.ensures.steps.0 in
     record {
-      told = telling_turn c.loop-error.invariant.told (of_asked_name g.N.Means.means g.N.Reports.first g.N.Reports.report c.args.ctx.now.answer c.args.subschema.now
-          (data_of c.args.object) (string_bytes c.args.name.now) (path_at c.args.trail.now)) next c.in_ok-take_wrapped.ensures;
+      told = telling_more c.loop-error.invariant.told next c.in_ok-take_wrapped.ensures;
       left = (let was = c.loop-error.invariant.left in
           let gone = c.in-Some.ensures.steps.1 in
           let short = ap length next in
@@ -34,8 +31,7 @@ loop-error-preserved g c =
 pub returns-in_err-take_wrapped : goal.returns-in_err-take_wrapped
 returns-in_err-take_wrapped g c = record {
   ends = ends_left c.from_residual-in_err-take_wrapped.ensures.0
-      (telling_turn c.loop-error.invariant.told (of_asked_name g.N.Means.means g.N.Reports.first g.N.Reports.report c.args.ctx.now.answer c.args.subschema.now
-      (data_of c.args.object) (string_bytes c.args.name.now) (path_at c.args.trail.now)) c.in-Some.ensures.steps.0 c.in_err-take_wrapped.ensures).so;
+      (telling_stopped c.loop-error.invariant.told c.in-Some.ensures.steps.0 c.in_err-take_wrapped.ensures);
   only = c.errors_of.ensures.context;
 }
 
@@ -45,8 +41,7 @@ returns g c =
     (sym c.loop-error.invariant.left ∙ c.in-None.ensures.steps.0) in
     let all : into_iter_items c.into_iter-error-iterator.result ≡ c.in_ok-errors.errors.items = search rules in
     record {
-      ends = telling_like c.loop-error.invariant.told (of_asked_name g.N.Means.means g.N.Reports.first g.N.Reports.report c.args.ctx.now.answer c.args.subschema.now
-          (data_of c.args.object) (string_bytes c.args.name.now) (path_at c.args.trail.now))
+      ends = telling_like c.loop-error.invariant.told
           (subst (λ l. map (λ e. wrapped (data_of c.args.object) (path_at c.args.trail.now) (fault_of e)) l
           ∼ map (wrapped (data_of c.args.object) (path_at c.args.trail.now))
           (g.N.Reports.report c.args.subschema.now c.args.ctx.now.answer (string (string_bytes c.args.name.now)) (path_at c.args.trail.now))) (sym all)

@@ -1,8 +1,6 @@
 use Rattle.std.proofs.Common.{refl, ap}
 use Rattle.serde_json.specs.View.{members_view}
-use Rattle.olk_base.specs.Nodes.{data_of}
 use Rattle.olk_spec.specs.Schemas.{listed}
-use Rattle.olk_paths.specs.Trails.{path_at}
 use Rattle.olk_tree.proofs.Due.{name_next, no_name_next}
 use Rattle.olk_errors.proofs.Loops.{walking_from, walking_turn, walking_end}
 use Rattle.olk_errors.proofs.Names.{names_of_walk}
@@ -16,11 +14,11 @@ pub loop-name-preserved : goal.loop-name-preserved
 loop-name-preserved g c = walking_turn c.loop-name.invariant (name_next c.in-Some.ensures.steps refl) c.in_ok-walk_name.ensures
 
 pub returns-in_err-walk_name : goal.returns-in_err-walk_name
-returns-in_err-walk_name g c = walks_same (names_of_walk (data_of c.args.object) (path_at c.args.trail.now) g.N.Means.means g.N.Reports.first g.N.Reports.report
+returns-in_err-walk_name g c = walks_same (names_of_walk _ _ g.N.Means.means g.N.Reports.first g.N.Reports.report
     c.args.ctx.now.answer c.args.subschema.now (members_view c.args.members.now.entries) c.requires)
     (walks_left c.from_residual.ensures.0 (walking_turn c.loop-name.invariant (name_next c.in-Some.ensures.steps refl) c.in_err-walk_name.ensures))
 
 pub returns : goal.returns
-returns g c = walks_same (names_of_walk (data_of c.args.object) (path_at c.args.trail.now) g.N.Means.means g.N.Reports.first g.N.Reports.report
+returns g c = walks_same (names_of_walk _ _ g.N.Means.means g.N.Reports.first g.N.Reports.report
     c.args.ctx.now.answer c.args.subschema.now (members_view c.args.members.now.entries) c.requires)
     (walking_end c.loop-name.invariant (no_name_next c.in-None.ensures.steps.0))

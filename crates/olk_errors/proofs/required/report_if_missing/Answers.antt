@@ -1,15 +1,13 @@
 use Rattle.std.proofs.Common.{refl}
 use Rattle.serde_json.specs.View.{members_view}
-use Rattle.olk_base.specs.Nodes.{data_of}
-use Rattle.olk_paths.specs.Trails.{path_at}
 use Rattle.olk_errors.proofs.Missing.{there_past, lacked_own}
 use Rattle.olk_errors.proofs.Own.{ends_own}
 use Rattle.olk_errors.proofs.required.report_if_missing.Goals as goal
 
 pub returns-then-is_present : goal.returns-then-is_present
-returns-then-is_present c = there_past (members_view c.args.members.now.entries) (data_of c.args.node) c.requires c.args.name.now c.is_present.ensures c.args.location.now
-    (path_at c.args.trail.now) c.if-is_present.true
+returns-then-is_present c = there_past (members_view c.args.members.now.entries) _ c.requires c.args.name.now c.is_present.ensures c.args.location.now
+    _ c.if-is_present.true
 
 pub returns : goal.returns
-returns c = ends_own (lacked_own (members_view c.args.members.now.entries) (data_of c.args.node) c.requires c.args.name.now c.is_present.ensures c.args.location.now
-    (path_at c.args.trail.now) c.if-is_present.false refl) c.report_absent.ensures
+returns c = ends_own (lacked_own (members_view c.args.members.now.entries) _ c.requires c.args.name.now c.is_present.ensures c.args.location.now
+    _ c.if-is_present.false refl) c.report_absent.ensures

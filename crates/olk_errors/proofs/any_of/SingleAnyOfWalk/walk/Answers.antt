@@ -1,6 +1,5 @@
 use Rattle.std.proofs.Common.{not, [], ◌∷◌, sym, ap, subst}
 use Rattle.olk_base.specs.Nodes.{data_of}
-use Rattle.olk_spec.specs.Faults.{AnyOf, context}
 use Rattle.olk_paths.specs.Trails.{path_at}
 use Rattle.olk_reports.proofs.Errors.{context_faults, kind_of_any_of}
 use Rattle.olk_check.proofs.Asked.{only_then}
@@ -11,8 +10,8 @@ use Rattle.olk_errors.proofs.any_of.SingleAnyOfWalk.walk.Goals as goal
 
 pub returns-then-is_valid : goal.returns-then-is_valid
 returns-then-is_valid g c = let accepted = sym c.if-is_valid.ensures.verdict in
-    own_past (AnyOf (context (g.N.Reports.report c.args.self.now.node c.args.ctx.now.answer (data_of c.args.node) (path_at c.args.trail.now) ∷ [])))
-    (data_of c.args.node) c.args.self.now.location (path_at c.args.trail.now) c.if-is_valid.ensures.only accepted (ap not accepted)
+    own_past _
+    _ c.args.self.now.location _ c.if-is_valid.ensures.only accepted (ap not accepted)
 
 pub returns-in_err-context : goal.returns-in_err-context
 returns-in_err-context g c = walks_nowhere c.from_residual.ensures.0 (only_then c.if-is_valid.ensures.only c.one_context.ensures.context)
@@ -22,5 +21,5 @@ returns g c =
     let alike = subst (λ u. AreLike (context_faults c.in_ok-context.context) (g.N.Reports.report c.args.self.now.node u (data_of c.args.node) (path_at c.args.trail.now) ∷ []))
     c.if-is_valid.ensures.only.answer c.in_ok-context.ensures.contexts in
     walks_own (only_then c.if-is_valid.ensures.only c.one_context.ensures.context)
-    (any_of_own (context_faults c.in_ok-context.context) _ alike (data_of c.args.node) c.as_str.ensures (sym c.if-is_valid.ensures.verdict)
+    (any_of_own (context_faults c.in_ok-context.context) _ alike _ c.as_str.ensures (sym c.if-is_valid.ensures.verdict)
     (kind_of_any_of c.in_ok-context.context)) c.report.ensures

@@ -1,5 +1,4 @@
 use Rattle.olk_base.specs.Nodes.{data_of}
-use Rattle.olk_paths.specs.Trails.{path_at}
 use Rattle.olk_tree.proofs.Due.{none_due}
 use Rattle.olk_tree.specs.Maps.{named}
 use Rattle.olk_check.proofs.Asked.{only_same}
@@ -7,5 +6,5 @@ use Rattle.olk_errors.proofs.Due.{past_none}
 use Rattle.olk_errors.proofs.dependencies.DependenciesWalk.walk.Goals as goal
 
 pub returns-in-None : goal.returns-in-None
-returns-in-None g c = past_none g.N.Means.means g.N.Reports.first g.N.Reports.report c.args.ctx.now.answer (data_of c.args.node) (path_at c.args.trail.now)
+returns-in-None g c = past_none g.N.Means.means g.N.Reports.first g.N.Reports.report c.args.ctx.now.answer _ _
     (only_same c.args.ctx.now) (none_due (data_of c.args.node) c.in-None.ensures (named c.args.self.now.dependencies))

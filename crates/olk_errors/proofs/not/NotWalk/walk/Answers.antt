@@ -1,17 +1,15 @@
 use Rattle.std.proofs.Common.{not, refl, sym, ap}
 use Rattle.serde_json.specs.View.{view}
-use Rattle.olk_base.specs.Nodes.{data_of}
 use Rattle.olk_spec.specs.Faults.{itself, Not}
-use Rattle.olk_paths.specs.Trails.{path_at}
 use Rattle.olk_reports.proofs.Errors.{kind_of_not}
 use Rattle.olk_errors.proofs.Own.{like_at, walks_own, own_past, is_own}
 use Rattle.olk_errors.proofs.not.NotWalk.walk.Goals as goal
 
 pub returns-then-not-is_valid : goal.returns-then-not-is_valid
 returns-then-not-is_valid g c = let refused = sym c.if-not-is_valid.ensures.verdict in
-    own_past (Not (view c.args.self.now.original)) (data_of c.args.node) c.args.self.now.location (path_at c.args.trail.now) c.if-not-is_valid.ensures.only (ap not refused) refused
+    own_past _ _ c.args.self.now.location _ c.if-not-is_valid.ensures.only (ap not refused) refused
 
 pub returns : goal.returns
 returns g c = let accepted = sym c.if-not-is_valid.ensures.verdict in
-    walks_own c.if-not-is_valid.ensures.only (is_own (Not (view c.args.self.now.original)) (data_of c.args.node) c.args.self.now.location (path_at c.args.trail.now)
+    walks_own c.if-not-is_valid.ensures.only (is_own (Not (view c.args.self.now.original)) _ c.args.self.now.location _
     (ap not accepted) accepted refl (like_at (kind_of_not _) itself refl c.as_str.ensures)) c.report.ensures

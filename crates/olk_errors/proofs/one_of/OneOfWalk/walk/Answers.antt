@@ -1,7 +1,3 @@
-use Rattle.std.proofs.Common.{map}
-use Rattle.olk_base.specs.Nodes.{data_of}
-use Rattle.olk_paths.specs.Trails.{path_at}
-use Rattle.olk_tree.specs.Questions.{how_many}
 use Rattle.olk_errors.proofs.OneOf.{one_of_own, one_of_nothing}
 use Rattle.olk_errors.proofs.Own.{walks_own}
 use Rattle.olk_errors.proofs.Sinks.{walks_past, walks_nowhere}
@@ -12,12 +8,12 @@ returns-in_err-kind g c = walks_nowhere c.from_residual.ensures.0 c.one_of_kind.
 
 pub returns-in-Some : goal.returns-in-Some
 returns-in-Some g c = walks_own c.one_of_kind.ensures.context
-    (one_of_own (how_many (λ n. g.N.Means.means n (data_of c.args.node)) c.args.ctx.now.answer c.args.self.now.schemas.items)
-    (map (λ n. g.N.Reports.report n c.args.ctx.now.answer (data_of c.args.node) (path_at c.args.trail.now)) c.args.self.now.schemas.items)
-    (data_of c.args.node) c.args.self.now.location (path_at c.args.trail.now) c.in-Some.is c.in_ok-kind.ensures.kind c.as_str.ensures) c.report.ensures
+    (one_of_own _
+    _
+    _ c.args.self.now.location _ c.in-Some.is c.in_ok-kind.ensures.kind c.as_str.ensures) c.report.ensures
 
 pub returns-in-None : goal.returns-in-None
 returns-in-None g c = walks_past c.one_of_kind.ensures.context
-    (one_of_nothing (how_many (λ n. g.N.Means.means n (data_of c.args.node)) c.args.ctx.now.answer c.args.self.now.schemas.items)
-    (map (λ n. g.N.Reports.report n c.args.ctx.now.answer (data_of c.args.node) (path_at c.args.trail.now)) c.args.self.now.schemas.items)
-    (data_of c.args.node) c.args.self.now.location (path_at c.args.trail.now) c.in-None.is c.in_ok-kind.ensures.kind)
+    (one_of_nothing _
+    _
+    _ c.args.self.now.location _ c.in-None.is c.in_ok-kind.ensures.kind)

@@ -1,5 +1,3 @@
-use Rattle.olk_base.specs.Nodes.{data_of}
-use Rattle.olk_paths.specs.Trails.{path_at}
 use Rattle.olk_check.proofs.Asked.{only_same}
 use Rattle.olk_errors.proofs.Patterns.{other_matched}
 use Rattle.olk_errors.proofs.Sinks.{walks_past}
@@ -7,5 +5,5 @@ use Rattle.olk_errors.proofs.pattern_properties.SingleValuePatternPropertiesWalk
 
 pub returns-in-None : goal.returns-in-None
 returns-in-None g c = walks_past (only_same c.args.ctx.now)
-    (other_matched g.R.RegexEngine.answers g.R.RegexEngine.costs g.N.Means.means g.N.Reports.first g.N.Reports.report c.args.ctx.now.answer (path_at c.args.trail.now)
-    (data_of c.args.node) c.in-None.ensures c.args.self.now.regex c.args.self.now.node)
+    (other_matched g.R.RegexEngine.answers g.R.RegexEngine.costs g.N.Means.means g.N.Reports.first g.N.Reports.report c.args.ctx.now.answer _
+    _ c.in-None.ensures c.args.self.now.regex c.args.self.now.node)

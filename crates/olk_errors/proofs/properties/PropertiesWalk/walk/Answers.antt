@@ -1,5 +1,3 @@
-use Rattle.olk_base.specs.Nodes.{data_of}
-use Rattle.olk_paths.specs.Trails.{path_at}
 use Rattle.olk_tree.specs.Maps.{mapped}
 use Rattle.olk_check.proofs.Asked.{only_same}
 use Rattle.olk_errors.proofs.Members.{other_unasked}
@@ -8,5 +6,5 @@ use Rattle.olk_errors.proofs.properties.PropertiesWalk.walk.Goals as goal
 
 pub returns-in-None : goal.returns-in-None
 returns-in-None g c = walks_past (only_same c.args.ctx.now)
-    (other_unasked g.N.Means.means g.N.Reports.first g.N.Reports.report c.args.ctx.now.answer (mapped c.args.self.now.properties) (path_at c.args.trail.now)
-    (data_of c.args.node) c.in-None.ensures)
+    (other_unasked g.N.Means.means g.N.Reports.first g.N.Reports.report c.args.ctx.now.answer (mapped c.args.self.now.properties) _
+    _ c.in-None.ensures)

@@ -1,16 +1,14 @@
 use Rattle.std.proofs.Common.{not, refl, sym, ap}
-use Rattle.olk_base.specs.Nodes.{data_of}
 use Rattle.olk_spec.specs.Faults.{itself, FalseSchema}
-use Rattle.olk_paths.specs.Trails.{path_at}
 use Rattle.olk_reports.proofs.Errors.{kind_of_false_schema}
 use Rattle.olk_errors.proofs.Own.{like_at, walks_own, own_past, is_own}
 use Rattle.olk_errors.proofs.property_names.PropertyNamesFalseWalk.walk.Goals as goal
 
 pub returns-then-is_valid : goal.returns-then-is_valid
 returns-then-is_valid c = let accepted = sym c.if-is_valid.ensures.verdict in
-    own_past FalseSchema (data_of c.args.node) c.args.self.now.location (path_at c.args.trail.now) c.if-is_valid.ensures.only accepted (ap not accepted)
+    own_past FalseSchema _ c.args.self.now.location _ c.if-is_valid.ensures.only accepted (ap not accepted)
 
 pub returns : goal.returns
 returns c = let refused = sym c.if-is_valid.ensures.verdict in
-    walks_own c.if-is_valid.ensures.only (is_own FalseSchema (data_of c.args.node) c.args.self.now.location (path_at c.args.trail.now)
+    walks_own c.if-is_valid.ensures.only (is_own FalseSchema _ c.args.self.now.location _
     refused (ap not refused) refl (like_at kind_of_false_schema itself refl c.as_str.ensures)) c.report.ensures

@@ -1,5 +1,3 @@
-use Rattle.olk_base.specs.Nodes.{data_of}
-use Rattle.olk_paths.specs.Trails.{path_at}
 use Rattle.olk_tree.specs.Maps.{texts_of}
 use Rattle.olk_check.proofs.Asked.{only_same}
 use Rattle.olk_errors.proofs.Missing.{other_lacks_nothing}
@@ -8,4 +6,4 @@ use Rattle.olk_errors.proofs.required.RequiredValidatorWalk.walk.Goals as goal
 
 pub returns-in-None : goal.returns-in-None
 returns-in-None c = walks_past (only_same c.args._ctx.now)
-    (other_lacks_nothing (texts_of c.args.self.now.required.items) (data_of c.args.node) c.args.self.now.location (path_at c.args.trail.now) c.in-None.ensures)
+    (other_lacks_nothing (texts_of c.args.self.now.required.items) _ c.args.self.now.location _ c.in-None.ensures)
