@@ -1,10 +1,10 @@
 -- What is built so far, and one more.
-use Rattle.std.specs.Prelude.{◌≡◌, ◌<◌, ◌≤◌, ◌+◌, ℕ, Bool, true, false, List, [], ◌∷◌, ◌++◌, map, drop, length, decimal, slice_index_or as get_or, Vec}
+use Rattle.std.specs.Prelude.{◌≡◌, ◌<◌, ◌≤◌, ◌+◌, ℕ, Bool, true, false, List, [], ◌∷◌, ◌++◌, map, drop, length, decimal, slice_index_or as get_or, Vec, String, string_bytes}
 use Rattle.std.specs.List.{flat_map, enumerate_from}
 use Rattle.std.proofs.Common.{refl, sym, ◌∙◌, ap, subst, arith, true≢false}
 use Rattle.std.proofs.lemmas.List.{append-nil, append_assoc, drop_more, drop_all}
 use Rattle.serde_json.specs.Data.{Data, boolean, object, Members}
-use Rattle.serde_json.specs.View.{view}
+use Rattle.serde_json.specs.View.{view, members_view}
 use Rattle.serde_json.specs.declared.value.Value.{Value}
 use Rattle.olk_spec.specs.Names.{Name, Path, ◌//◌, put_if}
 use Rattle.olk_spec.specs.Faults.{Fault, fault, MultipleTypes, like_through}
@@ -28,7 +28,7 @@ use Rattle.std.specs.declared.alloc.Global.{Global}
 use Rattle.olk_spec.specs.World.{World}
 use Rattle.olk_read.specs.Refusing.{Spends, TellsOneOf, Refuses}
 use Rattle.olk_make.specs.Holding.{all_malformed, StandEach, StandInner}
-use Rattle.olk_build.specs.Building.{IsBuilt, AreBuilt, InnerAreBuilt, RefusesSchema, RefusesEach, RefusesInner, no_lists, entries_read, is_read, each_malformed, each_cost, all_cost}
+use Rattle.olk_build.specs.Building.{IsBuilt, ObjectIsBuilt, RefusesObject, AreBuilt, InnerAreBuilt, RefusesSchema, RefusesEach, RefusesInner, no_lists, entries_read, is_read, each_malformed, each_cost, all_cost}
 use Rattle.olk_build.specs.Placing.{PlacesAreBuilt, RefusesPlaces}
 use Rattle.olk_read.proofs.SoFar.{SoFar, none_so_far, all_so_far, memory_so_far, refused_so_far, one_more_so_far, memory_past}
 use Rattle.olk_read.specs.declared.shape.ReadPlaces.TheVariants.{Entries}
@@ -38,6 +38,13 @@ use Rattle.olk_tree.specs.declared.node.Body.{Body}
 use Rattle.olk_tree.specs.declared.node.Body.TheVariants.{True, False, Keywords}
 use Rattle.olk_read.proofs.Spending.{spends_append, spends_same, spends_place, within_after, within_same, within_exactly, tells_same}
 use Rattle.olk_meaning.proofs.Objects.{IsNoSchema, no_schema_malformed, no_schema_cost, object_accepts, object_asks, object_report, object_tree, object_malformed, object_cost}
+
+-- a place below another, under a name
+pub below : (P : Path) {L : Path} {m n : Name} → L ≡ P // m → m ≡ n → L ≡ P // n
+below P e f = e ∙ ap (λ k. P // k) f
+
+pub listed_alike : {xs ys : List (String Global × Value)} → xs ≡ ys → listed (members_view xs) ≡ listed (members_view ys)
+listed_alike e = ap (λ l. listed (members_view l)) e
 
 abbrev pub truth_body : {W : Type 0} → Bool → Body W
 truth_body true = True
@@ -53,75 +60,74 @@ abbrev pub branches_from : ℕ → List Value → List (Name × Data)
 branches_from i vs = numbered_from i (map view (drop i vs))
 
 module _ (i : ℕ) (vs : List Value) where
-  pub next_branch : (v : Value) → i < length vs → v ≡ get_or vs i v → branches_from i vs ≡ (decimal i, view v) ∷ branches_from (i + 1) vs
-  next_branch v l e = ap (λ xs. numbered_from i (map view xs)) (drop_more vs i v l ∙ ap (λ w. w ∷ drop (i + 1) vs) (sym e))
+  pub next_branch : {v : Value} → i < length vs → v ≡ get_or vs i v → branches_from i vs ≡ (decimal i, view v) ∷ branches_from (i + 1) vs
+  next_branch {v} l e = ap (λ xs. numbered_from i (map view xs)) (drop_more vs i v l ∙ ap (λ w. w ∷ drop (i + 1) vs) (sym e))
 
   pub no_branch : length vs ≤ i → branches_from i vs ≡ []
   no_branch l = ap (λ xs. numbered_from i (map view xs)) (drop_all i vs l)
 
 -- ---- no schema, and an object
 
-pub refuses_no_schema : (W : World) (d : Data) (P : Path) (a b : Counts) (e : BuildError) → IsNoSchema d → b ≡ count_compiled a
-    → TellsOneOf (fault MultipleTypes d [] P ∷ []) e → Refuses (malformations_at W d P) (cost W d) a b e
-refuses_no_schema W d P a b e h c t = record {
-  tells = tells_same (sym (no_schema_malformed W d P h)) e t;
-  spends = within_same (sym (no_schema_cost W d h)) (within_exactly (spends_place a b c));
-}
+module _ (W : World) (P : Path) {a b : Counts} {e : BuildError} where
+  pub refuses_no_schema : (d : Data) → IsNoSchema d → b ≡ count_compiled a → TellsOneOf (fault MultipleTypes d [] P ∷ []) e → Refuses (malformations_at W d P) (cost W d) a b e
+  refuses_no_schema d h c t = record {
+    tells = tells_same (sym (no_schema_malformed W d P h)) e t;
+    spends = within_same (sym (no_schema_cost W d h)) (within_exactly (spends_place a b c));
+  }
 
-pub refuses_object : (W : World) (ms : Members) (d : Data) (P : Path) (a m b : Counts) (e : BuildError) → d ≡ object ms → m ≡ count_compiled a
-    → Refuses (flat_map (λ k. member_malformations W ms k (keyword_named W k.0) P) (listed ms)) (total_cost (λ k. member_cost W ms k (keyword_named W k.0)) (listed ms)) m b e
-    → Refuses (malformations_at W d P) (cost W d) a b e
-refuses_object W ms d P a m b e p c r = subst (λ x. Refuses (malformations_at W x P) (cost W x) a b e) (sym p) record {
-  tells = tells_same (sym (object_malformed W ms P)) e r.tells;
-  spends = within_same (sym (object_cost W ms)) (within_after a m b one_place _ (spends_place a m c) r.spends);
-}
+module _ {K R : Type 0} (o : Kit K R) (ms : Members) (P : Path) {a m b : Counts} {e : BuildError} where
+  pub refuses_object : m ≡ count_compiled a → RefusesObject o ms P m b e → RefusesSchema o (object ms) P a b e
+  refuses_object c r = record {
+    tells = tells_same (sym (object_malformed o.world ms P)) e r.tells;
+    spends = within_same (sym (object_cost o.world ms)) (within_after a m b one_place _ (spends_place a m c) r.spends);
+  }
+
+-- ---- a node
+
+module _ {K R N : Type 0} {o : Kit K R} {answers : N → Answers} {n : N} {P : Path} {a m : Counts} (c : m ≡ count_compiled a) where
+  pub built_truth : {d : Data} (t : Bool) → AnswersBy o answers P (truth_body t) n → d ≡ boolean t → IsBuilt o answers n d P a m
+  unfolding meaning malformations_at cost
+  built_truth true is e = rw e record {
+    stands = record {
+      verdict = λ u v. ap (λ q. q.accepts u) (is.verdict v);
+      asks_within = λ u v. let q = ap (λ q. q.asks u) (is.verdict v) in omega (arith, q);
+      faults = λ u v Q. ∼_same (is.faults u v Q);
+      evaluation = is.evaluation;
+      place = is.place;
+      formed = is.formed;
+    };
+    clean = refl;
+    spends = spends_place a m c;
+  }
+  built_truth false is e = rw e record {
+    stands = record {
+      verdict = λ u v. ap (λ q. q.accepts u) (is.verdict v);
+      asks_within = λ u v. let q = ap (λ q. q.asks u) (is.verdict v) in omega (arith, q);
+      faults = λ u v Q. ∼_same (is.faults u v Q);
+      evaluation = is.evaluation;
+      place = is.place;
+      formed = is.formed;
+    };
+    clean = refl;
+    spends = spends_place a m c;
+  }
+
+  pub built_object : {ms : Members} {ks : Vec (KeywordOver K R N) Global} {z : Counts} → AnswersBy o answers P (Keywords ks) n → ObjectIsBuilt o ms answers ks.items P m z
+      → IsBuilt o answers n (object ms) P a z
+  built_object {ms} {z = z} is h = record {
+    stands = record {
+      verdict = λ u v. ap (λ q. q.accepts u) (is.verdict v) ∙ h.mean.covers.verdict u v ∙ sym (object_accepts o.world ms u v);
+      asks_within = λ u v. let q = ap (λ q. q.asks u) (is.verdict v) in let r = h.mean.covers.asks_within u v in let t = object_asks o.world ms u v in omega (arith, q, r, t);
+      faults = λ u v Q. like_through (∼_same (is.faults u v Q)) (like_through (h.mean.covers.faults u v Q) (∼_same (sym (object_report o.world ms u v P Q))));
+      evaluation = λ u v Q. is.evaluation u v Q ∙ ap (plain P Q) (h.mean.shows h.clean u v Q) ∙ sym (object_tree o.world ms u v P Q);
+      place = is.place;
+      formed = is.formed ∙ h.mean.formed;
+    };
+    clean = object_malformed o.world ms P ∙ h.clean;
+    spends = spends_same a z _ _ (sym (object_cost o.world ms)) (spends_append a m z one_place _ (spends_place a m c) h.spends);
+  }
 
 module _ {K R N : Type 0} (o : Kit K R) (answers : N → Answers) where
-  -- ---- a node
-
-  module _ (n : N) (P : Path) (d : Data) (a m : Counts) (c : m ≡ count_compiled a) where
-    pub built_truth : (t : Bool) → AnswersBy o answers P (truth_body t) n → d ≡ boolean t → IsBuilt o answers n d P a m
-    unfolding meaning malformations_at cost
-    built_truth true is e = subst (λ x. IsBuilt o answers n x P a m) (sym e) record {
-      stands = record {
-        verdict = λ u v. ap (λ q. q.accepts u) (is.verdict v);
-        asks_within = λ u v. let q = ap (λ q. q.asks u) (is.verdict v) in omega (arith, q);
-        faults = λ u v Q. ∼_same (is.faults u v Q);
-        evaluation = is.evaluation;
-        place = is.place;
-        formed = is.formed;
-      };
-      clean = refl;
-      spends = spends_place a m c;
-    }
-    built_truth false is e = subst (λ x. IsBuilt o answers n x P a m) (sym e) record {
-      stands = record {
-        verdict = λ u v. ap (λ q. q.accepts u) (is.verdict v);
-        asks_within = λ u v. let q = ap (λ q. q.asks u) (is.verdict v) in omega (arith, q);
-        faults = λ u v Q. ∼_same (is.faults u v Q);
-        evaluation = is.evaluation;
-        place = is.place;
-        formed = is.formed;
-      };
-      clean = refl;
-      spends = spends_place a m c;
-    }
-
-    pub built_object : (ms : Members) (ks : Vec (KeywordOver K R N) Global) (z : Counts) → AnswersBy o answers P (Keywords ks) n → d ≡ object ms
-        → KeywordsMean o answers ms ks.items (listed ms) (listed ms) P → all_malformed o ms P (listed ms) ≡ [] → Spends m z (all_cost o ms (listed ms)) → IsBuilt o answers n d P a z
-    built_object ms ks z is e h clean spent = subst (λ x. IsBuilt o answers n x P a z) (sym e) record {
-      stands = record {
-        verdict = λ u v. ap (λ q. q.accepts u) (is.verdict v) ∙ h.covers.verdict u v ∙ sym (object_accepts o.world ms u v);
-        asks_within = λ u v. let q = ap (λ q. q.asks u) (is.verdict v) in let r = h.covers.asks_within u v in let t = object_asks o.world ms u v in omega (arith, q, r, t);
-        faults = λ u v Q. like_through (∼_same (is.faults u v Q)) (like_through (h.covers.faults u v Q) (∼_same (sym (object_report o.world ms u v P Q))));
-        evaluation = λ u v Q. is.evaluation u v Q ∙ ap (plain P Q) (h.shows clean u v Q) ∙ sym (object_tree o.world ms u v P Q);
-        place = is.place;
-        formed = is.formed ∙ h.formed;
-      };
-      clean = object_malformed o.world ms P ∙ clean;
-      spends = spends_same a z _ (cost o.world (object ms)) (sym (object_cost o.world ms)) (spends_append a m z one_place _ (spends_place a m c) spent);
-    }
-
   -- ---- nodes for schemas under names
 
   each_push : (P : Path) (ns : List N) (es : List (Name × Data)) (n : N) (e : Name × Data) → StandEach o answers ns es P → Stands o answers n e.1 (P // e.0)
@@ -164,58 +170,54 @@ module _ {K R N : Type 0} (o : Kit K R) (answers : N → Answers) where
   pub record InnerSoFar (P : Path) (all : List (Name × Data)) (a : Counts) (ns : List N) (left : List (Name × Data)) (m : Counts) : Type 0 where
     pub so_far : SoFar (inner_wrong P) inner_costs (inner_stand P) all a ns left m
 
-module _ {K R N : Type 0} {o : Kit K R} {answers : N → Answers} {P : Path} {all : List (Name × Data)} {a : Counts} where
-  pub no_entries : {ns : List N} {left : List (Name × Data)} → ns ≡ [] → left ≡ all → EntriesSoFar o answers P all a ns left a
-  no_entries {ns} {left} e w = record { so_far = none_so_far _ _ (entries_stand o answers P) all a ns left (subst (λ x. StandEach o answers x [] P) (sym e) tt) w }
+module _ {K R N : Type 0} {o : Kit K R} {answers : N → Answers} {P : Path} {all : List (Name × Data)} {a : Counts} {ns : List N} {left : List (Name × Data)} where
+  pub no_entries : ns ≡ [] → left ≡ all → EntriesSoFar o answers P all a ns left a
+  no_entries e w = record { so_far = none_so_far (rw e tt) w }
 
-  module _ {ns : List N} {left : List (Name × Data)} {m : Counts} (h : EntriesSoFar o answers P all a ns left m) where
+  module _ {m : Counts} (h : EntriesSoFar o answers P all a ns left m) where
     pub entries_built : left ≡ [] → AreBuilt o answers ns all P a m
-    entries_built e = let r = all_so_far _ _ (entries_stand o answers P) all a ns left m e h.so_far in record { stand = r.stand; clean = r.clean; spends = r.spends }
+    entries_built e = let r = all_so_far h.so_far e in record { stand = r.stand; clean = r.clean; spends = r.spends }
 
     pub entries_memory : {w : AllocError} (e : BuildError) → e ≡ Memory w → RefusesEach o all P a m e
-    entries_memory e q = memory_so_far _ _ (entries_stand o answers P) all a ns left m e q h.so_far
+    entries_memory e q = memory_so_far h.so_far e q
 
     module _ {x : Name × Data} {rest : List (Name × Data)} (next : left ≡ x ∷ rest) {L : Path} (place : L ≡ P // x.0) {b : Counts} where
-      pub entry_refused : {f : BuildError} → RefusesSchema o x.1 L m b f → (e : BuildError) → e ≡ f → RefusesEach o all P a b e
-      entry_refused r e q = refused_so_far _ _ (entries_stand o answers P) all a x left rest next ns m b e h.so_far (subst₂ (λ M y. RefusesSchema o x.1 M m b y) place (sym q) r)
+      pub entry_refused : {e : BuildError} → RefusesSchema o x.1 L m b e → RefusesEach o all P a b e
+      entry_refused r = refused_so_far h.so_far next (rw (← place) r)
 
       module _ {n : N} (built : IsBuilt o answers n x.1 L m b) where
         pub one_more_entry : {new : List N} → new ≡ ns ++ n ∷ [] → EntriesSoFar o answers P all a new rest b
-        one_more_entry {new} q = record {
-          so_far = one_more_so_far _ _ (entries_stand o answers P) all a x left rest next ns new m b h.so_far
-              (subst (λ y. StandEach o answers y (h.so_far.done ++ x ∷ []) P) (sym q) (each_push o answers P ns h.so_far.done n x h.so_far.built.stand (subst
-              (Stands o answers n x.1) place built.stands)))
-              (ap (malformations_at o.world x.1) (sym place) ∙ built.clean) built.spends;
+        one_more_entry q = record {
+          so_far = one_more_so_far h.so_far next built.spends
+              (rw q (each_push o answers P ns h.so_far.done n x h.so_far.built.stand (rw (← place) built.stands))) (rw (← place) built.clean);
         }
 
         pub entry_memory : {w : AllocError} (e : BuildError) → e ≡ Memory w → RefusesEach o all P a b e
-        entry_memory e q = memory_past _ _ (entries_stand o answers P) all a x left rest next ns m b e q h.so_far built.spends
+        entry_memory e q = memory_past h.so_far next built.spends e q
 
-  pub no_inner : {ns : List N} {left : List (Name × Data)} → ns ≡ [] → left ≡ all → InnerSoFar o answers P all a ns left a
-  no_inner {ns} {left} e w = record { so_far = none_so_far _ _ (inner_stand o answers P) all a ns left e w }
+  pub no_inner : ns ≡ [] → left ≡ all → InnerSoFar o answers P all a ns left a
+  no_inner e w = record { so_far = none_so_far e w }
 
-  module _ {ns : List N} {left : List (Name × Data)} {m : Counts} (h : InnerSoFar o answers P all a ns left m) where
+  module _ {m : Counts} (h : InnerSoFar o answers P all a ns left m) where
     pub inner_built : left ≡ [] → InnerAreBuilt o answers ns all P a m
-    inner_built e = let r = all_so_far _ _ (inner_stand o answers P) all a ns left m e h.so_far in record { stand = r.stand; clean = r.clean; spends = r.spends }
+    inner_built e = let r = all_so_far h.so_far e in record { stand = r.stand; clean = r.clean; spends = r.spends }
 
     pub inner_memory : {w : AllocError} (e : BuildError) → e ≡ Memory w → RefusesInner o all P a m e
-    inner_memory e q = memory_so_far _ _ (inner_stand o answers P) all a ns left m e q h.so_far
+    inner_memory e q = memory_so_far h.so_far e q
 
     module _ {x : Name × Data} {rest : List (Name × Data)} (next : left ≡ x ∷ rest) {L : Path} (place : L ≡ P // x.0) {b : Counts} where
-      pub inner_refused : {f : BuildError} → RefusesPlaces o Entries x.1 L m b f → (e : BuildError) → e ≡ f → RefusesInner o all P a b e
-      inner_refused r e q = refused_so_far _ _ (inner_stand o answers P) all a x left rest next ns m b e h.so_far (subst₂ (λ M y. RefusesPlaces o Entries x.1 M m b y) place (sym q) r)
+      pub inner_refused : {e : BuildError} → RefusesPlaces o Entries x.1 L m b e → RefusesInner o all P a b e
+      inner_refused r = refused_so_far h.so_far next (rw (← place) r)
 
       module _ {here : List N} (built : PlacesAreBuilt o answers Entries here x.1 L m b) where
         pub one_more_inner : {new : List N} → new ≡ ns ++ here → InnerSoFar o answers P all a new rest b
-        one_more_inner {new} q = record {
-          so_far = one_more_so_far _ _ (inner_stand o answers P) all a x left rest next ns new m b h.so_far
-              (subst (λ y. StandInner o answers y (h.so_far.done ++ x ∷ []) P) (sym q) (inner_push o answers P ns here h.so_far.done x h.so_far.built.stand (subst (StandEach o answers here
-              (members x.1)) place built.stand)))
-              (ap (λ M. each_malformed o M (members x.1)) (sym place) ∙ built.clean) built.spends;
+        one_more_inner q = record {
+          so_far = one_more_so_far h.so_far next built.spends
+              (rw q (inner_push o answers P ns here h.so_far.done x h.so_far.built.stand (rw (← place) built.stand))) (rw (← place) built.clean);
         }
 
         pub more_inner_memory : {w : AllocError} (e : BuildError) → e ≡ Memory w → RefusesInner o all P a b e
-        more_inner_memory e q = memory_past _ _ (inner_stand o answers P) all a x left rest next ns m b e q h.so_far built.spends
+        more_inner_memory e q = memory_past h.so_far next built.spends e q
 
 -- ---- entries that are read
 
@@ -223,11 +225,13 @@ pub none_is_read : (passes : Bool) → entries_read passes [] ≡ []
 none_is_read true = refl
 none_is_read false = refl
 
-module _ (e : Name × Data) (es : List (Name × Data)) where
-  pub past_an_entry : (passes : Bool) → is_read passes e.1 ≡ false → entries_read passes (e ∷ es) ≡ entries_read passes es
-  past_an_entry true r = ap (λ b. put_if b e (no_lists es)) r
-  past_an_entry false r = absurd (true≢false r)
+-- the first entry is passed over, or read
+module _ {n : String Global} {v : Value} {left rest : List (String Global × Value)} (steps : left ≡ (n, v) ∷ rest) {is : Bool} where
+  pub past_an_entry : (passes : Bool) → is ≡ is_read passes (view v) → is ≡ false → entries_read passes (listed (members_view left)) ≡ entries_read passes (listed (members_view rest))
+  past_an_entry true r e = ap (λ l. no_lists (listed (members_view l))) steps ∙ ap (λ b. put_if b (string_bytes n, view v) (no_lists (listed (members_view rest)))) (sym r ∙ e)
+  past_an_entry false r e = absurd (true≢false (sym r ∙ e))
 
-  pub at_an_entry : (passes : Bool) → is_read passes e.1 ≡ true → entries_read passes (e ∷ es) ≡ e ∷ entries_read passes es
-  at_an_entry true r = ap (λ b. put_if b e (no_lists es)) r
-  at_an_entry false r = refl
+  pub at_an_entry : (passes : Bool) → is ≡ is_read passes (view v) → is ≡ true
+      → entries_read passes (listed (members_view left)) ≡ (string_bytes n, view v) ∷ entries_read passes (listed (members_view rest))
+  at_an_entry true r e = ap (λ l. no_lists (listed (members_view l))) steps ∙ ap (λ b. put_if b (string_bytes n, view v) (no_lists (listed (members_view rest)))) (sym r ∙ e)
+  at_an_entry false r e = ap (λ l. listed (members_view l)) steps

@@ -27,7 +27,8 @@ use Rattle.olk_make.proofs.Together.{no_keywords_mean}
 use Rattle.olk_make.proofs.Untaken.{one_more_alone, all_alone}
 use Rattle.olk_build.specs.Building.{NothingIsTaken, ObjectIsBuilt, RefusesObject, RefusesPart}
 use Rattle.olk_build.specs.Placing.{PartsAreBuilt, IsPart}
-use Rattle.olk_build.proofs.Parts.{known_there, no_parts, one_more_part}
+use Rattle.olk_meaning.proofs.Claims.{present_each}
+use Rattle.olk_build.proofs.Parts.{no_parts, one_more_part}
 
 module _ {K R N : Type 0} (o : Kit K R) (answers : N → Answers) (ms : Members) (P : Path) where
   abbrev wrong : Name × Data → List Fault
@@ -50,7 +51,7 @@ module _ {K R N : Type 0} (o : Kit K R) (answers : N → Answers) (ms : Members)
 
 module _ {K R N : Type 0} {o : Kit K R} {answers : N → Answers} {ms : Members} {P : Path} {a : Counts} where
   pub no_parts_so_far : {ps : List (Part K R N)} {all : List (Name × Data)} → ps ≡ [] → all ≡ listed ms → PartsSoFar o answers ms P ps a all a
-  no_parts_so_far {ps} e w = record { done = []; built = no_parts o answers ms P a ps e; whole = w }
+  no_parts_so_far e w = record { done = []; built = no_parts e; whole = w }
 
   pub none_so_far : {p : Planned} {ks : List (KeywordOver K R N)} {all : List (Name × Data)} → ks ≡ [] → all ≡ listed ms → EachSoFar o answers ms P p a ks all a
   unfolding no_parts_so_far
@@ -73,21 +74,21 @@ module _ {K R N : Type 0} {o : Kit K R} {answers : N → Answers} {ms : Members}
 
       module _ {c : Known} (known : c ≡ known_of ms) where
         is_known : IsKnown c ms k
-        is_known = known_there o answers ms P c h.done next k d known there
+        is_known = ((λ e. (ap (λ x. x.condition) known, present_each (listed ms) h.done (k, d) next there)), λ e. ap (λ x. x.declared) known)
 
         module _ {L : Path} (place : L ≡ P // k) {n : Name} (same : n ≡ k) {b : Counts} where
-          pub member_refused : {f : BuildError} → RefusesPart o c n d L m b f → (e : BuildError) → e ≡ f → RefusesObject o ms P a b e
-          member_refused {f} r e q = refuses_among (wrong o answers ms P) (costs o answers ms P) (listed ms) a b h.done (k, d) next m e there h.built.spends
-              (subst (λ x. Refuses (wrong o answers ms P (k, d)) (costs o answers ms P (k, d)) m b x) (sym q) (subst (λ i. RefusesPart o c i d L m b f) same r ms P place is_known))
+          pub member_refused : {e : BuildError} → RefusesPart o c n d L m b e → RefusesObject o ms P a b e
+          member_refused {e} r = refuses_among (wrong o answers ms P) (costs o answers ms P) (listed ms) a b h.done (k, d) next m e there h.built.spends
+              (subst (λ i. RefusesPart o c i d L m b e) same r ms P place is_known)
 
           module _ {part : Part K R N} (built : IsPart o answers part c n d L m b) where
-            part_here : IsPart o answers part c k d L m b
-            part_here = subst (λ i. IsPart o answers part c i d L m b) same built
+            part_here : PartsAreBuilt o answers ms (part ∷ []) ((k, d) ∷ []) P m b
+            part_here = subst (λ i. IsPart o answers part c i d L m b) same built ms P place is_known
 
             pub one_more_so_far : {new : List (Part K R N)} → new ≡ ps ++ part ∷ [] → PartsSoFar o answers ms P new a next b
-            one_more_so_far {new} q = record {
+            one_more_so_far q = record {
               done = h.done ++ (k, d) ∷ [];
-              built = one_more_part o answers ms P ps new h.done part c k d a m b L q place h.built part_here is_known;
+              built = one_more_part q h.built part_here;
               whole = append_assoc h.done ((k, d) ∷ []) next ∙ there;
             }
 
@@ -110,5 +111,5 @@ module _ {K R N : Type 0} {o : Kit K R} {answers : N → Answers} {ms : Members}
         parts = h.parts ++ part ∷ [];
         built = one_more_so_far h.built here known place same built refl;
         mean = λ u. one_more_alone o answers ms P p u.plan u.distinct u.no_condition u.unrestricted ks new h.built.done next (k, d) part (there h.built here) appends
-            (part_here h.built here known place same built ms P place (is_known h.built here known)).stand.0 (h.mean u);
+            (part_here h.built here known place same built).stand.0 (h.mean u);
       }

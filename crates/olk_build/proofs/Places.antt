@@ -1,5 +1,5 @@
 -- What is built of the places that are read in a value: of the value itself, and of entries and branches, of which there may be none.
-use Rattle.std.specs.Prelude.{◌≡◌, List, [], ◌∷◌, Vec, String, Result, IfOk}
+use Rattle.std.specs.Prelude.{◌≡◌, ⊤, List, [], ◌∷◌, Vec, String, Result, IfOk}
 use Rattle.std.specs.declared.alloc.Global.{Global}
 use Rattle.std.specs.declared.alloc.AllocError.{AllocError}
 use Rattle.std.specs.BTreeMap.{BTreeMap}
@@ -23,10 +23,12 @@ use Rattle.olk_tree.specs.Answers.{Answers}
 use Rattle.olk_read.specs.Refusing.{Spends}
 use Rattle.olk_read.specs.declared.shape.ReadPlaces.{ReadPlaces}
 use Rattle.olk_read.specs.declared.shape.ReadPlaces.TheVariants.{Nothing, Itself, Entries, SchemaEntries, InnerEntries, Branches}
-use Rattle.olk_read.proofs.Spending.{spends_nothing, refuses_memory, within_exactly}
+use Rattle.olk_read.proofs.Spending.{spends_nothing, spends_same, refuses_memory, within_exactly}
 use Rattle.olk_make.specs.Holding.{StandEach, StandInner}
 use Rattle.olk_build.specs.Building.{IsBuilt, AreBuilt, InnerAreBuilt, RefusesSchema, no_lists, each_malformed, each_cost, inner_malformed, inner_cost}
-use Rattle.olk_build.specs.Placing.{PlacesAreBuilt, RefusesPlaces}
+use Rattle.olk_build.specs.Placing.{PlacesAreBuilt, places_malformed, places_cost}
+use Rattle.olk_make.specs.Standing.{StandAt}
+use Rattle.olk_spec.specs.Costs.{no_cost}
 
 -- ---- values that are no object, and no array
 
@@ -44,81 +46,27 @@ no_items_layer _ h = search (rules, the_lemmas)
 pub no_array_no_items : (v : Value) → ((ds : Vec Value Global) → v ≡ Array ds → ⊥) → items_of_array (view v) ≡ []
 no_array_no_items v = subst (λ x. ((ds : Vec Value Global) → x ≡ Array ds → ⊥) → items_of_array (view x) ≡ []) (rolled v) (no_items_layer (out-Value v))
 
-module _ {K R N : Type 0} (o : Kit K R) (answers : N → Answers) (d : Data) (L : Path) (a : Counts) (r : ReadPlaces) (ns : List N) where
+abbrev pub NoneIn : Data → ReadPlaces → Type 0
+NoneIn d Nothing = ⊤
+NoneIn d Itself = ⊥
+NoneIn d Branches = items_of_array d ≡ []
+NoneIn d r = members d ≡ []
+
+module _ {K R N : Type 0} {o : Kit K R} {answers : N → Answers} {d : Data} {L : Path} {a : Counts} where
   -- ---- where there are none
 
-  pub nothing_is_built : r ≡ Nothing → ns ≡ [] → PlacesAreBuilt o answers r ns d L a a
-  nothing_is_built q none = subst (λ s. PlacesAreBuilt o answers s ns d L a a) (sym q) record { stand = none; clean = refl; spends = spends_nothing a }
+  nothing_stands : (r : ReadPlaces) → StandAt o answers r [] d L → places_malformed o r d L ≡ [] → places_cost o r d ≡ no_cost → PlacesAreBuilt o answers r [] d L a a
+  nothing_stands r h c e = record { stand = h; clean = c; spends = spends_same a a _ _ (sym e) (spends_nothing a) }
 
-  pub no_entry_is_built : r ≡ Entries → ns ≡ [] → members d ≡ [] → PlacesAreBuilt o answers r ns d L a a
-  no_entry_is_built q none e = subst₂ (λ s x. PlacesAreBuilt o answers s x d L a a) (sym q) (sym none) record {
-    stand = subst (λ es. StandEach o answers [] es L) (sym e) tt;
-    clean = ap (each_malformed o L) e;
-    spends = subst (λ es. Spends a a (each_cost o es)) (sym e) (spends_nothing a);
-  }
+  pub none_are_built : (r : ReadPlaces) → NoneIn d r → PlacesAreBuilt o answers r [] d L a a
+  none_are_built Nothing e = nothing_stands Nothing refl refl refl
+  none_are_built Itself e = absurd e
+  none_are_built Entries e = nothing_stands Entries (rw e tt) (rw e refl) (rw e refl)
+  none_are_built SchemaEntries e = nothing_stands SchemaEntries (rw e tt) (rw e refl) (rw e refl)
+  none_are_built InnerEntries e = nothing_stands InnerEntries (rw e refl) (rw e refl) (rw e refl)
+  none_are_built Branches e = nothing_stands Branches (rw e tt) (rw e refl) (rw e refl)
 
-  pub no_schema_entry_is_built : r ≡ SchemaEntries → ns ≡ [] → members d ≡ [] → PlacesAreBuilt o answers r ns d L a a
-  no_schema_entry_is_built q none e = subst₂ (λ s x. PlacesAreBuilt o answers s x d L a a) (sym q) (sym none) record {
-    stand = subst (λ es. StandEach o answers [] (no_lists es) L) (sym e) tt;
-    clean = ap (λ es. each_malformed o L (no_lists es)) e;
-    spends = subst (λ es. Spends a a (each_cost o (no_lists es))) (sym e) (spends_nothing a);
-  }
+  -- ---- the value itself
 
-  pub no_inner_entry_is_built : r ≡ InnerEntries → ns ≡ [] → members d ≡ [] → PlacesAreBuilt o answers r ns d L a a
-  no_inner_entry_is_built q none e = subst₂ (λ s x. PlacesAreBuilt o answers s x d L a a) (sym q) (sym none) record {
-    stand = subst (λ es. StandInner o answers [] es L) (sym e) refl;
-    clean = ap (inner_malformed o L) e;
-    spends = subst (λ es. Spends a a (inner_cost o es)) (sym e) (spends_nothing a);
-  }
-
-  pub no_branch_is_built : r ≡ Branches → ns ≡ [] → items_of_array d ≡ [] → PlacesAreBuilt o answers r ns d L a a
-  no_branch_is_built q none e = subst₂ (λ s x. PlacesAreBuilt o answers s x d L a a) (sym q) (sym none) record {
-    stand = subst (λ ds. StandEach o answers [] (numbered ds) L) (sym e) tt;
-    clean = ap (λ ds. each_malformed o L (numbered ds)) e;
-    spends = subst (λ ds. Spends a a (each_cost o (numbered ds))) (sym e) (spends_nothing a);
-  }
-
-  -- ---- the value itself, at a place that is L
-
-  module _ (b : Counts) (l : Path) (place : l ≡ L) (q : r ≡ Itself) where
-    pub itself_is_built : (n : N) → ns ≡ n ∷ [] → IsBuilt o answers n d l a b → PlacesAreBuilt o answers r ns d L a b
-    itself_is_built n one h = subst₂ (λ s x. PlacesAreBuilt o answers s x d L a b) (sym q) (sym one)
-        (subst (λ M. PlacesAreBuilt o answers Itself (n ∷ []) d M a b) place record { stand = h.stands; clean = h.clean; spends = h.spends })
-
-    pub itself_is_refused : {f : BuildError} → RefusesSchema o d l a b f → (e : BuildError) → e ≡ f → RefusesPlaces o r d L a b e
-    itself_is_refused {f} h e p = subst₂ (λ s x. RefusesPlaces o s d L a b x) (sym q) (sym p) (subst (λ M. RefusesSchema o d M a b f) place h)
-
-    pub itself_lost : (n : N) → IsBuilt o answers n d l a b → {w : AllocError} (e : BuildError) → e ≡ Memory w → RefusesPlaces o r d L a b e
-    itself_lost n h e p = subst (λ s. RefusesPlaces o s d L a b e) (sym q) (refuses_memory (within_exactly h.spends) e p)
-
--- ---- entries and branches, as the results of what builds them tell
-
-module _ {K R N : Type 0} (o : Kit K R) (answers : N → Answers) (d : Data) (L : Path) (a b : Counts) (r : ReadPlaces) (x : Result (Vec N Global) BuildError) where
-  abbrev PlacesTold : ReadPlaces → Type 0
-  PlacesTold s = IfOk x (λ v. PlacesAreBuilt o answers s v.items d L a b)
-
-  abbrev EntriesTold : List (Name × Data) → Type 0
-  EntriesTold es = IfOk x (λ v. AreBuilt o answers v.items es L a b)
-
-  abbrev InnerTold : List (Name × Data) → Type 0
-  InnerTold es = IfOk x (λ v. InnerAreBuilt o answers v.items es L a b)
-
-  pub entries_are_built : (es : List (Name × Data)) → r ≡ Entries → members d ≡ es → EntriesTold es → PlacesTold r
-  entries_are_built es q e h =
-      subst PlacesTold (sym q) (IfOk-weaker x (λ v. AreBuilt o answers v.items (members d) L a b) _ (λ v k. record { stand = k.stand; clean = k.clean; spends = k.spends })
-      (subst EntriesTold (sym e) h))
-
-  pub schema_entries_are_built : (es : List (Name × Data)) → r ≡ SchemaEntries → members d ≡ es → EntriesTold (no_lists es) → PlacesTold r
-  schema_entries_are_built es q e h =
-      subst PlacesTold (sym q) (IfOk-weaker x (λ v. AreBuilt o answers v.items (no_lists (members d)) L a b) _ (λ v k. record { stand = k.stand; clean = k.clean; spends = k.spends })
-      (subst (λ l. EntriesTold (no_lists l)) (sym e) h))
-
-  pub inner_entries_are_built : (es : List (Name × Data)) → r ≡ InnerEntries → members d ≡ es → InnerTold es → PlacesTold r
-  inner_entries_are_built es q e h =
-      subst PlacesTold (sym q) (IfOk-weaker x (λ v. InnerAreBuilt o answers v.items (members d) L a b) _
-      (λ v k. record { stand = k.stand; clean = k.clean; spends = k.spends }) (subst InnerTold (sym e) h))
-
-  pub branches_are_built : (ds : List Data) → r ≡ Branches → items_of_array d ≡ ds → EntriesTold (numbered ds) → PlacesTold r
-  branches_are_built ds q e h =
-      subst PlacesTold (sym q) (IfOk-weaker x (λ v. AreBuilt o answers v.items (numbered (items_of_array d)) L a b) _
-      (λ v k. record { stand = k.stand; clean = k.clean; spends = k.spends }) (subst (λ l. EntriesTold (numbered l)) (sym e) h))
+  pub itself_is_built : {n : N} {b : Counts} → IsBuilt o answers n d L a b → PlacesAreBuilt o answers Itself (n ∷ []) d L a b
+  itself_is_built h = record { stand = h.stands; clean = h.clean; spends = h.spends }

@@ -1,6 +1,7 @@
 use borrow.Author.Count.{falls}
 use Rattle.std.proofs.lemmas.Result.{IfOk-from_err, IfOk-weaker}
-use Rattle.olk_build.proofs.Places.{no_object_no_members, no_array_no_items, nothing_is_built, no_entry_is_built, no_schema_entry_is_built, no_inner_entry_is_built, no_branch_is_built, itself_is_built, itself_is_refused, itself_lost, entries_are_built, schema_entries_are_built, inner_entries_are_built, branches_are_built}
+use Rattle.olk_build.proofs.Places.{no_object_no_members, no_array_no_items, none_are_built, itself_is_built}
+use Rattle.olk_read.specs.declared.shape.ReadPlaces.TheVariants.{Nothing, Entries, SchemaEntries, InnerEntries, Branches}
 use Rattle.std.proofs.Common.{arith, IfErr, rules, true, false, inl, inr, ◌++◌, [], ◌∷◌, map, string_bytes, refl, sym, ap, subst, ◌∙◌}
 use Rattle.olk_meaning.specs.Conditions.{known}
 use mathlib.Core.Path.{subst₂}
@@ -19,18 +20,15 @@ use Rattle.olk_build.specs.Building.{AreBuilt, RefusesEach, RefusesObject, entri
 use Rattle.olk_read.specs.Refusing.{Refuses, TellsOneOf}
 use Rattle.olk_read.specs.Reading.{own_faults, own_cost_of}
 use Rattle.olk_build.specs.Placing.{RefusesPlaces, places_malformed, places_cost, PlacesAreBuilt}
-use Rattle.olk_read.proofs.Spending.{exit, refuses_memory, within_nothing, within_exactly}
+use Rattle.olk_read.proofs.Spending.{exit, exit_with, refuses_memory, within_nothing, within_exactly}
 use Rattle.olk_spec.proofs.Maps.{items_list-view}
-use Rattle.olk_build.proofs.Built.{EntriesSoFar, next_branch, no_branch, no_entries, entries_built, entries_memory, entry_refused, entry_memory, one_more_entry, no_inner, inner_built, inner_memory, inner_refused, more_inner_memory, one_more_inner, at_an_entry, past_an_entry, none_is_read, built_truth, built_object, refuses_object, refuses_no_schema}
+use Rattle.olk_build.proofs.Built.{below, listed_alike, EntriesSoFar, next_branch, no_branch, no_entries, entries_built, entries_memory, entry_refused, entry_memory, one_more_entry, no_inner, inner_built, inner_memory, inner_refused, more_inner_memory, one_more_inner, at_an_entry, past_an_entry, none_is_read, built_truth, built_object, refuses_object, refuses_no_schema}
 use Rattle.olk_meaning.proofs.Objects.{no_schema_is}
 use Rattle.olk_build.proofs.Parts.{refuses_part_own, refuses_part_inside, part_is_built}
 use Rattle.serde_json.proofs.value.Value.TheLaws.{the_size}
 use Rattle.olk_build.proofs.Sizes.{size_among}
 use Rattle.olk_build.proofs.Each.{no_parts_so_far, none_so_far, memory_so_far, parts_are_built, each_is_built, member_refused, one_more_so_far, one_more_meant}
 use Rattle.olk_build.proofs.build.+compile.Goals as goal
-
-pub compile_entries-returns-in_err-nodes-clause-built : goal.compile_entries-returns-in_err-nodes-clause-built
-compile_entries-returns-in_err-nodes-clause-built g t c = IfOk-from_err _ _ c.from_residual.ensures.0
 
 pub compile_entries-returns-in_err-nodes-clause-refused : goal.compile_entries-returns-in_err-nodes-clause-refused
 compile_entries-returns-in_err-nodes-clause-refused g t c = exit _ _ _ c.from_residual.ensures.1 (refuses_memory within_nothing)
@@ -46,52 +44,35 @@ compile_entries-loop-name-init g t c =
 pub compile_entries-join-requires-text-segment : goal.compile_entries-join-requires-text-segment
 compile_entries-join-requires-text-segment g t c κs = c.as_str.utf8
 
-pub compile_entries-returns-in_err-location-clause-built : goal.compile_entries-returns-in_err-location-clause-built
-compile_entries-returns-in_err-location-clause-built g t c = IfOk-from_err _ _ c.from_residual-in_err-location.ensures.0
-
 pub compile_entries-returns-in_err-location-clause-refused : goal.compile_entries-returns-in_err-location-clause-refused
 compile_entries-returns-in_err-location-clause-refused g t c =
     exit _ _ _ c.from_residual-in_err-location.ensures.1 (entries_memory c.loop-name.invariant.so_far)
 
-pub compile_entries-returns-in_err-node-clause-built : goal.compile_entries-returns-in_err-node-clause-built
-compile_entries-returns-in_err-node-clause-built g t c = IfOk-from_err _ _ c.from_residual-in_err-node.ensures.0
-
 pub compile_entries-returns-in_err-node-clause-refused : goal.compile_entries-returns-in_err-node-clause-refused
 compile_entries-returns-in_err-node-clause-refused g t c =
-    exit _ _ _ c.from_residual-in_err-node.ensures.1 (entry_refused c.loop-name.invariant.so_far
-    (ap (λ l. entries_read c.args.passes_arrays (listed (members_view l))) c.in-Some.ensures.steps ∙ at_an_entry (string_bytes c.in-Some.name.now, view c.in-Some.schema.now)
-    (listed (members_view c.next.new.self)) c.args.passes_arrays (sym c.is_read.ensures ∙ c.if-is_read.true))
-    (c.in_ok-location.ensures ∙ ap (λ n. c.args.place.now // n) c.as_str.ensures.value) c.in_err-node.ensures.refused)
+    exit_with _ _ _ c.from_residual-in_err-node.ensures.1 (entry_refused c.loop-name.invariant.so_far
+    (at_an_entry c.in-Some.ensures.steps c.args.passes_arrays c.is_read.ensures c.if-is_read.true) (below _ c.in_ok-location.ensures c.as_str.ensures.value) c.in_err-node.ensures.refused)
 
 pub compile_entries-loop-name-preserved-in-Continue-branch-4 : goal.compile_entries-loop-name-preserved-in-Continue-branch-4
 compile_entries-loop-name-preserved-in-Continue-branch-4 g t c =
     record {
       so_far = one_more_entry c.loop-name.invariant.so_far
-          (ap (λ l. entries_read c.args.passes_arrays (listed (members_view l))) c.in-Some.ensures.steps ∙ at_an_entry (string_bytes c.in-Some.name.now, view c.in-Some.schema.now)
-          (listed (members_view c.next.new.self)) c.args.passes_arrays (sym c.is_read.ensures ∙ c.if-is_read.true))
-          (c.in_ok-location.ensures ∙ ap (λ n. c.args.place.now // n) c.as_str.ensures.value) c.in_ok-node.ensures.built c.in_ok-append.ensures.items;
+          (at_an_entry c.in-Some.ensures.steps c.args.passes_arrays c.is_read.ensures c.if-is_read.true)
+          (below _ c.in_ok-location.ensures c.as_str.ensures.value) c.in_ok-node.ensures.built c.in_ok-append.ensures.items;
       next = tt;
       ends = tt;
     }
 
-pub compile_entries-returns-in_err-append-clause-built : goal.compile_entries-returns-in_err-append-clause-built
-compile_entries-returns-in_err-append-clause-built g t c = IfOk-from_err _ _ c.from_residual-in_err-append.ensures.0
-
 pub compile_entries-returns-in_err-append-clause-refused : goal.compile_entries-returns-in_err-append-clause-refused
 compile_entries-returns-in_err-append-clause-refused g t c =
     exit _ _ _ c.from_residual-in_err-append.ensures.1 (entry_memory c.loop-name.invariant.so_far
-    (ap (λ l. entries_read c.args.passes_arrays (listed (members_view l))) c.in-Some.ensures.steps ∙ at_an_entry (string_bytes c.in-Some.name.now, view c.in-Some.schema.now)
-    (listed (members_view c.next.new.self)) c.args.passes_arrays (sym c.is_read.ensures ∙ c.if-is_read.true))
-    (c.in_ok-location.ensures ∙ ap (λ n. c.args.place.now // n) c.as_str.ensures.value) c.in_ok-node.ensures.built)
+    (at_an_entry c.in-Some.ensures.steps c.args.passes_arrays c.is_read.ensures c.if-is_read.true)
+    (below _ c.in_ok-location.ensures c.as_str.ensures.value) c.in_ok-node.ensures.built)
 
 pub compile_entries-loop-name-preserved : goal.compile_entries-loop-name-preserved
 compile_entries-loop-name-preserved g t c =
     record {
-      so_far = subst (λ l. EntriesSoFar (kit g.L.Leaf.Leaf g.M.Engine.RegexEngine) g.N.BuiltNode.answers c.args.place.now
-          (entries_read c.args.passes_arrays (listed (members_view c.args.map.now.entries))) c.args.meter.now c.loop-name.nodes.items l c.loop-name.meter)
-          (ap (λ l. entries_read c.args.passes_arrays (listed (members_view l))) c.in-Some.ensures.steps
-          ∙ past_an_entry (string_bytes c.in-Some.name.now, view c.in-Some.schema.now) (listed (members_view c.next.new.self)) c.args.passes_arrays
-          (sym c.is_read.ensures ∙ c.if-is_read.false)) c.loop-name.invariant.so_far;
+      so_far = rw (← past_an_entry c.in-Some.ensures.steps c.args.passes_arrays c.is_read.ensures c.if-is_read.false) c.loop-name.invariant.so_far;
       next = tt;
       ends = tt;
     }
@@ -101,13 +82,10 @@ compile_entries-returns-clause-built g t c =
     entries_built c.loop-name.invariant.so_far
     (ap (λ l. entries_read c.args.passes_arrays (listed (members_view l))) c.in-None.ensures.steps.0 ∙ none_is_read c.args.passes_arrays)
 
-pub compile_entries-returns-clause-refused : goal.compile_entries-returns-clause-refused
-compile_entries-returns-clause-refused g t c = tt
-
 pub compile_inner_entries-loop-name-init : goal.compile_inner_entries-loop-name-init
 compile_inner_entries-loop-name-init g t c =
     record {
-      so_far = no_inner c.new-nodes.ensures.items (ap (λ l. listed (members_view l)) c.into_iter-name-iterator.ensures.into_iter_gives.0);
+      so_far = no_inner c.new-nodes.ensures.items (listed_alike c.into_iter-name-iterator.ensures.into_iter_gives.0);
       next = tt;
       ends = tt;
     }
@@ -115,128 +93,67 @@ compile_inner_entries-loop-name-init g t c =
 pub compile_inner_entries-join-requires-text-segment : goal.compile_inner_entries-join-requires-text-segment
 compile_inner_entries-join-requires-text-segment g t c κs = c.as_str.utf8
 
-pub compile_inner_entries-returns-in_err-location-clause-built : goal.compile_inner_entries-returns-in_err-location-clause-built
-compile_inner_entries-returns-in_err-location-clause-built g t c = IfOk-from_err _ _ c.from_residual.ensures.0
-
 pub compile_inner_entries-returns-in_err-location-clause-refused : goal.compile_inner_entries-returns-in_err-location-clause-refused
 compile_inner_entries-returns-in_err-location-clause-refused g t c =
     exit _ _ _ c.from_residual.ensures.1 (inner_memory c.loop-name.invariant.so_far)
 
-pub compile_inner_entries-returns-in_err-inner-clause-built : goal.compile_inner_entries-returns-in_err-inner-clause-built
-compile_inner_entries-returns-in_err-inner-clause-built g t c = IfOk-from_err _ _ c.from_residual-in_err-inner.ensures.0
-
 pub compile_inner_entries-returns-in_err-inner-clause-refused : goal.compile_inner_entries-returns-in_err-inner-clause-refused
 compile_inner_entries-returns-in_err-inner-clause-refused g t c =
-    exit _ _ _ c.from_residual-in_err-inner.ensures.1 (inner_refused c.loop-name.invariant.so_far (ap (λ l. listed (members_view l)) c.in-Some.ensures.steps)
-    (c.in_ok-location.ensures ∙ ap (λ n. c.args.place.now // n) c.as_str.ensures.value) c.in_err-inner.ensures.refused)
-
-pub compile_inner_entries-returns-in_err-append_all-clause-built : goal.compile_inner_entries-returns-in_err-append_all-clause-built
-compile_inner_entries-returns-in_err-append_all-clause-built g t c = IfOk-from_err _ _ c.from_residual-in_err-append_all.ensures.0
+    exit_with _ _ _ c.from_residual-in_err-inner.ensures.1 (inner_refused c.loop-name.invariant.so_far (listed_alike c.in-Some.ensures.steps)
+    (below _ c.in_ok-location.ensures c.as_str.ensures.value) c.in_err-inner.ensures.refused)
 
 pub compile_inner_entries-returns-in_err-append_all-clause-refused : goal.compile_inner_entries-returns-in_err-append_all-clause-refused
 compile_inner_entries-returns-in_err-append_all-clause-refused g t c =
-    exit _ _ _ c.from_residual-in_err-append_all.ensures.1 (more_inner_memory c.loop-name.invariant.so_far (ap (λ l. listed (members_view l)) c.in-Some.ensures.steps)
-    (c.in_ok-location.ensures ∙ ap (λ n. c.args.place.now // n) c.as_str.ensures.value) c.in_ok-inner.ensures.built)
+    exit _ _ _ c.from_residual-in_err-append_all.ensures.1 (more_inner_memory c.loop-name.invariant.so_far (listed_alike c.in-Some.ensures.steps)
+    (below _ c.in_ok-location.ensures c.as_str.ensures.value) c.in_ok-inner.ensures.built)
 
 pub compile_inner_entries-loop-name-preserved : goal.compile_inner_entries-loop-name-preserved
 compile_inner_entries-loop-name-preserved g t c =
     record {
-      so_far = one_more_inner c.loop-name.invariant.so_far (ap (λ l. listed (members_view l)) c.in-Some.ensures.steps)
-          (c.in_ok-location.ensures ∙ ap (λ n. c.args.place.now // n) c.as_str.ensures.value) c.in_ok-inner.ensures.built c.in_ok-append_all.ensures;
+      so_far = one_more_inner c.loop-name.invariant.so_far (listed_alike c.in-Some.ensures.steps)
+          (below _ c.in_ok-location.ensures c.as_str.ensures.value) c.in_ok-inner.ensures.built c.in_ok-append_all.ensures;
       next = tt;
       ends = tt;
     }
 
 pub compile_inner_entries-returns-clause-built : goal.compile_inner_entries-returns-clause-built
 compile_inner_entries-returns-clause-built g t c =
-    inner_built c.loop-name.invariant.so_far (ap (λ l. listed (members_view l)) c.in-None.ensures.steps.0)
-
-pub compile_inner_entries-returns-clause-refused : goal.compile_inner_entries-returns-clause-refused
-compile_inner_entries-returns-clause-refused g t c = tt
-
-pub compile_branches-returns-in_err-nodes-clause-built : goal.compile_branches-returns-in_err-nodes-clause-built
-compile_branches-returns-in_err-nodes-clause-built g t c = IfOk-from_err _ _ c.from_residual.ensures.0
+    inner_built c.loop-name.invariant.so_far (listed_alike c.in-None.ensures.steps.0)
 
 pub compile_branches-returns-in_err-nodes-clause-refused : goal.compile_branches-returns-in_err-nodes-clause-refused
 compile_branches-returns-in_err-nodes-clause-refused g t c = exit _ _ _ c.from_residual.ensures.1 (refuses_memory within_nothing)
 
 pub compile_branches-loop-i-init : goal.compile_branches-loop-i-init
-compile_branches-loop-i-init g t c = no_entries c.in_ok-nodes.ensures.items refl
-
-pub compile_branches-returns-in_err-location-clause-built : goal.compile_branches-returns-in_err-location-clause-built
-compile_branches-returns-in_err-location-clause-built g t c = IfOk-from_err _ _ c.from_residual-in_err-location.ensures.0
+compile_branches-loop-i-init g t c = no_entries c.in_ok-nodes.ensures.items (ap (λ l. numbered (map view l)) c.deref-schema-items.ensures.value ∙ ap numbered (sym (items_list-view c.args.items.now.items)))
 
 pub compile_branches-returns-in_err-location-clause-refused : goal.compile_branches-returns-in_err-location-clause-refused
-compile_branches-returns-in_err-location-clause-refused g t c =
-    exit _ _ _ c.from_residual-in_err-location.ensures.1 (λ e q. subst (λ all. RefusesEach (kit g.L.Leaf.Leaf g.M.Engine.RegexEngine) all c.args.place.now c.args.meter.now c.loop-i.meter e)
-    (ap (λ l. numbered (map view l)) c.deref-schema-items.ensures.value ∙ ap numbered (sym (items_list-view c.args.items.now.items)))
-    (entries_memory c.loop-i.invariant e q))
-
-pub compile_branches-returns-in_err-node-clause-built : goal.compile_branches-returns-in_err-node-clause-built
-compile_branches-returns-in_err-node-clause-built g t c = IfOk-from_err _ _ c.from_residual-in_err-node.ensures.0
+compile_branches-returns-in_err-location-clause-refused g t c = exit _ _ _ c.from_residual-in_err-location.ensures.1 (entries_memory c.loop-i.invariant)
 
 pub compile_branches-returns-in_err-node-clause-refused : goal.compile_branches-returns-in_err-node-clause-refused
 compile_branches-returns-in_err-node-clause-refused g t c =
-    exit _ _ _ c.from_residual-in_err-node.ensures.1 (λ e q. subst (λ all. RefusesEach (kit g.L.Leaf.Leaf g.M.Engine.RegexEngine) all c.args.place.now c.args.meter.now c.compile_schema.new.meter e)
-    (ap (λ l. numbered (map view l)) c.deref-schema-items.ensures.value ∙ ap numbered (sym (items_list-view c.args.items.now.items)))
-    (entry_refused c.loop-i.invariant (next_branch c.loop-i.i c.deref-schema-items.result.now c.schema-item.result c.loop-i-test.true c.schema-item.is) c.in_ok-location.ensures
-    c.in_err-node.ensures.refused e q))
-
-pub compile_branches-returns-in_err-append-clause-built : goal.compile_branches-returns-in_err-append-clause-built
-compile_branches-returns-in_err-append-clause-built g t c = IfOk-from_err _ _ c.from_residual-in_err-append.ensures.0
+    exit_with _ _ _ c.from_residual-in_err-node.ensures.1 (entry_refused c.loop-i.invariant (next_branch _ _ c.loop-i-test.true c.schema-item.is) c.in_ok-location.ensures c.in_err-node.ensures.refused)
 
 pub compile_branches-returns-in_err-append-clause-refused : goal.compile_branches-returns-in_err-append-clause-refused
 compile_branches-returns-in_err-append-clause-refused g t c =
-    exit _ _ _ c.from_residual-in_err-append.ensures.1 (λ e q. subst (λ all. RefusesEach (kit g.L.Leaf.Leaf g.M.Engine.RegexEngine) all c.args.place.now c.args.meter.now c.compile_schema.new.meter e)
-    (ap (λ l. numbered (map view l)) c.deref-schema-items.ensures.value ∙ ap numbered (sym (items_list-view c.args.items.now.items)))
-    (entry_memory c.loop-i.invariant (next_branch c.loop-i.i c.deref-schema-items.result.now c.schema-item.result c.loop-i-test.true c.schema-item.is) c.in_ok-location.ensures
-    c.in_ok-node.ensures.built e q))
+    exit _ _ _ c.from_residual-in_err-append.ensures.1 (entry_memory c.loop-i.invariant (next_branch _ _ c.loop-i-test.true c.schema-item.is) c.in_ok-location.ensures c.in_ok-node.ensures.built)
 
 pub compile_branches-loop-i-smaller : goal.compile_branches-loop-i-smaller
 compile_branches-loop-i-smaller g t c = falls _ _ c.loop-i-test.true
 
 pub compile_branches-loop-i-preserved : goal.compile_branches-loop-i-preserved
-compile_branches-loop-i-preserved g t c =
-    one_more_entry c.loop-i.invariant (next_branch c.loop-i.i c.deref-schema-items.result.now c.schema-item.result c.loop-i-test.true c.schema-item.is)
-    c.in_ok-location.ensures c.in_ok-node.ensures.built c.in_ok-append.ensures.items
+compile_branches-loop-i-preserved g t c = one_more_entry c.loop-i.invariant (next_branch _ _ c.loop-i-test.true c.schema-item.is) c.in_ok-location.ensures c.in_ok-node.ensures.built c.in_ok-append.ensures.items
 
 pub compile_branches-returns-clause-built : goal.compile_branches-returns-clause-built
-compile_branches-returns-clause-built g t c =
-    subst (λ all. AreBuilt (kit g.L.Leaf.Leaf g.M.Engine.RegexEngine) g.N.BuiltNode.answers c.loop-i.nodes.items all c.args.place.now c.args.meter.now c.loop-i.meter)
-    (ap (λ l. numbered (map view l)) c.deref-schema-items.ensures.value ∙ ap numbered (sym (items_list-view c.args.items.now.items)))
-    (entries_built c.loop-i.invariant (no_branch c.loop-i.i c.deref-schema-items.result.now c.loop-i-test.false))
-
-pub compile_branches-returns-clause-refused : goal.compile_branches-returns-clause-refused
-compile_branches-returns-clause-refused g t c = tt
-
-pub compile_part-returns-in_err-shape-clause-built : goal.compile_part-returns-in_err-shape-clause-built
-compile_part-returns-in_err-shape-clause-built g t c = IfOk-from_err _ _ c.from_residual.ensures.0
+compile_branches-returns-clause-built g t c = entries_built c.loop-i.invariant (no_branch _ _ c.loop-i-test.false)
 
 pub compile_part-returns-in_err-shape-clause-refused : goal.compile_part-returns-in_err-shape-clause-refused
-compile_part-returns-in_err-shape-clause-refused g t c =
-    exit _ _ _ c.from_residual.ensures.1 (λ e q. refuses_part_own (kit g.L.Leaf.Leaf g.M.Engine.RegexEngine) g.N.BuiltNode.answers (known c.args.neighbours) c.args.name.now
-    (view c.args.value.now) c.args.location c.args.meter.now c.read_keyword.new.meter e
-    (subst (λ x. Refuses (own_faults (world g.L.Leaf.Leaf g.M.Engine.RegexEngine) c.args.name.now (view c.args.value.now) c.args.location)
-    (own_cost_of (world g.L.Leaf.Leaf g.M.Engine.RegexEngine) (known c.args.neighbours) (view c.args.value.now)
-    (keyword_named (world g.L.Leaf.Leaf g.M.Engine.RegexEngine) c.args.name.now)) c.args.meter.now c.read_keyword.new.meter x) (sym q) c.in_err-shape.ensures.refused))
-
-pub compile_part-returns-in_err-nodes-clause-built : goal.compile_part-returns-in_err-nodes-clause-built
-compile_part-returns-in_err-nodes-clause-built g t c = IfOk-from_err _ _ c.from_residual-in_err-nodes.ensures.0
+compile_part-returns-in_err-shape-clause-refused g t c = exit_with _ _ _ c.from_residual.ensures.1 (refuses_part_own (kit g.L.Leaf.Leaf g.M.Engine.RegexEngine) (known c.args.neighbours) c.args.name.now (view c.args.value.now) c.in_err-shape.ensures.refused)
 
 pub compile_part-returns-in_err-nodes-clause-refused : goal.compile_part-returns-in_err-nodes-clause-refused
-compile_part-returns-in_err-nodes-clause-refused g t c =
-    exit _ _ _ c.from_residual-in_err-nodes.ensures.1 (λ e q. refuses_part_inside (kit g.L.Leaf.Leaf g.M.Engine.RegexEngine) g.N.BuiltNode.answers c.in_ok-shape.shape
-    (known c.args.neighbours) c.args.name.now (view c.args.value.now) c.args.location c.args.meter.now c.read_keyword.new.meter c.in_ok-shape.ensures.built c.compile_places.new.meter e (subst₂ (λ r x. Refuses (places_malformed (kit g.L.Leaf.Leaf g.M.Engine.RegexEngine) r (view c.args.value.now) c.args.location) (places_cost (kit g.L.Leaf.Leaf g.M.Engine.RegexEngine) r (view c.args.value.now)) c.read_keyword.new.meter c.compile_places.new.meter x) c.reads.ensures (sym q) c.in_err-nodes.ensures.refused))
+compile_part-returns-in_err-nodes-clause-refused g t c = exit_with _ _ _ c.from_residual-in_err-nodes.ensures.1 (refuses_part_inside c.in_ok-shape.ensures.built c.reads.ensures c.in_err-nodes.ensures.refused)
 
 pub compile_part-returns-clause-built : goal.compile_part-returns-clause-built
-compile_part-returns-clause-built g t c =
-    part_is_built (kit g.L.Leaf.Leaf g.M.Engine.RegexEngine) g.N.BuiltNode.answers c.in_ok-shape.shape (known c.args.neighbours) c.args.name.now
-    (view c.args.value.now) c.args.location c.args.meter.now c.read_keyword.new.meter c.in_ok-shape.ensures.built c.in_ok-nodes.nodes _ c.compile_places.new.meter refl refl refl
-    (subst (λ r. PlacesAreBuilt (kit g.L.Leaf.Leaf g.M.Engine.RegexEngine) g.N.BuiltNode.answers r c.in_ok-nodes.nodes.items
-    (view c.args.value.now) c.args.location c.read_keyword.new.meter c.compile_places.new.meter) c.reads.ensures c.in_ok-nodes.ensures.built)
-
-pub compile_part-returns-clause-refused : goal.compile_part-returns-clause-refused
-compile_part-returns-clause-refused g t c = tt
+compile_part-returns-clause-built g t c = part_is_built c.in_ok-shape.ensures.built c.reads.ensures c.in_ok-nodes.ensures.built
 
 pub compile_object-returns-then-not-is_restricted-clause-built : goal.compile_object-returns-then-not-is_restricted-clause-built
 compile_object-returns-then-not-is_restricted-clause-built g t c =
@@ -247,16 +164,8 @@ compile_object-returns-then-not-is_restricted-clause-built g t c =
       unrestricted = sym c.is_restricted.ensures ∙ c.if-not-is_restricted.true;
     }) c.compile_each.ensures.built
 
-pub compile_object-returns-in_err-parts-clause-built : goal.compile_object-returns-in_err-parts-clause-built
-compile_object-returns-in_err-parts-clause-built g t c = IfOk-from_err _ _ c.from_residual.ensures.0
-
 pub compile_object-returns-in_err-parts-clause-refused : goal.compile_object-returns-in_err-parts-clause-refused
-compile_object-returns-in_err-parts-clause-refused g t c =
-    exit _ _ _ c.from_residual.ensures.1 (λ e q. subst (RefusesObject (kit g.L.Leaf.Leaf g.M.Engine.RegexEngine)
-    (members_view c.args.members.now.entries) c.args.place.now c.args.meter.now c.compile_parts.new.meter) (sym q) c.in_err-parts.ensures.refused)
-
-pub compile_object-returns-in_err-keywords-clause-built : goal.compile_object-returns-in_err-keywords-clause-built
-compile_object-returns-in_err-keywords-clause-built g t c = IfOk-from_err _ _ c.from_residual-in_err-keywords.ensures.0
+compile_object-returns-in_err-parts-clause-refused g t c = exit_with _ _ _ c.from_residual.ensures.1 c.in_err-parts.ensures.refused
 
 pub compile_object-returns-in_err-keywords-clause-refused : goal.compile_object-returns-in_err-keywords-clause-refused
 compile_object-returns-in_err-keywords-clause-refused g t c =
@@ -271,28 +180,19 @@ compile_object-returns-clause-built g t c =
       spends = parts.spends;
     }
 
-pub compile_object-returns-clause-refused : goal.compile_object-returns-clause-refused
-compile_object-returns-clause-refused g t c = tt
-
-pub compile_parts-returns-in_err-parts-clause-built : goal.compile_parts-returns-in_err-parts-clause-built
-compile_parts-returns-in_err-parts-clause-built g t c = IfOk-from_err _ _ c.from_residual.ensures.0
-
 pub compile_parts-returns-in_err-parts-clause-refused : goal.compile_parts-returns-in_err-parts-clause-refused
 compile_parts-returns-in_err-parts-clause-refused g t c = exit _ _ _ c.from_residual.ensures.1 (refuses_memory within_nothing)
 
 pub compile_parts-loop-name-init : goal.compile_parts-loop-name-init
 compile_parts-loop-name-init g t c =
     record {
-      so_far = no_parts_so_far c.in_ok-parts.ensures.items (ap (λ l. listed (members_view l)) c.into_iter-name-iterator.ensures.into_iter_gives.0);
+      so_far = no_parts_so_far c.in_ok-parts.ensures.items (listed_alike c.into_iter-name-iterator.ensures.into_iter_gives.0);
       next = tt;
       ends = tt;
     }
 
 pub compile_parts-join-requires-text-segment : goal.compile_parts-join-requires-text-segment
 compile_parts-join-requires-text-segment g t c κs = c.as_str.utf8
-
-pub compile_parts-returns-in_err-location-clause-built : goal.compile_parts-returns-in_err-location-clause-built
-compile_parts-returns-in_err-location-clause-built g t c = IfOk-from_err _ _ c.from_residual-in_err-location.ensures.0
 
 pub compile_parts-returns-in_err-location-clause-refused : goal.compile_parts-returns-in_err-location-clause-refused
 compile_parts-returns-in_err-location-clause-refused g t c =
@@ -301,39 +201,27 @@ compile_parts-returns-in_err-location-clause-refused g t c =
 pub compile_parts-compile_part-requires-text-name : goal.compile_parts-compile_part-requires-text-name
 compile_parts-compile_part-requires-text-name g t c κs within = c.as_str-in-loop-name.utf8
 
-pub compile_parts-returns-in_err-part-clause-built : goal.compile_parts-returns-in_err-part-clause-built
-compile_parts-returns-in_err-part-clause-built g t c = IfOk-from_err _ _ c.from_residual-in_err-part.ensures.0
-
 pub compile_parts-returns-in_err-part-clause-refused : goal.compile_parts-returns-in_err-part-clause-refused
 compile_parts-returns-in_err-part-clause-refused g t c =
-    exit _ _ _ c.from_residual-in_err-part.ensures.1 (member_refused c.loop-name.invariant.so_far (ap (λ l. listed (members_view l)) c.in-Some.ensures.steps) c.of-neighbours.ensures
-    (c.in_ok-location.ensures ∙ ap (λ n. c.args.place.now // n) c.as_str.ensures.value) c.as_str-in-loop-name.ensures.value c.in_err-part.ensures.refused)
+    exit_with _ _ _ c.from_residual-in_err-part.ensures.1 (member_refused c.loop-name.invariant.so_far (listed_alike c.in-Some.ensures.steps) c.of-neighbours.ensures
+    (below _ c.in_ok-location.ensures c.as_str.ensures.value) c.as_str-in-loop-name.ensures.value c.in_err-part.ensures.refused)
 
 pub compile_parts-loop-name-preserved : goal.compile_parts-loop-name-preserved
 compile_parts-loop-name-preserved g t c =
     record {
-      so_far = one_more_so_far c.loop-name.invariant.so_far (ap (λ l. listed (members_view l)) c.in-Some.ensures.steps) c.of-neighbours.ensures
-          (c.in_ok-location.ensures ∙ ap (λ n. c.args.place.now // n) c.as_str.ensures.value) c.as_str-in-loop-name.ensures.value c.in_ok-part.ensures.built c.in_ok-append.ensures.items;
+      so_far = one_more_so_far c.loop-name.invariant.so_far (listed_alike c.in-Some.ensures.steps) c.of-neighbours.ensures
+          (below _ c.in_ok-location.ensures c.as_str.ensures.value) c.as_str-in-loop-name.ensures.value c.in_ok-part.ensures.built c.in_ok-append.ensures.items;
       next = tt;
       ends = tt;
     }
 
-pub compile_parts-returns-in_err-append-clause-built : goal.compile_parts-returns-in_err-append-clause-built
-compile_parts-returns-in_err-append-clause-built g t c = IfOk-from_err _ _ c.from_residual-in_err-append.ensures.0
-
 pub compile_parts-returns-in_err-append-clause-refused : goal.compile_parts-returns-in_err-append-clause-refused
 compile_parts-returns-in_err-append-clause-refused g t c =
-    exit _ _ _ c.from_residual-in_err-append.ensures.1 (memory_so_far (one_more_so_far c.loop-name.invariant.so_far (ap (λ l. listed (members_view l)) c.in-Some.ensures.steps) c.of-neighbours.ensures
-    (c.in_ok-location.ensures ∙ ap (λ n. c.args.place.now // n) c.as_str.ensures.value) c.as_str-in-loop-name.ensures.value c.in_ok-part.ensures.built refl))
+    exit _ _ _ c.from_residual-in_err-append.ensures.1 (memory_so_far (one_more_so_far c.loop-name.invariant.so_far (listed_alike c.in-Some.ensures.steps) c.of-neighbours.ensures
+    (below _ c.in_ok-location.ensures c.as_str.ensures.value) c.as_str-in-loop-name.ensures.value c.in_ok-part.ensures.built refl))
 
 pub compile_parts-returns-clause-built : goal.compile_parts-returns-clause-built
-compile_parts-returns-clause-built g t c = parts_are_built c.loop-name.invariant.so_far (ap (λ l. listed (members_view l)) c.in-None.ensures.steps.0)
-
-pub compile_parts-returns-clause-refused : goal.compile_parts-returns-clause-refused
-compile_parts-returns-clause-refused g t c = tt
-
-pub compile_each-returns-in_err-keywords-clause-built : goal.compile_each-returns-in_err-keywords-clause-built
-compile_each-returns-in_err-keywords-clause-built g t c = IfOk-from_err _ _ c.from_residual.ensures.0
+compile_parts-returns-clause-built g t c = parts_are_built c.loop-name.invariant.so_far (listed_alike c.in-None.ensures.steps.0)
 
 pub compile_each-returns-in_err-keywords-clause-refused : goal.compile_each-returns-in_err-keywords-clause-refused
 compile_each-returns-in_err-keywords-clause-refused g t c = exit _ _ _ c.from_residual.ensures.1 (refuses_memory within_nothing)
@@ -341,7 +229,7 @@ compile_each-returns-in_err-keywords-clause-refused g t c = exit _ _ _ c.from_re
 pub compile_each-loop-name-init : goal.compile_each-loop-name-init
 compile_each-loop-name-init g t c =
     record {
-      so_far = none_so_far c.in_ok-keywords.ensures.items (ap (λ l. listed (members_view l)) c.into_iter-name-iterator.ensures.into_iter_gives.0);
+      so_far = none_so_far c.in_ok-keywords.ensures.items (listed_alike c.into_iter-name-iterator.ensures.into_iter_gives.0);
       before = [];
       entries = c.into_iter-name-iterator.ensures.into_iter_gives.0;
       next = tt;
@@ -350,9 +238,6 @@ compile_each-loop-name-init g t c =
 
 pub compile_each-join-requires-text-segment : goal.compile_each-join-requires-text-segment
 compile_each-join-requires-text-segment g t c κs = c.as_str-name.utf8
-
-pub compile_each-returns-in_err-location-clause-built : goal.compile_each-returns-in_err-location-clause-built
-compile_each-returns-in_err-location-clause-built g t c = IfOk-from_err _ _ c.from_residual-in_err-location.ensures.0
 
 pub compile_each-returns-in_err-location-clause-refused : goal.compile_each-returns-in_err-location-clause-refused
 compile_each-returns-in_err-location-clause-refused g t c =
@@ -364,18 +249,15 @@ compile_each-compile_part-requires g t c κs within =
     (ap (λ l. c.loop-name.invariant.before ++ l) (sym c.in-Some.ensures.steps) ∙ c.loop-name.invariant.entries) in
     (omega (arith, c.decreases, lower), within)
 
-pub compile_each-returns-in_err-part-clause-built : goal.compile_each-returns-in_err-part-clause-built
-compile_each-returns-in_err-part-clause-built g t c = IfOk-from_err _ _ c.from_residual-in_err-part.ensures.0
-
 pub compile_each-returns-in_err-part-clause-refused : goal.compile_each-returns-in_err-part-clause-refused
 compile_each-returns-in_err-part-clause-refused g t c =
-    exit _ _ _ c.from_residual-in_err-part.ensures.1 (member_refused c.loop-name.invariant.so_far.built (ap (λ l. listed (members_view l)) c.in-Some.ensures.steps) c.of-neighbours.ensures
-    (c.in_ok-location.ensures ∙ ap (λ n. c.args.place.now // n) c.as_str-name.ensures.value) c.as_str-name.ensures.value c.in_err-part.ensures.refused)
+    exit_with _ _ _ c.from_residual-in_err-part.ensures.1 (member_refused c.loop-name.invariant.so_far.built (listed_alike c.in-Some.ensures.steps) c.of-neighbours.ensures
+    (below _ c.in_ok-location.ensures c.as_str-name.ensures.value) c.as_str-name.ensures.value c.in_err-part.ensures.refused)
 
 pub compile_each-loop-name-preserved : goal.compile_each-loop-name-preserved
 compile_each-loop-name-preserved g t c = record {
-  so_far = one_more_meant c.loop-name.invariant.so_far (ap (λ l. listed (members_view l)) c.in-Some.ensures.steps) c.of-neighbours.ensures
-      (c.in_ok-location.ensures ∙ ap (λ n. c.args.place.now // n) c.as_str-name.ensures.value) c.as_str-name.ensures.value c.in_ok-part.ensures.built c.in_ok-append_keyword.ensures;
+  so_far = one_more_meant c.loop-name.invariant.so_far (listed_alike c.in-Some.ensures.steps) c.of-neighbours.ensures
+      (below _ c.in_ok-location.ensures c.as_str-name.ensures.value) c.as_str-name.ensures.value c.in_ok-part.ensures.built c.in_ok-append_keyword.ensures;
   before = c.loop-name.invariant.before ++ (c.in-Some.name.now, c.in-Some.value.now) ∷ [];
   entries = append_assoc c.loop-name.invariant.before ((c.in-Some.name.now, c.in-Some.value.now) ∷ []) c.next.new.self
       ∙ ap (λ l. c.loop-name.invariant.before ++ l) (sym c.in-Some.ensures.steps) ∙ c.loop-name.invariant.entries;
@@ -383,175 +265,92 @@ compile_each-loop-name-preserved g t c = record {
   ends = tt;
 }
 
-pub compile_each-returns-in_err-append_keyword-clause-built : goal.compile_each-returns-in_err-append_keyword-clause-built
-compile_each-returns-in_err-append_keyword-clause-built g t c = IfOk-from_err _ _ c.from_residual-in_err-append_keyword.ensures.0
-
 pub compile_each-returns-in_err-append_keyword-clause-refused : goal.compile_each-returns-in_err-append_keyword-clause-refused
 compile_each-returns-in_err-append_keyword-clause-refused g t c =
-    exit _ _ _ c.from_residual-in_err-append_keyword.ensures.1 (memory_so_far (one_more_so_far c.loop-name.invariant.so_far.built (ap (λ l. listed
-    (members_view l)) c.in-Some.ensures.steps) c.of-neighbours.ensures
-    (c.in_ok-location.ensures ∙ ap (λ n. c.args.place.now // n) c.as_str-name.ensures.value) c.as_str-name.ensures.value c.in_ok-part.ensures.built refl))
+    exit _ _ _ c.from_residual-in_err-append_keyword.ensures.1 (memory_so_far (one_more_so_far c.loop-name.invariant.so_far.built (listed_alike c.in-Some.ensures.steps) c.of-neighbours.ensures
+    (below _ c.in_ok-location.ensures c.as_str-name.ensures.value) c.as_str-name.ensures.value c.in_ok-part.ensures.built refl))
 
 pub compile_each-returns-clause-built : goal.compile_each-returns-clause-built
-compile_each-returns-clause-built g t c = each_is_built c.loop-name.invariant.so_far (ap (λ l. listed (members_view l)) c.in-None.ensures.steps.0)
-
-pub compile_each-returns-clause-refused : goal.compile_each-returns-clause-refused
-compile_each-returns-clause-refused g t c = tt
-
-pub compile_places-returns-in_err-place-in-Itself-clause-built : goal.compile_places-returns-in_err-place-in-Itself-clause-built
-compile_places-returns-in_err-place-in-Itself-clause-built g t c = IfOk-from_err _ _ c.from_residual.ensures.0
+compile_each-returns-clause-built g t c = each_is_built c.loop-name.invariant.so_far (listed_alike c.in-None.ensures.steps.0)
 
 pub compile_places-returns-in_err-place-in-Itself-clause-refused : goal.compile_places-returns-in_err-place-in-Itself-clause-refused
 compile_places-returns-in_err-place-in-Itself-clause-refused g t c = exit _ _ _ c.from_residual.ensures.1 (refuses_memory within_nothing)
 
-pub compile_places-returns-in_err-node-in-Itself-clause-built : goal.compile_places-returns-in_err-node-in-Itself-clause-built
-compile_places-returns-in_err-node-in-Itself-clause-built g t c = IfOk-from_err _ _ c.from_residual-in_err-node-in-Itself.ensures.0
-
 pub compile_places-returns-in_err-node-in-Itself-clause-refused : goal.compile_places-returns-in_err-node-in-Itself-clause-refused
 compile_places-returns-in_err-node-in-Itself-clause-refused g t c =
-    exit _ _ _ c.from_residual-in_err-node-in-Itself.ensures.1 (itself_is_refused (kit g.L.Leaf.Leaf g.M.Engine.RegexEngine) g.N.BuiltNode.answers
-    (view c.args.value.now) c.args.location.now c.args.meter.now c.args.reads [] c.compile_schema.new.meter _ c.in_ok-place-in-Itself.ensures c.in-Itself.is c.in_err-node-in-Itself.ensures.refused)
-
-pub compile_places-returns-in_err-one-in-Itself-clause-built : goal.compile_places-returns-in_err-one-in-Itself-clause-built
-compile_places-returns-in_err-one-in-Itself-clause-built g t c = IfOk-from_err _ _ c.from_residual-in_err-one-in-Itself.ensures.0
+    exit_with _ _ _ c.from_residual-in_err-node-in-Itself.ensures.1 (rw (c.in-Itself.is, ← c.in_ok-place-in-Itself.ensures) c.in_err-node-in-Itself.ensures.refused)
 
 pub compile_places-returns-in_err-one-in-Itself-clause-refused : goal.compile_places-returns-in_err-one-in-Itself-clause-refused
 compile_places-returns-in_err-one-in-Itself-clause-refused g t c =
-    exit _ _ _ c.from_residual-in_err-one-in-Itself.ensures.1 (itself_lost (kit g.L.Leaf.Leaf g.M.Engine.RegexEngine) g.N.BuiltNode.answers
-    (view c.args.value.now) c.args.location.now c.args.meter.now c.args.reads [] c.compile_schema.new.meter _ c.in_ok-place-in-Itself.ensures c.in-Itself.is _ c.in_ok-node-in-Itself.ensures.built)
+    exit_with _ _ _ c.from_residual-in_err-one-in-Itself.ensures.1
+    (rw c.in-Itself.is (refuses_memory (within_exactly c.in_ok-node-in-Itself.ensures.built.spends) _ refl))
 
 pub compile_places-returns-in_default : goal.compile_places-returns-in_default
-compile_places-returns-in_default g t c =
-    record {
-      built = no_entry_is_built (kit g.L.Leaf.Leaf g.M.Engine.RegexEngine) g.N.BuiltNode.answers _ _ _ _ _ c.in-Entries.is c.new-in_default.ensures.items
-          (no_object_no_members _ c.in_default.not-Object);
-      refused = tt;
-    }
+compile_places-returns-in_default g t c = record { built = rw (c.in-Entries.is, c.new-in_default.ensures.items) (none_are_built Entries (no_object_no_members _ c.in_default.not-Object)); refused = tt }
 
 pub compile_places-returns-in_default-value : goal.compile_places-returns-in_default-value
-compile_places-returns-in_default-value g t c =
-    record {
-      built = no_schema_entry_is_built (kit g.L.Leaf.Leaf g.M.Engine.RegexEngine) g.N.BuiltNode.answers _ _ _ _ _ c.in-SchemaEntries.is c.new-in_default-value.ensures.items
-          (no_object_no_members _ c.in_default-value.not-Object);
-      refused = tt;
-    }
+compile_places-returns-in_default-value g t c = record { built = rw (c.in-SchemaEntries.is, c.new-in_default-value.ensures.items) (none_are_built SchemaEntries (no_object_no_members _ c.in_default-value.not-Object)); refused = tt }
 
 pub compile_places-returns-in_default-value-2 : goal.compile_places-returns-in_default-value-2
-compile_places-returns-in_default-value-2 g t c =
-    record {
-      built = no_inner_entry_is_built (kit g.L.Leaf.Leaf g.M.Engine.RegexEngine) g.N.BuiltNode.answers _ _ _ _ _ c.in-InnerEntries.is c.new-in_default-value-2.ensures.items
-          (no_object_no_members _ c.in_default-value-2.not-Object);
-      refused = tt;
-    }
+compile_places-returns-in_default-value-2 g t c = record { built = rw (c.in-InnerEntries.is, c.new-in_default-value-2.ensures.items) (none_are_built InnerEntries (no_object_no_members _ c.in_default-value-2.not-Object)); refused = tt }
 
 pub compile_places-returns-in_default-value-3 : goal.compile_places-returns-in_default-value-3
-compile_places-returns-in_default-value-3 g t c =
-    record {
-      built = no_branch_is_built (kit g.L.Leaf.Leaf g.M.Engine.RegexEngine) g.N.BuiltNode.answers _ _ _ _ _ c.in-Branches.is c.new-in_default-value-3.ensures.items
-          (no_array_no_items _ c.in_default-value-3.not-Array);
-      refused = tt;
-    }
+compile_places-returns-in_default-value-3 g t c = record { built = rw (c.in-Branches.is, c.new-in_default-value-3.ensures.items) (none_are_built Branches (no_array_no_items _ c.in_default-value-3.not-Array)); refused = tt }
 
 pub compile_places-returns-in-Nothing-clause-built : goal.compile_places-returns-in-Nothing-clause-built
-compile_places-returns-in-Nothing-clause-built g t c = nothing_is_built (kit g.L.Leaf.Leaf g.M.Engine.RegexEngine) g.N.BuiltNode.answers _ _ _ _ _ c.in-Nothing.is c.new.ensures.items
-
-pub compile_places-returns-in-Nothing-clause-refused : goal.compile_places-returns-in-Nothing-clause-refused
-compile_places-returns-in-Nothing-clause-refused g t c = tt
+compile_places-returns-in-Nothing-clause-built g t c = rw (c.in-Nothing.is, c.new.ensures.items) (none_are_built Nothing tt)
 
 pub compile_places-returns-in_ok-one-in-Itself-clause-built : goal.compile_places-returns-in_ok-one-in-Itself-clause-built
-compile_places-returns-in_ok-one-in-Itself-clause-built g t c =
-    itself_is_built (kit g.L.Leaf.Leaf g.M.Engine.RegexEngine) g.N.BuiltNode.answers _ _ _ _ _ _ _ c.in_ok-place-in-Itself.ensures c.in-Itself.is _ c.in_ok-one-in-Itself.ensures c.in_ok-node-in-Itself.ensures.built
-
-pub compile_places-returns-in_ok-one-in-Itself-clause-refused : goal.compile_places-returns-in_ok-one-in-Itself-clause-refused
-compile_places-returns-in_ok-one-in-Itself-clause-refused g t c = tt
+compile_places-returns-in_ok-one-in-Itself-clause-built g t c = rw (c.in-Itself.is, c.in_ok-one-in-Itself.ensures, ← c.in_ok-place-in-Itself.ensures) (itself_is_built c.in_ok-node-in-Itself.ensures.built)
 
 pub compile_places-returns-in-Object-clause-built : goal.compile_places-returns-in-Object-clause-built
 compile_places-returns-in-Object-clause-built g t c =
-    entries_are_built (kit g.L.Leaf.Leaf g.M.Engine.RegexEngine) g.N.BuiltNode.answers _ _ _ _ _ _ _ c.in-Entries.is
-    (ap members (ap view c.in-Object.is ∙ view-Object c.in-Object.map)) c.compile_entries.ensures.built
+    rw (c.in-Entries.is, c.in-Object.is, view-Object) (IfOk-weaker _ _ (λ v. PlacesAreBuilt _ _ Entries v.items _ _ _ _) (λ v h. record { stand = h.stand; clean = h.clean; spends = h.spends }) c.compile_entries.ensures.built)
 
 pub compile_places-returns-in-Object-clause-refused : goal.compile_places-returns-in-Object-clause-refused
-compile_places-returns-in-Object-clause-refused g t c =
-    subst₂ (λ s d. IfErr c.compile_entries.result (RefusesPlaces (kit g.L.Leaf.Leaf g.M.Engine.RegexEngine) s d c.args.location.now c.args.meter.now c.compile_entries.new.meter))
-    (sym c.in-Entries.is) (sym (ap view c.in-Object.is ∙ view-Object c.in-Object.map)) c.compile_entries.ensures.refused
+compile_places-returns-in-Object-clause-refused g t c = rw (c.in-Entries.is, c.in-Object.is, view-Object) c.compile_entries.ensures.refused
 
 pub compile_places-returns-in-Object-value-clause-built : goal.compile_places-returns-in-Object-value-clause-built
 compile_places-returns-in-Object-value-clause-built g t c =
-    schema_entries_are_built (kit g.L.Leaf.Leaf g.M.Engine.RegexEngine) g.N.BuiltNode.answers _ _ _ _ _ _ _ c.in-SchemaEntries.is
-    (ap members (ap view c.in-Object-value.is ∙ view-Object c.in-Object-value.map)) c.compile_entries-in-SchemaEntries.ensures.built
+    rw (c.in-SchemaEntries.is, c.in-Object-value.is, view-Object) (IfOk-weaker _ _ (λ v. PlacesAreBuilt _ _ SchemaEntries v.items _ _ _ _) (λ v h. record { stand = h.stand; clean = h.clean; spends = h.spends }) c.compile_entries-in-SchemaEntries.ensures.built)
 
 pub compile_places-returns-in-Object-value-clause-refused : goal.compile_places-returns-in-Object-value-clause-refused
-compile_places-returns-in-Object-value-clause-refused g t c =
-    subst₂ (λ s d. IfErr c.compile_entries-in-SchemaEntries.result (RefusesPlaces
-    (kit g.L.Leaf.Leaf g.M.Engine.RegexEngine) s d c.args.location.now c.args.meter.now c.compile_entries-in-SchemaEntries.new.meter))
-    (sym c.in-SchemaEntries.is) (sym (ap view c.in-Object-value.is ∙ view-Object c.in-Object-value.map)) c.compile_entries-in-SchemaEntries.ensures.refused
+compile_places-returns-in-Object-value-clause-refused g t c = rw (c.in-SchemaEntries.is, c.in-Object-value.is, view-Object) c.compile_entries-in-SchemaEntries.ensures.refused
 
 pub compile_places-returns-in-Object-value-2-clause-built : goal.compile_places-returns-in-Object-value-2-clause-built
 compile_places-returns-in-Object-value-2-clause-built g t c =
-    inner_entries_are_built (kit g.L.Leaf.Leaf g.M.Engine.RegexEngine) g.N.BuiltNode.answers _ _ _ _ _ _ _ c.in-InnerEntries.is
-    (ap members (ap view c.in-Object-value-2.is ∙ view-Object c.in-Object-value-2.map)) c.compile_inner_entries.ensures.built
+    rw (c.in-InnerEntries.is, c.in-Object-value-2.is, view-Object) (IfOk-weaker _ _ (λ v. PlacesAreBuilt _ _ InnerEntries v.items _ _ _ _) (λ v h. record { stand = h.stand; clean = h.clean; spends = h.spends }) c.compile_inner_entries.ensures.built)
 
 pub compile_places-returns-in-Object-value-2-clause-refused : goal.compile_places-returns-in-Object-value-2-clause-refused
-compile_places-returns-in-Object-value-2-clause-refused g t c =
-    subst₂ (λ s d. IfErr c.compile_inner_entries.result (RefusesPlaces
-    (kit g.L.Leaf.Leaf g.M.Engine.RegexEngine) s d c.args.location.now c.args.meter.now c.compile_inner_entries.new.meter)) (sym c.in-InnerEntries.is)
-    (sym (ap view c.in-Object-value-2.is ∙ view-Object c.in-Object-value-2.map)) c.compile_inner_entries.ensures.refused
+compile_places-returns-in-Object-value-2-clause-refused g t c = rw (c.in-InnerEntries.is, c.in-Object-value-2.is, view-Object) c.compile_inner_entries.ensures.refused
 
 pub compile_places-returns-in-Array-clause-built : goal.compile_places-returns-in-Array-clause-built
 compile_places-returns-in-Array-clause-built g t c =
-    branches_are_built (kit g.L.Leaf.Leaf g.M.Engine.RegexEngine) g.N.BuiltNode.answers _ _ _ _ _ _ _ c.in-Branches.is
-    (ap items_of_array (ap view c.in-Array.is ∙ view-Array c.in-Array.items)) c.compile_branches.ensures.built
+    rw (c.in-Branches.is, c.in-Array.is, view-Array) (IfOk-weaker _ _ (λ v. PlacesAreBuilt _ _ Branches v.items _ _ _ _) (λ v h. record { stand = h.stand; clean = h.clean; spends = h.spends }) c.compile_branches.ensures.built)
 
 pub compile_places-returns-in-Array-clause-refused : goal.compile_places-returns-in-Array-clause-refused
-compile_places-returns-in-Array-clause-refused g t c =
-    subst₂ (λ s d. IfErr c.compile_branches.result (RefusesPlaces (kit g.L.Leaf.Leaf g.M.Engine.RegexEngine) s d c.args.location.now c.args.meter.now c.compile_branches.new.meter))
-    (sym c.in-Branches.is) (sym (ap view c.in-Array.is ∙ view-Array c.in-Array.items)) c.compile_branches.ensures.refused
+compile_places-returns-in-Array-clause-refused g t c = rw (c.in-Branches.is, c.in-Array.is, view-Array) c.compile_branches.ensures.refused
 
 pub compile_schema-returns-in-Bool-true-clause-built : goal.compile_schema-returns-in-Bool-true-clause-built
-compile_schema-returns-in-Bool-true-clause-built g t c =
-    built_truth (kit g.L.Leaf.Leaf g.M.Engine.RegexEngine) g.N.BuiltNode.answers c.new.result c.args.location
-    (view c.args.schema.now) c.args.meter.now c.tick_compiled.new.self c.tick_compiled.ensures true c.new.ensures (ap view c.in-Bool-true.is ∙ search (rules, value_lemmas))
-
-pub compile_schema-returns-in-Bool-true-clause-refused : goal.compile_schema-returns-in-Bool-true-clause-refused
-compile_schema-returns-in-Bool-true-clause-refused g t c = tt
+compile_schema-returns-in-Bool-true-clause-built g t c = built_truth c.tick_compiled.ensures true c.new.ensures (ap view c.in-Bool-true.is ∙ search (rules, value_lemmas))
 
 pub compile_schema-returns-in-Bool-false-clause-built : goal.compile_schema-returns-in-Bool-false-clause-built
-compile_schema-returns-in-Bool-false-clause-built g t c =
-    built_truth (kit g.L.Leaf.Leaf g.M.Engine.RegexEngine) g.N.BuiltNode.answers c.new-in-Bool-false.result c.args.location
-    (view c.args.schema.now) c.args.meter.now c.tick_compiled.new.self c.tick_compiled.ensures false c.new-in-Bool-false.ensures (ap view c.in-Bool-false.is ∙ search (rules, value_lemmas))
-
-pub compile_schema-returns-in-Bool-false-clause-refused : goal.compile_schema-returns-in-Bool-false-clause-refused
-compile_schema-returns-in-Bool-false-clause-refused g t c = tt
-
-pub compile_schema-returns-in_err-keywords-in-Object-clause-built : goal.compile_schema-returns-in_err-keywords-in-Object-clause-built
-compile_schema-returns-in_err-keywords-in-Object-clause-built g t c = IfOk-from_err _ _ c.from_residual.ensures.0
+compile_schema-returns-in-Bool-false-clause-built g t c = built_truth c.tick_compiled.ensures false c.new-in-Bool-false.ensures (ap view c.in-Bool-false.is ∙ search (rules, value_lemmas))
 
 pub compile_schema-returns-in_err-keywords-in-Object-clause-refused : goal.compile_schema-returns-in_err-keywords-in-Object-clause-refused
 compile_schema-returns-in_err-keywords-in-Object-clause-refused g t c =
-    exit _ _ _ c.from_residual.ensures.1 (λ e q. refuses_object (world g.L.Leaf.Leaf g.M.Engine.RegexEngine) (members_view c.in-Object.members.entries)
-    (view c.args.schema.now) c.args.location c.args.meter.now c.tick_compiled.new.self c.compile_object.new.meter e
-    (ap view c.in-Object.is ∙ view-Object c.in-Object.members) c.tick_compiled.ensures
-    (subst (RefusesObject (kit g.L.Leaf.Leaf g.M.Engine.RegexEngine) (members_view c.in-Object.members.entries) c.args.location c.tick_compiled.new.self c.compile_object.new.meter)
-    (sym q) c.in_err-keywords-in-Object.ensures.refused))
+    exit_with _ _ _ c.from_residual.ensures.1 (rw (c.in-Object.is, view-Object) (refuses_object (kit g.L.Leaf.Leaf g.M.Engine.RegexEngine) _ _ c.tick_compiled.ensures c.in_err-keywords-in-Object.ensures.refused))
 
 pub compile_schema-returns-in-Object-clause-built : goal.compile_schema-returns-in-Object-clause-built
-compile_schema-returns-in-Object-clause-built g t c =
-    let object = c.in_ok-keywords-in-Object.ensures.built in
-    built_object (kit g.L.Leaf.Leaf g.M.Engine.RegexEngine) g.N.BuiltNode.answers c.new-in-Object.result c.args.location
-    (view c.args.schema.now) c.args.meter.now c.tick_compiled.new.self c.tick_compiled.ensures
-    (members_view c.in-Object.members.entries) c.in_ok-keywords-in-Object.keywords c.compile_object.new.meter c.new-in-Object.ensures
-    (ap view c.in-Object.is ∙ view-Object c.in-Object.members) object.mean object.clean object.spends
-
-pub compile_schema-returns-in-Object-clause-refused : goal.compile_schema-returns-in-Object-clause-refused
-compile_schema-returns-in-Object-clause-refused g t c = tt
+compile_schema-returns-in-Object-clause-built g t c = rw (c.in-Object.is, view-Object) (built_object c.tick_compiled.ensures c.new-in-Object.ensures c.in_ok-keywords-in-Object.ensures.built)
 
 pub compile_schema-returns-clause-built : goal.compile_schema-returns-clause-built
 compile_schema-returns-clause-built g t c = tt
 
 pub compile_schema-returns-clause-refused : goal.compile_schema-returns-clause-refused
 compile_schema-returns-clause-refused g t c =
-    refuses_no_schema (world g.L.Leaf.Leaf g.M.Engine.RegexEngine) (view c.args.schema.now) c.args.location c.args.meter.now c.tick_compiled.new.self c.refuse.result
-    (no_schema_is (view c.args.schema.now) (elim c.in-Null.is [
+    refuses_no_schema _ _ _
+    (no_schema_is _ (elim c.in-Null.is [
       | inl h ↦ rw h (search (rules, value_lemmas))
       | inr h ↦ elim h [
         | inl i ↦ rw i.1 (search (rules, value_lemmas))
@@ -560,4 +359,4 @@ compile_schema-returns-clause-refused g t c =
           | inr j ↦ rw j.1 (search (rules, value_lemmas))
         ]
       ]
-    ])) c.tick_compiled.ensures (subst (λ k. TellsOneOf (fault k (view c.args.schema.now) [] c.args.location ∷ []) c.refuse.result) kind_of_multiple_types c.refuse.ensures)
+    ])) c.tick_compiled.ensures (rw kind_of_multiple_types at c.refuse.ensures)

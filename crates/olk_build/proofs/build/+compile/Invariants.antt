@@ -1,7 +1,8 @@
 use Rattle.std.proofs.Common.{◌≡◌, ◌++◌, List, map, String, Global}
 use Rattle.serde_json.specs.declared.value.Value.{Value}
-use Rattle.serde_json.specs.View.{view, members_view}
+use Rattle.serde_json.specs.View.{items_view, members_view}
 use Rattle.olk_spec.specs.Schemas.{listed, numbered}
+use Rattle.olk_spec.specs.Malformed.{items_list}
 use Rattle.olk_base.specs.Kit.{kit}
 use Rattle.olk_build.specs.Building.{entries_read}
 use Rattle.olk_build.proofs.Built.{EntriesSoFar, InnerSoFar, branches_from}
@@ -28,7 +29,7 @@ invariant-compile_inner_entries-loop-name g l = record {
 
 abbrev pub invariant-compile_branches-loop-i : goal.invariant-compile_branches-loop-i
 invariant-compile_branches-loop-i g l =
-    EntriesSoFar (kit g.L.Leaf.Leaf g.M.Engine.RegexEngine) g.N.BuiltNode.answers l.fn.place (numbered (map view l.schema-items)) l.fn.meter l.nodes.items (branches_from l.i l.schema-items) l.meter
+    EntriesSoFar (kit g.L.Leaf.Leaf g.M.Engine.RegexEngine) g.N.BuiltNode.answers l.fn.place (numbered (items_list (items_view l.items.items))) l.fn.meter l.nodes.items (branches_from l.i l.schema-items) l.meter
 
 -- the parts so far are built for the members so far
 abbrev pub invariant-compile_parts-loop-name : goal.invariant-compile_parts-loop-name

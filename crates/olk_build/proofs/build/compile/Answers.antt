@@ -5,7 +5,7 @@ use Rattle.serde_json.specs.View.{view}
 use Rattle.olk_spec.specs.Malformed.{malformations_at}
 use Rattle.olk_base.specs.Kit.{world}
 use Rattle.olk_read.specs.Refusing.{TellsOneOf}
-use Rattle.olk_read.proofs.Spending.{within_nothing}
+use Rattle.olk_read.proofs.Spending.{exit_with, within_nothing}
 use Rattle.olk_build.proofs.build.compile.Goals as goal
 
 pub returns-in_err-location-clause-costs_at_most : goal.returns-in_err-location-clause-costs_at_most
@@ -13,9 +13,7 @@ returns-in_err-location-clause-costs_at_most g c = let p = err_from_is_err_and c
 
 pub returns-in_err-compile_schema-clause-refused : goal.returns-in_err-compile_schema-clause-refused
 returns-in_err-compile_schema-clause-refused g c =
-    let p = err_from_is_err_and c.from_residual-in_err-compile_schema.result c.from_residual-in_err-compile_schema.ensures.1 in
-    rw p.1 (subst₂ (λ P e. TellsOneOf (malformations_at (world g.L.Leaf.Leaf g.M.Engine.RegexEngine) (view c.args.schema.now) P) e)
-    c.in_ok-location.ensures (sym p.2) c.in_err-compile_schema.ensures.refused.tells)
+    exit_with _ _ _ c.from_residual-in_err-compile_schema.ensures.1 (rw (← c.in_ok-location.ensures) c.in_err-compile_schema.ensures.refused.tells)
 
 pub returns-in_err-compile_schema-clause-costs_at_most : goal.returns-in_err-compile_schema-clause-costs_at_most
 returns-in_err-compile_schema-clause-costs_at_most g c =

@@ -3,7 +3,7 @@ use Rattle.serde_json.specs.View.{members_view}
 use Rattle.olk_spec.specs.Schemas.{listed}
 use Rattle.olk_base.specs.Kit.{kit}
 use Rattle.olk_build.specs.Building.{RefusesEach}
-use Rattle.olk_read.proofs.Spending.{exit, refuses_memory, within_nothing}
+use Rattle.olk_read.proofs.Spending.{exit, exit_with, refuses_memory, within_nothing}
 use Rattle.olk_build.proofs.build.compile_declared.Goals as goal
 
 pub returns-in_err-location-clause-refused : goal.returns-in_err-location-clause-refused
@@ -11,8 +11,4 @@ returns-in_err-location-clause-refused g c = exit _ _ _ c.from_residual.ensures.
 
 pub returns-in_err-compile_entries-clause-refused : goal.returns-in_err-compile_entries-clause-refused
 returns-in_err-compile_entries-clause-refused g c =
-    exit _ _ _ c.from_residual-in_err-compile_entries.ensures.1 (λ e q. subst (λ L. RefusesEach (kit g.L.Leaf.Leaf g.M.Engine.RegexEngine) (listed (members_view c.args.entries.now.entries)) L
-    c.args.ctx.now.meter.now c.compile_entries.new.meter e) c.in_ok-location.ensures
-    (subst (RefusesEach (kit g.L.Leaf.Leaf g.M.Engine.RegexEngine) (listed
-    (members_view c.args.entries.now.entries)) c.in_ok-location.location c.args.ctx.now.meter.now c.compile_entries.new.meter)
-    (sym q) c.in_err-compile_entries.ensures.refused))
+    exit_with _ _ _ c.from_residual-in_err-compile_entries.ensures.1 (rw (← c.in_ok-location.ensures) c.in_err-compile_entries.ensures.refused)

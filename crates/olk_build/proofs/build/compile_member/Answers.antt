@@ -12,7 +12,7 @@ use Rattle.olk_build.proofs.build.compile_member.Goals as goal
 
 pub returns-in_err-location-clause-refused : goal.returns-in_err-location-clause-refused
 returns-in_err-location-clause-refused g c =
-    exit _ _ _ c.from_residual.ensures.1 (refuses_part_memory (kit g.L.Leaf.Leaf g.M.Engine.RegexEngine) g.N.BuiltNode.answers _ c.args.name.now
+    exit _ _ _ c.from_residual.ensures.1 (refuses_part_memory (kit g.L.Leaf.Leaf g.M.Engine.RegexEngine) _ c.args.name.now
     (view c.args.value.now) (c.args.ctx.now.place // c.args.name.now) c.args.ctx.now.meter.now)
 
 pub returns-clause-built : goal.returns-clause-built
@@ -24,6 +24,4 @@ pub returns-in_err-compile_part-clause-refused : goal.returns-in_err-compile_par
 returns-in_err-compile_part-clause-refused g c =
     exit _ _ _ c.from_residual-in_err-compile_part.ensures.1 (λ e q. subst₂ (λ L b. RefusesPart (kit g.L.Leaf.Leaf g.M.Engine.RegexEngine) b c.args.name.now
     (view c.args.value.now) L c.args.ctx.now.meter.now c.compile_part.new.meter e) c.in_ok-location.ensures c.of-neighbours.ensures
-    (subst (RefusesPart (kit g.L.Leaf.Leaf g.M.Engine.RegexEngine) (known c.of-neighbours.result) c.args.name.now
-    (view c.args.value.now) c.in_ok-location.location c.args.ctx.now.meter.now c.compile_part.new.meter)
-    (sym q) c.in_err-compile_part.ensures.refused))
+    (rw q c.in_err-compile_part.ensures.refused))
