@@ -40,7 +40,7 @@ use Rattle.olk_tree.specs.declared.properties_map.PropertiesMap.TheVariants.{Sma
 use Rattle.olk_tree.specs.declared.node.KeywordOver.{KeywordOver}
 use Rattle.olk_tree.specs.declared.node.KeywordOver.TheVariants as keyword
 use Rattle.olk_tree.specs.declared.node.Body.{Body}
-use Rattle.olk_tree.specs.declared.node.Body.TheVariants.{True, False, Keywords, RequiredNames}
+use Rattle.olk_tree.specs.declared.node.Body.TheVariants.{Keywords}
 use Rattle.olk_node.specs.declared.node.SchemaNode.{SchemaNode, map-SchemaNode, out-SchemaNode, fold_out-SchemaNode}
 use Rattle.olk_node.specs.declared.node.SchemaNode.TheOpen.{SchemaNode-F}
 use Rattle.olk_spec.proofs.Maps.{flat_map-map, map-map}
@@ -237,20 +237,24 @@ module _ {K R : Type 0} (o : Kit K R) where
       → (node_step o (opened n b)).tree u v Q ≡ body_tree (validator_tree o means shows u) n.location b v Q
   unfolding answers_of
   shows_layer n (Keywords ks) u v Q =
+      let by_name = properties_tree-map (λ (a : Answers). a.tree u) (λ n. shows n u) (answers o) (λ y w R. refl) v Q in
+      let branches = branch_trees-map (λ (a : Answers). a.tree u) (λ n. shows n u) (answers o) (λ y w R. refl) v Q in
+      let any_of = any_of_tree-map (λ (a : Answers). a.tree u) (λ n. shows n u) (answers o) (λ y w R. refl) v Q (λ a. (a.means v).accepts u) (λ n. (means n v).accepts u) (λ n. refl) in
+      let one_of = one_of_tree-map (λ (a : Answers). a.tree u) (λ n. shows n u) (answers o) (λ y w R. refl) v Q (λ a. (a.means v).accepts u) (λ n. (means n v).accepts u) (λ n. refl) in
       ap (plain n.location Q) (map-map (λ k. validator_tree o (λ a. a.means) (λ a. a.tree) u k v Q) (λ k. validator_tree o means shows u k v Q) _ (elim [
-        | keyword.Properties k ↦ few_or_many k.properties (λ m e. rw e (properties_tree-map (λ a. a.tree u) (λ n. shows n u) (answers o) (λ y w R. refl) v Q k.location m.entries [])) (λ m e. rw e
-            (properties_tree-map (λ a. a.tree u) (λ n. shows n u) (answers o) (λ y w R. refl) v Q k.location m.entries []))
-        | keyword.PropertiesWithRequired2 k ↦ properties_tree-map (λ a. a.tree u) (λ n. shows n u) (answers o) (λ y w R. refl) v Q k.value.location k.value.properties.entries (missing_trees (two_texts k.value.first k.value.second) v k.value.required_location Q)
-        | keyword.AllOf k ↦ ap (plain k.location Q) (branch_trees-map (λ a. a.tree u) (λ n. shows n u) (answers o) (λ y w R. refl) v Q k.schemas.items)
-        | keyword.AnyOf k ↦ any_of_tree-map (λ a. a.tree u) (λ n. shows n u) (answers o) (λ y w R. refl) v Q (λ a. (a.means v).accepts u) (λ n. (means n v).accepts u) (λ n. refl) k.location k.schemas.items
-        | keyword.SingleAnyOf k ↦ any_of_tree-map (λ a. a.tree u) (λ n. shows n u) (answers o) (λ y w R. refl) v Q (λ a. (a.means v).accepts u) (λ n. (means n v).accepts u) (λ n. refl) k.location (k.node ∷ [])
-        | keyword.OneOf k ↦ one_of_tree-map (λ a. a.tree u) (λ n. shows n u) (answers o) (λ y w R. refl) v Q (λ a. (a.means v).accepts u) (λ n. (means n v).accepts u) (λ n. refl) k.location k.schemas.items
-        | keyword.SingleOneOf k ↦ one_of_tree-map (λ a. a.tree u) (λ n. shows n u) (answers o) (λ y w R. refl) v Q (λ a. (a.means v).accepts u) (λ n. (means n v).accepts u) (λ n. refl) k.location (k.node ∷ [])
+        | keyword.Properties k ↦ few_or_many k.properties (λ m e. rw e (by_name k.location m.entries [])) (λ m e. rw e
+            (by_name k.location m.entries []))
+        | keyword.PropertiesWithRequired2 k ↦ by_name k.value.location k.value.properties.entries (missing_trees (two_texts k.value.first k.value.second) v k.value.required_location Q)
+        | keyword.AllOf k ↦ ap (plain k.location Q) (branches k.schemas.items)
+        | keyword.AnyOf k ↦ any_of k.location k.schemas.items
+        | keyword.SingleAnyOf k ↦ any_of k.location (k.node ∷ [])
+        | keyword.OneOf k ↦ one_of k.location k.schemas.items
+        | keyword.SingleOneOf k ↦ one_of k.location (k.node ∷ [])
         | keyword.Dependencies k ↦ ap (λ ns. plain k.location Q (branch_trees (λ a. a.tree u) v Q ns)) (due_nodes-map (answers o) v k.dependencies.entries)
-            ∙ ap (plain k.location Q) (branch_trees-map (λ a. a.tree u) (λ n. shows n u) (answers o) (λ y w R. refl) v Q (due_nodes (named k.dependencies) v))
+            ∙ ap (plain k.location Q) (branches (due_nodes (named k.dependencies) v))
         | keyword.PropertyDependencies k ↦ ap (λ ns. plain k.location Q (branch_trees (λ a. a.tree u) v Q ns))
             (chosen_nodes-map (answers o) v _ (λ m. refl) k.dependencies.entries) ∙ ap (plain k.location Q)
-            (branch_trees-map (λ a. a.tree u) (λ n. shows n u) (answers o) (λ y w R. refl) v Q (chosen_nodes (named k.dependencies) v))
+            (branches (chosen_nodes (named k.dependencies) v))
         | keyword.PatternProperties k ↦ patterns_tree-map o.answers (answers o) u v (λ a. a.tree u) (λ n. shows n u) (λ n w R. refl) k.location Q k.patterns.items
         | keyword.AdditionalProperties k ↦ (λ i. additional_tree o.answers (sides_of (answered n ks k)) u v Q (declares_alike n ks k i)
             (matches_alike n ks k i) k.value.location k.value.patterns_location (λ a. a.tree u) (missing_trees (required_text k.value.required) v (required_place k.value.required) Q))
