@@ -1,5 +1,5 @@
 -- A malformation of a schema that has no fraction prints none.
-use Rattle.std.proofs.Common.{◌≡◌, Bool, true, false, not, List, [], ◌∷◌, map, refl, codes}
+use Rattle.std.proofs.Common.{◌≡◌, Bool, true, false, not, List, [], ◌∷◌, refl, codes}
 use Rattle.std.specs.List.{AllByRecursion, Contains}
 use Rattle.std.proofs.lemmas.List.Elements.{All-from_recursion, All-contains}
 use Rattle.serde_json.specs.Data.{Data, null, boolean, string, array, object, Items, no_items, item, Members, no_members, member}
@@ -11,8 +11,8 @@ use Rattle.olk_spec.specs.Vocabulary.{Keyword, properties, pattern_properties, a
 use Rattle.olk_spec.specs.Schemas.{Sub, Part, Keywords, is_object, is_array, is_present, texts, read_members}
 use Rattle.olk_spec.specs.Meanings.{is_conditional}
 use Rattle.olk_spec.specs.Asks.{open_patterns}
-use Rattle.olk_spec.specs.Faults.{Fault, SingleType, UniqueItems, Regex, string_type}
-use Rattle.olk_spec.specs.Malformed.{each, places_where, read_places, refusal, first_of_list, items_list, items_of_array, is_text, not_a_text, has_repeat, or_else_list, unless_object, unless_array, name_list_refusals, own_refusals, keyword_malformations, malformations_step, malformations_at, malformations}
+use Rattle.olk_spec.specs.Faults.{Fault, UniqueItems, Regex}
+use Rattle.olk_spec.specs.Malformed.{each, places_where, read_places, refusal, first_of_list, items_list, items_of_array, not_a_text, has_repeat, or_else_list, unless_object, unless_array, name_list_refusals, own_refusals, keyword_malformations, malformations_step, malformations_at, malformations}
 use Rattle.olk_spec.proofs.Each.{Each, Each-append, Each-filter_once, Each-any, Each-map, Each-flat_map, Each-implies}
 use Rattle.olk_spec.proofs.Induction.{schema_read, EachItem, EachMember, GoodEntry, GoodInner, GoodPart, GoodSchema, sound_answer, branches_good}
 use Rattle.olk_spec.specs.Texts.{prints_fraction}

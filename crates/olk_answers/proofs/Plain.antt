@@ -1,22 +1,21 @@
 -- Where schema and value have no fraction, no fault prints one, and no error of a tree does.
 use Rattle.std.specs.Prelude.{⊤, Contains}
-use Rattle.std.proofs.Common.{◌≡◌, Bool, true, false, not, ◌||◌, ◌&&◌, ◌==◌, nat_lt, List, [], ◌∷◌, ◌++◌, map, refl, ◌∙◌, codes, cond, Option, Some, None, option_to_list}
+use Rattle.std.proofs.Common.{◌≡◌, Bool, true, false, not, ◌&&◌, ◌==◌, nat_lt, List, [], ◌∷◌, ◌++◌, map, refl, ◌∙◌, codes, cond, Option, None}
 use Rattle.std.specs.List.{flat_map}
-use Rattle.std.proofs.lemmas.List.Elements.{All-from_recursion, All-contains}
 use Rattle.serde_json.specs.Data.{Data, boolean, string, object, Members, no_members, member}
 use Rattle.serde_json.specs.Written.{has_float, members_have_float}
-use Rattle.olk_spec.specs.Names.{Name, Path, ◌//◌, down, filter_once, put_if, is_empty, lookup_name}
+use Rattle.olk_spec.specs.Names.{Name, Path, ◌//◌, down, filter_once, put_if, is_empty}
 use Rattle.olk_spec.specs.World.{World}
 use Rattle.olk_spec.specs.Vocabulary.{Keyword, properties, pattern_properties, additional_properties, property_names, required, dependent_required, dependent_schemas, dependencies, property_dependencies, all_of, any_of, one_of, not_keyword, if_keyword, leaf, keyword_named}
-use Rattle.olk_spec.specs.Schemas.{keywords, Part, Keywords, members, listed, has, is_object, is_array, is_truth, texts, names, names_at, entries_at, wholes_at, branches, read_members}
-use Rattle.olk_spec.specs.Meanings.{Meaning, Subschema, holds, applied, additional, is_declared, matches, matching}
+use Rattle.olk_spec.specs.Schemas.{keywords, Part, Keywords, members, listed, is_object, is_array, is_truth, texts, names, names_at, read_members}
+use Rattle.olk_spec.specs.Meanings.{Meaning, Subschema, holds, additional, is_declared, matches}
 use Rattle.olk_spec.specs.Meaning.{meaning_step, meaning, report, tree, IsReport}
-use Rattle.olk_spec.specs.Accepts.{missing, due, accepting}
-use Rattle.olk_spec.specs.Faults.{Fault, fault, Kind, AdditionalProperties, AnyOf, OneOfNotValid, OneOfMultipleValid, Not, Required, FalseSchema, PropertyNames, Leaf, IsLike, like, IsLikeKind, itself, like_any_of, like_not_valid, like_multiple, like_names, ◌∼◌, like_empty, like_next, like_swap, like_through}
+use Rattle.olk_spec.specs.Accepts.{due, accepting}
+use Rattle.olk_spec.specs.Faults.{Fault, fault, Kind, AdditionalProperties, AnyOf, OneOfNotValid, OneOfMultipleValid, Not, FalseSchema, PropertyNames, Leaf, IsLike, like, IsLikeKind, like_names, ◌∼◌, like_empty, like_next, like_swap, like_through}
 use Rattle.olk_spec.specs.Reports.{fault_if, required_faults, unexpected_faults, wrapped, branch_faults, has_neighbour, own, keyword_report, cut, cut_kind}
 use Rattle.olk_spec.specs.Texts.{prints_fraction, kind_prints_fraction}
 use Rattle.olk_spec.specs.Tree.{Tree, node, leaf_node, Trees, no_tree, and_tree, Described, described, result_node, result, plain, erring, trees_from, errors, errors_of}
-use Rattle.olk_spec.specs.Trees.{declared_trees, pattern_trees, missing_child, additional_trees, branch_trees, asked_trees, properties_child, patterns_child, additional_child, names_child, dependency_tree, any_of_child, one_of_child, case_trees, if_child, keyword_child, where_so, matched_names, additional_names, on_objects, has_patterns, declares, fuses_one, fuses_two}
+use Rattle.olk_spec.specs.Trees.{declared_trees, pattern_trees, missing_child, additional_trees, branch_trees, asked_trees, properties_child, patterns_child, additional_child, names_child, dependency_tree, any_of_child, one_of_child, case_trees, if_child, keyword_child, where_so, on_objects, fuses_one, fuses_two}
 use Rattle.olk_spec.proofs.Each.{Each, Each-append, Each-filter_once, Each-any, Each-map, Each-flat_map, Each-implies, Each-option, On-lookup_name}
 use Rattle.olk_spec.proofs.Induction.{schema_read, GoodSub, GoodEntry, GoodPart, GoodKeywords, GoodSchema, sound_answer, branches_good, entries_at_good, wholes_at_good}
 use Rattle.olk_spec.proofs.Applied.{GoodAsked, applied_good}

@@ -10,15 +10,15 @@ use mathlib.Core.Path.{subst₂}
 use Rattle.serde_json.specs.Data.{Data}
 use Rattle.olk_spec.specs.Names.{Name, Path, ◌//◌, is_empty}
 use Rattle.olk_spec.specs.declared.TheConstants.{HASHMAP_THRESHOLD}
-use Rattle.olk_spec.specs.Faults.{AnyOf, context}
+use Rattle.olk_spec.specs.Faults.{Fault, AnyOf, context}
 use Rattle.olk_spec.specs.Schemas.{at}
 use Rattle.olk_spec.specs.Accepts.{missing}
 use Rattle.olk_spec.specs.Reports.{required_faults, fault_if}
-use Rattle.olk_spec.specs.Tree.{plain}
+use Rattle.olk_spec.specs.Tree.{Tree, plain}
 use Rattle.olk_base.specs.Kit.{Kit}
 use Rattle.olk_base.specs.declared.pattern.CompiledPattern.{CompiledPattern}
 use Rattle.olk_tree.specs.Shown.{missing_trees, branch_trees}
-use Rattle.olk_tree.specs.Questions.{always, both, every}
+use Rattle.olk_tree.specs.Questions.{Question, always, both, every, some, how_many}
 use Rattle.olk_tree.specs.Maps.{named, nodes_in, mapped, two_texts}
 use Rattle.olk_tree.specs.Dependencies.{due_nodes}
 use Rattle.olk_tree.specs.PropertyDependencies.{chosen_nodes}
@@ -40,7 +40,7 @@ use Rattle.olk_tree.specs.declared.properties_map.PropertiesMap.TheVariants.{Sma
 use Rattle.olk_tree.specs.declared.node.KeywordOver.{KeywordOver}
 use Rattle.olk_tree.specs.declared.node.KeywordOver.TheVariants as keyword
 use Rattle.olk_tree.specs.declared.node.Body.{Body}
-use Rattle.olk_tree.specs.declared.node.Body.TheVariants.{True, False, Keywords, RequiredNames}
+use Rattle.olk_tree.specs.declared.node.Body.TheVariants.{Keywords}
 use Rattle.olk_node.specs.declared.node.SchemaNode.{SchemaNode, map-SchemaNode, out-SchemaNode, fold_out-SchemaNode}
 use Rattle.olk_node.specs.declared.node.SchemaNode.TheOpen.{SchemaNode-F}
 use Rattle.olk_spec.proofs.Maps.{flat_map-map, map-map}
@@ -63,8 +63,36 @@ none_or_one None none one = none refl
 none_or_one (Some x) none one = one x refl
 
 module _ {K R : Type 0} (o : Kit K R) where
-  abbrev opened : SchemaNode-F K R (SchemaNode K R) → Body (KeywordOver K R (SchemaNode K R)) → SchemaNode-F K R Answers
-  opened n b = map-SchemaNode K R (SchemaNode K R) Answers (answers o) record n { body = b }
+  abbrev Node : Type 0
+  Node = SchemaNode K R
+
+  abbrev NodeKeyword : Type 0
+  NodeKeyword = KeywordOver K R Node
+
+  abbrev OpenNode : Type 0
+  OpenNode = SchemaNode-F K R Node
+
+  abbrev inside : Node → OpenNode
+  inside n = out-SchemaNode K R n
+
+  -- what the nodes answer
+  abbrev means : Node → Data → Question
+  means n = (answers o n).means
+
+  abbrev finds : Node → Bool → Data → Path → List Fault
+  finds n = (answers o n).report
+
+  abbrev finds_first : Node → Bool → Data → Path → List Fault
+  finds_first n = (answers o n).first
+
+  abbrev shows : Node → Bool → Data → Path → Tree
+  shows n = (answers o n).tree
+
+  abbrev is_formed : Node → Bool
+  is_formed n = (answers o n).formed
+
+  abbrev opened : OpenNode → Body NodeKeyword → SchemaNode-F K R Answers
+  opened n b = map-SchemaNode K R Node Answers (answers o) record n { body = b }
 
   -- the keyword that the answers of nodes make of one that holds nodes
   abbrev restriction_of : KeywordOver K R Answers → AdditionalProperties R Answers
@@ -79,7 +107,7 @@ module _ {K R : Type 0} (o : Kit K R) where
   first_restriction (Keywords ks) = first_in ks.items
   first_restriction b = restriction_of (keyword.PropertyNamesFalse record { location = [] })
 
-  module _ (n : SchemaNode-F K R (SchemaNode K R)) (ks : Vec (KeywordOver K R (SchemaNode K R)) Global) (k : Box (AdditionalProperties R (SchemaNode K R)) Global) where
+  module _ (n : OpenNode) (ks : Vec NodeKeyword Global) (k : Box (AdditionalProperties R Node) Global) where
     abbrev answered : AdditionalProperties R Answers
     answered = first_restriction (opened n (Keywords record ks { len = 1; cap = 1; items = keyword.AdditionalProperties k ∷ []; ok = (refl, omega arith); small = omega arith })).body
 
@@ -101,199 +129,164 @@ module _ {K R : Type 0} (o : Kit K R) where
     neighbours_alike : has_neighbours answered ≡ has_neighbours k.value
     neighbours_alike = λ i. declares_alike i || matches_alike i
 
-  means_layer : (n : SchemaNode-F K R (SchemaNode K R)) (b : Body (KeywordOver K R (SchemaNode K R))) (v : Data)
-      → (node_step o (opened n b)).means v ≡ body_means (validator_means o (λ n. (answers o n).means)) b v
-  unfolding answers_of
-  means_layer n True v = refl
-  means_layer n False v = refl
-  means_layer n (RequiredNames k) v = refl
-  means_layer n (Keywords ks) v = every-map (λ k. validator_means o (λ a. a.means) k v) (λ k. validator_means o (λ n. (answers o n).means) k v) _ (elim [
-    | keyword.Properties k ↦ few_or_many k.properties (λ m e. rw e (every-map (λ e. every e.1.means (at e.0 v)) (λ e. every (answers o e.1).means (at e.0 v))
-        (with_name (answers o)) (λ e. refl) m.entries)) (λ m e. rw e
-        (every-map (λ e. every e.1.means (at e.0 v)) (λ e. every (answers o e.1).means (at e.0 v)) (with_name (answers o)) (λ e. refl) m.entries))
-    | keyword.PropertiesWithRequired2 k ↦ ap (both (always (is_empty (missing (two_texts k.value.first k.value.second) v))))
-        (every-map (λ e. every e.1.means (at e.0 v)) (λ e. every (answers o e.1).means (at e.0 v)) (with_name (answers o)) (λ e. refl) k.value.properties.entries)
-    | keyword.Required k ↦ refl
-    | keyword.AllOf k ↦ every-map (λ a. a.means v) (λ n. (answers o n).means v) (answers o) (λ n. refl) k.schemas.items
-    | keyword.SingleValueAllOf k ↦ refl
-    | keyword.AnyOf k ↦ some-map (λ a. a.means v) (λ n. (answers o n).means v) (answers o) (λ n. refl) k.schemas.items
-    | keyword.SingleAnyOf k ↦ refl
-    | keyword.OneOf k ↦ exactly_one-map (λ a. a.means v) (λ n. (answers o n).means v) (answers o) (λ n. refl) k.schemas.items
-    | keyword.SingleOneOf k ↦ refl
-    | keyword.Not k ↦ refl
-    | keyword.IfThen k ↦ refl
-    | keyword.IfElse k ↦ refl
-    | keyword.IfThenElse k ↦ refl
-    | keyword.Dependencies k ↦ ap (every (λ a. a.means v)) (due_nodes-map (answers o) v k.dependencies.entries)
-        ∙ every-map (λ a. a.means v) (λ n. (answers o n).means v) (answers o) (λ n. refl) (due_nodes (named k.dependencies) v)
-    | keyword.PropertyNames k ↦ refl
-    | keyword.PropertyNamesFalse k ↦ refl
-    | keyword.PropertyDependencies k ↦ ap (every (λ a. a.means v)) (chosen_nodes-map (answers o) v _ (λ m. refl) k.dependencies.entries)
-        ∙ every-map (λ a. a.means v) (λ n. (answers o n).means v) (answers o) (λ n. refl) (chosen_nodes (named k.dependencies) v)
-    | keyword.PatternProperties k ↦ patterns_mean-map o.answers (answers o) v o.costs (λ a. a.means) (λ n. (answers o n).means) (λ n w. refl) k.patterns.items
-    | keyword.SingleValuePatternProperties k ↦ refl
-    | keyword.AdditionalProperties k ↦ ap (λ q. both q (always (is_empty (missing (required_text k.value.required) v))))
-        (additional_means-map (answers o) o.answers (sides_answer n ks k) o.costs (λ a. a.means) (λ n. (answers o n).means) (λ y w. refl) v)
-    | keyword.Leaf p l ↦ refl
-  ]) ks.items
+  -- nodes, and nodes by names
+  nodes_mean : (v : Data) (ns : List Node) → every (λ a. a.means v) (map (answers o) ns) ≡ every (λ n. means n v) ns
+  nodes_mean v ns = every-map _ _ (answers o) (λ n. refl) ns
 
-  finds_layer : (n : SchemaNode-F K R (SchemaNode K R)) (b : Body (KeywordOver K R (SchemaNode K R))) (u : Bool) (v : Data) (Q : Path)
-      → (node_step o (opened n b)).report u v Q ≡ body_report (validator_report o (λ n. (answers o n).means) (λ n. (answers o n).report) u) n.location b v Q
+  entries_mean : (v : Data) (es : List (Name × Node)) → every (λ e. every e.1.means (at e.0 v)) (map (with_name (answers o)) es) ≡ every (λ e. every (means e.1) (at e.0 v)) es
+  entries_mean v es = every-map _ _ (with_name (answers o)) (λ e. refl) es
+
+  some_alike : (v : Data) (ns : List Node) → some (λ a. a.means v) (map (answers o) ns) ≡ some (λ n. means n v) ns
+  some_alike v ns = some-map _ _ (answers o) (λ n. refl) ns
+
+  count_alike : (u : Bool) (v : Data) (ns : List Node) → how_many (λ a. a.means v) u (map (answers o) ns) ≡ how_many (λ n. means n v) u ns
+  count_alike u v ns = how_many-map (λ a. a.means v) (λ n. means n v) (answers o) (λ n. refl) u ns
+
+  reports_alike : (u : Bool) (v : Data) (Q : Path) (ns : List Node) → map (λ a. a.report u v Q) (map (answers o) ns) ≡ map (λ n. finds n u v Q) ns
+  reports_alike u v Q ns = map-map _ _ (answers o) (λ n. refl) ns
+
+  module _ (u : Bool) (v : Data) (Q : Path) where
+    nodes_find : (ns : List Node) → flat_map (λ a. a.report u v Q) (map (answers o) ns) ≡ flat_map (λ n. finds n u v Q) ns
+    nodes_find ns = flat_map-map _ _ (answers o) (λ n. refl) ns
+
+    entries_find : (es : List (Name × Node)) → flat_map (λ e. flat_map (λ x. e.1.report u x (Q // e.0)) (at e.0 v)) (map (with_name (answers o)) es)
+        ≡ flat_map (λ e. flat_map (λ x. finds e.1 u x (Q // e.0)) (at e.0 v)) es
+    entries_find es = flat_map-map _ _ (with_name (answers o)) (λ e. refl) es
+
+    nodes_first : (ns : List Node) → first_of (λ a. a.first u v Q) (map (answers o) ns) ≡ first_of (λ n. finds_first n u v Q) ns
+    nodes_first ns = first_of-map _ _ (answers o) (λ n. refl) ns
+
+    entries_first : (es : List (Name × Node)) → first_of (λ e. first_of (λ x. e.1.first u x (Q // e.0)) (at e.0 v)) (map (with_name (answers o)) es)
+        ≡ first_of (λ e. first_of (λ x. finds_first e.1 u x (Q // e.0)) (at e.0 v)) es
+    entries_first es = first_of-map _ _ (with_name (answers o)) (λ e. refl) es
+
+  means_layer : (n : OpenNode) (b : Body NodeKeyword) (v : Data)
+      → (node_step o (opened n b)).means v ≡ body_means (validator_means o means) b v
   unfolding answers_of
-  finds_layer n True u v Q = refl
-  finds_layer n False u v Q = refl
-  finds_layer n (RequiredNames k) u v Q = refl
+  means_layer n (Keywords ks) v = every-map (λ k. validator_means o (λ a. a.means) k v) (λ k. validator_means o means k v) _ (elim [
+    | keyword.Properties k ↦ few_or_many k.properties (λ m e. rw e (entries_mean v m.entries)) (λ m e. rw e (entries_mean v m.entries))
+    | keyword.PropertiesWithRequired2 k ↦ ap (both (always (is_empty (missing (two_texts k.value.first k.value.second) v))))
+        (entries_mean v k.value.properties.entries)
+    | keyword.AllOf k ↦ nodes_mean v k.schemas.items
+    | keyword.AnyOf k ↦ some_alike v k.schemas.items
+    | keyword.OneOf k ↦ exactly_one-map (λ a. a.means v) (λ n. means n v) (answers o) (λ n. refl) k.schemas.items
+    | keyword.Dependencies k ↦ ap (every (λ a. a.means v)) (due_nodes-map (answers o) v k.dependencies.entries)
+        ∙ nodes_mean v (due_nodes (named k.dependencies) v)
+    | keyword.PropertyDependencies k ↦ ap (every (λ a. a.means v)) (chosen_nodes-map (answers o) v _ (λ m. refl) k.dependencies.entries)
+        ∙ nodes_mean v (chosen_nodes (named k.dependencies) v)
+    | keyword.PatternProperties k ↦ patterns_mean-map o.answers (answers o) v o.costs (λ a. a.means) means (λ n w. refl) k.patterns.items
+    | keyword.AdditionalProperties k ↦ ap (λ q. both q (always (is_empty (missing (required_text k.value.required) v))))
+        (additional_means-map (answers o) o.answers (sides_answer n ks k) o.costs (λ a. a.means) means (λ y w. refl) v)
+    | _ ↦ refl
+  ]) ks.items
+  means_layer n b v = refl
+
+  finds_layer : (n : OpenNode) (b : Body NodeKeyword) (u : Bool) (v : Data) (Q : Path)
+      → (node_step o (opened n b)).report u v Q ≡ body_report (validator_report o means finds u) n.location b v Q
+  unfolding answers_of
   finds_layer n (Keywords ks) u v Q =
-      flat_map-map (λ k. validator_report o (λ a. a.means) (λ a. a.report) u k v Q) (λ k. validator_report o (λ n. (answers o n).means) (λ n. (answers o n).report) u k v Q) _ (elim [
-        | keyword.Properties k ↦ few_or_many k.properties (λ m e. rw e (flat_map-map (λ e. flat_map (λ x. e.1.report u x (Q // e.0)) (at e.0 v))
-            (λ e. flat_map (λ x. (answers o e.1).report u x (Q // e.0)) (at e.0 v)) (with_name (answers o)) (λ e. refl) m.entries))
-            (λ m e. rw e (flat_map-map (λ e. flat_map (λ x. e.1.report u x (Q // e.0)) (at e.0 v)) (λ e. flat_map (λ x. (answers o e.1).report u x (Q // e.0)) (at e.0 v))
-            (with_name (answers o)) (λ e. refl) m.entries))
+      flat_map-map (λ k. validator_report o (λ a. a.means) (λ a. a.report) u k v Q) (λ k. validator_report o means finds u k v Q) _ (elim [
+        | keyword.Properties k ↦ few_or_many k.properties (λ m e. rw e (entries_find u v Q m.entries))
+            (λ m e. rw e (entries_find u v Q m.entries))
         | keyword.PropertiesWithRequired2 k ↦ ap (λ fs. required_faults (two_texts k.value.first k.value.second) v k.value.required_location Q ++ fs)
-            (flat_map-map (λ e. flat_map (λ x. e.1.report u x (Q // e.0)) (at e.0 v)) (λ e. flat_map (λ x. (answers o e.1).report u x (Q // e.0)) (at e.0 v))
-            (with_name (answers o)) (λ e. refl) k.value.properties.entries)
-        | keyword.Required k ↦ refl
-        | keyword.AllOf k ↦ flat_map-map (λ a. a.report u v Q) (λ n. (answers o n).report u v Q) (answers o) (λ n. refl) k.schemas.items
-        | keyword.SingleValueAllOf k ↦ refl
-        | keyword.AnyOf k ↦ λ i. fault_if (not ((some-map (λ a. a.means v) (λ n. (answers o n).means v) (answers o) (λ n. refl) k.schemas.items i).accepts u))
-            (AnyOf (context (map-map (λ a. a.report u v Q) (λ n. (answers o n).report u v Q) (answers o) (λ n. refl) k.schemas.items i))) v k.location Q
-        | keyword.SingleAnyOf k ↦ refl
-        | keyword.OneOf k ↦ λ i. one_of_report (how_many-map (λ a. a.means v) (λ n. (answers o n).means v) (answers o) (λ n. refl) u k.schemas.items i)
-            (context (map-map (λ a. a.report u v Q) (λ n. (answers o n).report u v Q) (answers o) (λ n. refl) k.schemas.items i)) v k.location Q
-        | keyword.SingleOneOf k ↦ refl
-        | keyword.Not k ↦ refl
-        | keyword.IfThen k ↦ refl
-        | keyword.IfElse k ↦ refl
-        | keyword.IfThenElse k ↦ refl
+            (entries_find u v Q k.value.properties.entries)
+        | keyword.AllOf k ↦ nodes_find u v Q k.schemas.items
+        | keyword.AnyOf k ↦ λ i. fault_if (not ((some_alike v k.schemas.items i).accepts u))
+            (AnyOf (context (reports_alike u v Q k.schemas.items i))) v k.location Q
+        | keyword.OneOf k ↦ λ i. one_of_report (count_alike u v k.schemas.items i)
+            (context (reports_alike u v Q k.schemas.items i)) v k.location Q
         | keyword.Dependencies k ↦ ap (flat_map (λ a. a.report u v Q)) (due_nodes-map (answers o) v k.dependencies.entries)
-            ∙ flat_map-map (λ a. a.report u v Q) (λ n. (answers o n).report u v Q) (answers o) (λ n. refl) (due_nodes (named k.dependencies) v)
-        | keyword.PropertyNames k ↦ refl
-        | keyword.PropertyNamesFalse k ↦ refl
+            ∙ nodes_find u v Q (due_nodes (named k.dependencies) v)
         | keyword.PropertyDependencies k ↦ ap (flat_map (λ a. a.report u v Q)) (chosen_nodes-map (answers o) v _ (λ m. refl) k.dependencies.entries)
-            ∙ flat_map-map (λ a. a.report u v Q) (λ n. (answers o n).report u v Q) (answers o) (λ n. refl) (chosen_nodes (named k.dependencies) v)
-        | keyword.PatternProperties k ↦ patterns_report-map o.answers (answers o) u v (λ a. a.report) (λ n. (answers o n).report) (λ n w R. refl) Q k.patterns.items
-        | keyword.SingleValuePatternProperties k ↦ refl
+            ∙ nodes_find u v Q (chosen_nodes (named k.dependencies) v)
+        | keyword.PatternProperties k ↦ patterns_report-map o.answers (answers o) u v (λ a. a.report) finds (λ n w R. refl) Q k.patterns.items
         | keyword.AdditionalProperties k ↦ ap (λ b. additional_report o.answers (sides_of (answered n ks k)) u v Q b k.value.location (λ a. a.report) ++ lacks k.value.required v Q)
             (neighbours_alike n ks k) ∙ ap (λ fs. fs ++ lacks k.value.required v Q)
-            (additional_report-map (answers o) o.answers (sides_answer n ks k) u v Q (λ a. a.report) (λ n. (answers o n).report) (λ y w R. refl) (has_neighbours k.value) k.value.location)
-        | keyword.Leaf p l ↦ refl
+            (additional_report-map (answers o) o.answers (sides_answer n ks k) u v Q (λ a. a.report) finds (λ y w R. refl) (has_neighbours k.value) k.value.location)
+        | _ ↦ refl
       ]) ks.items
+  finds_layer n b u v Q = refl
 
-  first_layer : (n : SchemaNode-F K R (SchemaNode K R)) (b : Body (KeywordOver K R (SchemaNode K R))) (u : Bool) (v : Data) (Q : Path)
-      → (node_step o (opened n b)).first u v Q ≡ body_first (validator_first o (λ n. (answers o n).means) (λ n. (answers o n).report) u (λ n. (answers o n).first)) n.location b v Q
+  first_layer : (n : OpenNode) (b : Body NodeKeyword) (u : Bool) (v : Data) (Q : Path)
+      → (node_step o (opened n b)).first u v Q ≡ body_first (validator_first o means finds u finds_first) n.location b v Q
   unfolding answers_of
-  first_layer n True u v Q = refl
-  first_layer n False u v Q = refl
-  first_layer n (RequiredNames k) u v Q = refl
   first_layer n (Keywords ks) u v Q =
-      first_of-map (λ k. validator_first o (λ a. a.means) (λ a. a.report) u (λ a. a.first) k v Q)
-      (λ k. validator_first o (λ n. (answers o n).means) (λ n. (answers o n).report) u (λ n. (answers o n).first) k v Q) _ (elim [
-        | keyword.Properties k ↦ few_or_many k.properties (λ m e. rw e (first_of-map (λ e. first_of (λ x. e.1.first u x (Q // e.0)) (at e.0 v))
-            (λ e. first_of (λ x. (answers o e.1).first u x (Q // e.0)) (at e.0 v)) (with_name (answers o)) (λ e. refl) m.entries))
-            (λ m e. rw e (first_of-map (λ e. first_of (λ x. e.1.first u x (Q // e.0)) (at e.0 v)) (λ e. first_of (λ x. (answers o e.1).first u x (Q // e.0)) (at e.0 v))
-            (with_name (answers o)) (λ e. refl) m.entries))
+      first_of-map (λ k. validator_first o (λ a. a.means) (λ a. a.report) u (λ a. a.first) k v Q) (λ k. validator_first o means finds u finds_first k v Q) _ (elim [
+        | keyword.Properties k ↦ few_or_many k.properties (λ m e. rw e (entries_first u v Q m.entries))
+            (λ m e. rw e (entries_first u v Q m.entries))
         | keyword.PropertiesWithRequired2 k ↦ ap (or_else (head_of (required_faults (two_texts k.value.first k.value.second) v k.value.required_location Q)))
-            (first_of-map (λ e. first_of (λ x. e.1.first u x (Q // e.0)) (at e.0 v)) (λ e. first_of (λ x. (answers o e.1).first u x (Q // e.0)) (at e.0 v))
-            (with_name (answers o)) (λ e. refl) k.value.properties.entries)
-        | keyword.Required k ↦ refl
-        | keyword.AllOf k ↦ first_of-map (λ a. a.first u v Q) (λ n. (answers o n).first u v Q) (answers o) (λ n. refl) k.schemas.items
-        | keyword.SingleValueAllOf k ↦ refl
-        | keyword.AnyOf k ↦ λ i. fault_if (not ((some-map (λ a. a.means v) (λ n. (answers o n).means v) (answers o) (λ n. refl) k.schemas.items i).accepts u))
-            (AnyOf (context (map-map (λ a. a.report u v Q) (λ n. (answers o n).report u v Q) (answers o) (λ n. refl) k.schemas.items i))) v k.location Q
-        | keyword.SingleAnyOf k ↦ refl
-        | keyword.OneOf k ↦ λ i. one_of_report (how_many-map (λ a. a.means v) (λ n. (answers o n).means v) (answers o) (λ n. refl) u k.schemas.items i)
-            (context (map-map (λ a. a.report u v Q) (λ n. (answers o n).report u v Q) (answers o) (λ n. refl) k.schemas.items i)) v k.location Q
-        | keyword.SingleOneOf k ↦ refl
-        | keyword.Not k ↦ refl
-        | keyword.IfThen k ↦ refl
-        | keyword.IfElse k ↦ refl
-        | keyword.IfThenElse k ↦ refl
+            (entries_first u v Q k.value.properties.entries)
+        | keyword.AllOf k ↦ nodes_first u v Q k.schemas.items
+        | keyword.AnyOf k ↦ λ i. fault_if (not ((some_alike v k.schemas.items i).accepts u))
+            (AnyOf (context (reports_alike u v Q k.schemas.items i))) v k.location Q
+        | keyword.OneOf k ↦ λ i. one_of_report (count_alike u v k.schemas.items i)
+            (context (reports_alike u v Q k.schemas.items i)) v k.location Q
         | keyword.Dependencies k ↦ ap (first_of (λ a. a.first u v Q)) (due_nodes-map (answers o) v k.dependencies.entries)
-            ∙ first_of-map (λ a. a.first u v Q) (λ n. (answers o n).first u v Q) (answers o) (λ n. refl) (due_nodes (named k.dependencies) v)
-        | keyword.PropertyNames k ↦ refl
-        | keyword.PropertyNamesFalse k ↦ refl
+            ∙ nodes_first u v Q (due_nodes (named k.dependencies) v)
         | keyword.PropertyDependencies k ↦ ap (first_of (λ a. a.first u v Q)) (chosen_nodes-map (answers o) v _ (λ m. refl) k.dependencies.entries)
-            ∙ first_of-map (λ a. a.first u v Q) (λ n. (answers o n).first u v Q) (answers o) (λ n. refl) (chosen_nodes (named k.dependencies) v)
-        | keyword.PatternProperties k ↦ patterns_first-map o.answers (answers o) u v (λ a. a.first) (λ n. (answers o n).first) (λ n w R. refl) Q k.patterns.items
-        | keyword.SingleValuePatternProperties k ↦ refl
+            ∙ nodes_first u v Q (chosen_nodes (named k.dependencies) v)
+        | keyword.PatternProperties k ↦ patterns_first-map o.answers (answers o) u v (λ a. a.first) finds_first (λ n w R. refl) Q k.patterns.items
         | keyword.AdditionalProperties k ↦ ap (λ b. or_else (additional_first o.answers (sides_of (answered n ks k)) u v Q b k.value.location (λ a. a.first)) (lacks k.value.required v Q))
             (neighbours_alike n ks k) ∙ ap (λ fs. or_else fs (lacks k.value.required v Q))
-            (additional_first-map (answers o) o.answers (sides_answer n ks k) u v Q (λ a. a.first) (λ n. (answers o n).first) (λ y w R. refl) (has_neighbours k.value) k.value.location)
-        | keyword.Leaf p l ↦ refl
+            (additional_first-map (answers o) o.answers (sides_answer n ks k) u v Q (λ a. a.first) finds_first (λ y w R. refl) (has_neighbours k.value) k.value.location)
+        | _ ↦ refl
       ]) ks.items
+  first_layer n b u v Q = refl
 
-  shows_layer : (n : SchemaNode-F K R (SchemaNode K R)) (b : Body (KeywordOver K R (SchemaNode K R))) (u : Bool) (v : Data) (Q : Path)
-      → (node_step o (opened n b)).tree u v Q ≡ body_tree (validator_tree o (λ n. (answers o n).means) (λ n. (answers o n).tree) u) n.location b v Q
+  shows_layer : (n : OpenNode) (b : Body NodeKeyword) (u : Bool) (v : Data) (Q : Path)
+      → (node_step o (opened n b)).tree u v Q ≡ body_tree (validator_tree o means shows u) n.location b v Q
   unfolding answers_of
-  shows_layer n True u v Q = refl
-  shows_layer n False u v Q = refl
-  shows_layer n (RequiredNames k) u v Q = refl
   shows_layer n (Keywords ks) u v Q =
-      ap (plain n.location Q) (map-map (λ k. validator_tree o (λ a. a.means) (λ a. a.tree) u k v Q) (λ k. validator_tree o (λ n. (answers o n).means) (λ n. (answers o n).tree) u k v Q) _ (elim [
-        | keyword.Properties k ↦ few_or_many k.properties (λ m e. rw e (properties_tree-map (λ a. a.tree u) (λ n. (answers o n).tree u) (answers o)
-            (λ y w R. refl) v Q k.location m.entries [])) (λ m e. rw e
-            (properties_tree-map (λ a. a.tree u) (λ n. (answers o n).tree u) (answers o) (λ y w R. refl) v Q k.location m.entries []))
-        | keyword.PropertiesWithRequired2 k ↦ properties_tree-map (λ a. a.tree u) (λ n. (answers o n).tree u) (answers o)
-            (λ y w R. refl) v Q k.value.location k.value.properties.entries (missing_trees (two_texts k.value.first k.value.second) v k.value.required_location Q)
-        | keyword.Required k ↦ refl
-        | keyword.AllOf k ↦ ap (plain k.location Q) (branch_trees-map (λ a. a.tree u) (λ n. (answers o n).tree u) (answers o) (λ y w R. refl) v Q k.schemas.items)
-        | keyword.SingleValueAllOf k ↦ refl
-        | keyword.AnyOf k ↦ any_of_tree-map (λ a. a.tree u) (λ n. (answers o n).tree u) (answers o) (λ y w R. refl) v Q (λ a. (a.means v).accepts u)
-            (λ n. ((answers o n).means v).accepts u) (λ n. refl) k.location k.schemas.items
-        | keyword.SingleAnyOf k ↦ any_of_tree-map (λ a. a.tree u) (λ n. (answers o n).tree u) (answers o) (λ y w R. refl) v Q (λ a. (a.means v).accepts u)
-            (λ n. ((answers o n).means v).accepts u) (λ n. refl) k.location (k.node ∷ [])
-        | keyword.OneOf k ↦ one_of_tree-map (λ a. a.tree u) (λ n. (answers o n).tree u) (answers o) (λ y w R. refl) v Q (λ a. (a.means v).accepts u)
-            (λ n. ((answers o n).means v).accepts u) (λ n. refl) k.location k.schemas.items
-        | keyword.SingleOneOf k ↦ one_of_tree-map (λ a. a.tree u) (λ n. (answers o n).tree u) (answers o) (λ y w R. refl) v Q (λ a. (a.means v).accepts u)
-            (λ n. ((answers o n).means v).accepts u) (λ n. refl) k.location (k.node ∷ [])
-        | keyword.Not k ↦ refl
-        | keyword.IfThen k ↦ refl
-        | keyword.IfElse k ↦ refl
-        | keyword.IfThenElse k ↦ refl
+      let by_name = properties_tree-map (λ (a : Answers). a.tree u) (λ n. shows n u) (answers o) (λ y w R. refl) v Q in
+      let branches = branch_trees-map (λ (a : Answers). a.tree u) (λ n. shows n u) (answers o) (λ y w R. refl) v Q in
+      let any_of = any_of_tree-map (λ (a : Answers). a.tree u) (λ n. shows n u) (answers o) (λ y w R. refl) v Q (λ a. (a.means v).accepts u) (λ n. (means n v).accepts u) (λ n. refl) in
+      let one_of = one_of_tree-map (λ (a : Answers). a.tree u) (λ n. shows n u) (answers o) (λ y w R. refl) v Q (λ a. (a.means v).accepts u) (λ n. (means n v).accepts u) (λ n. refl) in
+      ap (plain n.location Q) (map-map (λ k. validator_tree o (λ a. a.means) (λ a. a.tree) u k v Q) (λ k. validator_tree o means shows u k v Q) _ (elim [
+        | keyword.Properties k ↦ few_or_many k.properties (λ m e. rw e (by_name k.location m.entries [])) (λ m e. rw e
+            (by_name k.location m.entries []))
+        | keyword.PropertiesWithRequired2 k ↦ by_name k.value.location k.value.properties.entries (missing_trees (two_texts k.value.first k.value.second) v k.value.required_location Q)
+        | keyword.AllOf k ↦ ap (plain k.location Q) (branches k.schemas.items)
+        | keyword.AnyOf k ↦ any_of k.location k.schemas.items
+        | keyword.SingleAnyOf k ↦ any_of k.location (k.node ∷ [])
+        | keyword.OneOf k ↦ one_of k.location k.schemas.items
+        | keyword.SingleOneOf k ↦ one_of k.location (k.node ∷ [])
         | keyword.Dependencies k ↦ ap (λ ns. plain k.location Q (branch_trees (λ a. a.tree u) v Q ns)) (due_nodes-map (answers o) v k.dependencies.entries)
-            ∙ ap (plain k.location Q) (branch_trees-map (λ a. a.tree u) (λ n. (answers o n).tree u) (answers o) (λ y w R. refl) v Q (due_nodes (named k.dependencies) v))
-        | keyword.PropertyNames k ↦ refl
-        | keyword.PropertyNamesFalse k ↦ refl
+            ∙ ap (plain k.location Q) (branches (due_nodes (named k.dependencies) v))
         | keyword.PropertyDependencies k ↦ ap (λ ns. plain k.location Q (branch_trees (λ a. a.tree u) v Q ns))
             (chosen_nodes-map (answers o) v _ (λ m. refl) k.dependencies.entries) ∙ ap (plain k.location Q)
-            (branch_trees-map (λ a. a.tree u) (λ n. (answers o n).tree u) (answers o) (λ y w R. refl) v Q (chosen_nodes (named k.dependencies) v))
-        | keyword.PatternProperties k ↦ patterns_tree-map o.answers (answers o) u v (λ a. a.tree u) (λ n. (answers o n).tree u) (λ n w R. refl) k.location Q k.patterns.items
-        | keyword.SingleValuePatternProperties k ↦ refl
+            (branches (chosen_nodes (named k.dependencies) v))
+        | keyword.PatternProperties k ↦ patterns_tree-map o.answers (answers o) u v (λ a. a.tree u) (λ n. shows n u) (λ n w R. refl) k.location Q k.patterns.items
         | keyword.AdditionalProperties k ↦ (λ i. additional_tree o.answers (sides_of (answered n ks k)) u v Q (declares_alike n ks k i)
             (matches_alike n ks k i) k.value.location k.value.patterns_location (λ a. a.tree u) (missing_trees (required_text k.value.required) v (required_place k.value.required) Q))
-            ∙ additional_tree-map (answers o) o.answers (sides_answer n ks k) u v Q (λ a. a.tree u) (λ n. (answers o n).tree u) (λ y w R. refl)
+            ∙ additional_tree-map (answers o) o.answers (sides_answer n ks k) u v Q (λ a. a.tree u) (λ n. shows n u) (λ y w R. refl)
             (is_some k.value.properties) (is_some k.value.patterns) k.value.location k.value.patterns_location (missing_trees (required_text k.value.required) v (required_place k.value.required) Q)
-        | keyword.Leaf p l ↦ refl
+        | _ ↦ refl
       ]) ks.items)
+  shows_layer n b u v Q = refl
 
-  abbrev entry_answers : CompiledPattern R × SchemaNode K R → CompiledPattern R × Answers
+  abbrev entry_answers : CompiledPattern R × Node → CompiledPattern R × Answers
   entry_answers e = (e.0, answers o e.1)
 
-  nodes_formed : (ns : List (SchemaNode K R)) → list_all (λ a. a.formed) (map (answers o) ns) ≡ list_all (λ n. (answers o n).formed) ns
+  nodes_formed : (ns : List Node) → list_all (λ a. a.formed) (map (answers o) ns) ≡ list_all is_formed ns
   nodes_formed ns = list_all-map (λ a. a.formed) (answers o) ns
 
-  entries_formed : (es : List (Name × SchemaNode K R)) → list_all (λ a. a.formed) (nodes_in (map (with_name (answers o)) es)) ≡ list_all (λ n. (answers o n).formed) (nodes_in es)
+  entries_formed : (es : List (Name × Node)) → list_all (λ a. a.formed) (nodes_in (map (with_name (answers o)) es)) ≡ list_all is_formed (nodes_in es)
   entries_formed es = ap (list_all (λ a. a.formed)) (nodes_in-map (answers o) es) ∙ nodes_formed (nodes_in es)
 
-  abbrev map_answered : SmallMap (SchemaNode K R) → SmallMap Answers
+  abbrev map_answered : SmallMap Node → SmallMap Answers
   map_answered m = record { entries = map (with_name (answers o)) m.entries }
 
-  few_formed : (es : List (Name × SchemaNode K R)) → (nat_lt (length (map (with_name (answers o)) es)) HASHMAP_THRESHOLD && list_all (λ a. a.formed) (nodes_in (map (with_name (answers o)) es)))
-      ≡ (nat_lt (length es) HASHMAP_THRESHOLD && list_all (λ n. (answers o n).formed) (nodes_in es))
-  few_formed es = λ i. nat_lt (length-map es (with_name (answers o)) i) HASHMAP_THRESHOLD && entries_formed es i
+  small_alike : (es : List (Name × Node)) → nat_lt (length (map (with_name (answers o)) es)) HASHMAP_THRESHOLD ≡ nat_lt (length es) HASHMAP_THRESHOLD
+  small_alike es = ap (λ l. nat_lt l HASHMAP_THRESHOLD) (length-map es _)
 
-  many_formed : (es : List (Name × SchemaNode K R)) → (not (nat_lt (length (map (with_name (answers o)) es)) HASHMAP_THRESHOLD) && list_all (λ a. a.formed) (nodes_in (map (with_name (answers o)) es)))
-      ≡ (not (nat_lt (length es) HASHMAP_THRESHOLD) && list_all (λ n. (answers o n).formed) (nodes_in es))
-  many_formed es = λ i. not (nat_lt (length-map es (with_name (answers o)) i) HASHMAP_THRESHOLD) && entries_formed es i
-
-  module _ (n : SchemaNode-F K R (SchemaNode K R)) (ks : Vec (KeywordOver K R (SchemaNode K R)) Global) (k : Box (AdditionalProperties R (SchemaNode K R)) Global) where
+  module _ (n : OpenNode) (ks : Vec NodeKeyword Global) (k : Box (AdditionalProperties R Node) Global) where
     names_alike : names_beside (answered n ks k).properties ≡ names_beside k.value.properties
     names_alike = none_few_or_many k.value.properties (λ e. rw e refl) (λ m e. rw e (keys_in-map (answers o) m.entries)) (λ m e. rw e (keys_in-map (answers o) m.entries))
 
     maps_alike : option_map_or (λ m. is_map_formed m && list_all (λ a. a.formed) (nodes_in (mapped m))) (answered n ks k).properties true ≡ option_map_or
-        (λ m. is_map_formed m && list_all (λ n. (answers o n).formed) (nodes_in (mapped m))) k.value.properties true
+        (λ m. is_map_formed m && list_all is_formed (nodes_in (mapped m))) k.value.properties true
     maps_alike =
-        none_few_or_many k.value.properties (λ e. rw e refl) (λ m e. rw e (few_formed m.entries)) (λ m e. rw e (many_formed m.entries))
+        none_few_or_many k.value.properties (λ e. rw e refl) (λ m e. rw e λ i. small_alike m.entries i && entries_formed m.entries i) (λ m e. rw e λ i. not (small_alike m.entries i) && entries_formed m.entries i)
 
     tables_alike : (names : List Name) → option_map_or (λ es. is_table_formed o.answers names (map (λ e. e.0) es.items) k.value.table && list_all (λ e. e.1.formed) es.items)
         (answered n ks k).patterns true ≡ option_map_or (λ es. is_table_formed o.answers names (map (λ e. e.0) es.items) k.value.table
@@ -302,72 +295,57 @@ module _ {K R : Type 0} (o : Kit K R) where
         none_or_one k.value.patterns (λ e. rw e refl) (λ es e. rw e (λ i. is_table_formed o.answers names
         (map-map (λ e. e.0) (λ e. e.0) entry_answers (λ e. refl) es.items i) k.value.table && list_all-map (λ e. e.1.formed) entry_answers es.items i))
 
-    rest_alike : option_map_or (λ a. a.formed) (answered n ks k).rest true ≡ option_map_or (λ n. (answers o n).formed) k.value.rest true
+    rest_alike : option_map_or (λ a. a.formed) (answered n ks k).rest true ≡ option_map_or is_formed k.value.rest true
     rest_alike = none_or_one k.value.rest (λ e. rw e refl) (λ r e. rw e refl)
 
-  formed_layer : (n : SchemaNode-F K R (SchemaNode K R)) (b : Body (KeywordOver K R (SchemaNode K R))) → (node_step o (opened n b)).formed ≡ body_formed
-      (validator_formed o (λ n. (answers o n).formed)) b
+  formed_layer : (n : OpenNode) (b : Body NodeKeyword) → (node_step o (opened n b)).formed ≡ body_formed
+      (validator_formed o is_formed) b
   unfolding answers_of
-  formed_layer n True = refl
-  formed_layer n False = refl
-  formed_layer n (RequiredNames k) = refl
-  formed_layer n (Keywords ks) = all-map (λ k. validator_formed o (λ a. a.formed) k) (λ k. validator_formed o (λ n. (answers o n).formed) k) _ (elim [
-    | keyword.Properties k ↦ few_or_many k.properties (λ m e. rw e (few_formed m.entries)) (λ m e. rw e (many_formed m.entries))
-    | keyword.PropertiesWithRequired2 k ↦ λ i. nat_lt (length-map k.value.properties.entries (with_name (answers o)) i) HASHMAP_THRESHOLD
+  formed_layer n (Keywords ks) = all-map (λ k. validator_formed o (λ a. a.formed) k) (λ k. validator_formed o is_formed k) _ (elim [
+    | keyword.Properties k ↦ few_or_many k.properties (λ m e. rw e λ i. small_alike m.entries i && entries_formed m.entries i) (λ m e. rw e λ i. not (small_alike m.entries i) && entries_formed m.entries i)
+    | keyword.PropertiesWithRequired2 k ↦ λ i. small_alike k.value.properties.entries i
         && not (bytes_eq (string_bytes k.value.first) (string_bytes k.value.second)) && entries_formed k.value.properties.entries i
-    | keyword.Required k ↦ refl
     | keyword.AllOf k ↦ λ i. not (length-map k.schemas.items (answers o) i == 1) && nodes_formed k.schemas.items i
-    | keyword.SingleValueAllOf k ↦ refl
     | keyword.AnyOf k ↦ λ i. not (length-map k.schemas.items (answers o) i == 1) && nodes_formed k.schemas.items i
-    | keyword.SingleAnyOf k ↦ refl
     | keyword.OneOf k ↦ λ i. not (length-map k.schemas.items (answers o) i == 1) && nodes_formed k.schemas.items i
-    | keyword.SingleOneOf k ↦ refl
-    | keyword.Not k ↦ refl
-    | keyword.IfThen k ↦ refl
-    | keyword.IfElse k ↦ refl
-    | keyword.IfThenElse k ↦ refl
     | keyword.Dependencies k ↦ entries_formed k.dependencies.entries
-    | keyword.PropertyNames k ↦ refl
-    | keyword.PropertyNamesFalse k ↦ refl
     | keyword.PropertyDependencies k ↦ ap (list_all (λ m. list_all (λ a. a.formed) (nodes_in m.entries))) (nodes_in-map map_answered k.dependencies.entries)
-        ∙ all-map (λ m. list_all (λ a. a.formed) (nodes_in m.entries)) (λ m. list_all (λ n. (answers o n).formed) (nodes_in m.entries)) map_answered
+        ∙ all-map (λ m. list_all (λ a. a.formed) (nodes_in m.entries)) (λ m. list_all is_formed (nodes_in m.entries)) map_answered
         (λ m. entries_formed m.entries) (nodes_in k.dependencies.entries)
     | keyword.PatternProperties k ↦ λ i. not (length-map k.patterns.items entry_answers i == 1) && list_all-map (λ e. e.1.formed) entry_answers k.patterns.items i
-    | keyword.SingleValuePatternProperties k ↦ refl
     | keyword.AdditionalProperties k ↦ (λ i. maps_alike n ks k i && tables_alike n ks k (names_alike n ks k i) i && rest_alike n ks k i)
-    | keyword.Leaf p l ↦ refl
+    | _ ↦ refl
   ]) ks.items
+  formed_layer n b = refl
 
-  pub node_means : (n : SchemaNode K R) (v : Data) → (answers o n).means v ≡ body_means (validator_means o (λ n. (answers o n).means)) (out-SchemaNode K R n).body v
+  is_step : (n : Node) → answers o n ≡ node_step o (map-SchemaNode K R Node Answers (answers o) (inside n))
   unfolding answers
-  node_means n v = ap (λ a. a.means v) (fold_out-SchemaNode K R Answers (node_step o) n) ∙ means_layer (out-SchemaNode K R n) (out-SchemaNode K R n).body v
+  is_step n = fold_out-SchemaNode K R Answers (node_step o) n
 
-  pub node_finds : (n : SchemaNode K R) (u : Bool) (v : Data) (Q : Path) → (answers o n).report u v Q ≡ body_report
-      (validator_report o (λ n. (answers o n).means) (λ n. (answers o n).report) u) (out-SchemaNode K R n).location (out-SchemaNode K R n).body v Q
-  unfolding answers
-  node_finds n u v Q = ap (λ a. a.report u v Q) (fold_out-SchemaNode K R Answers (node_step o) n) ∙ finds_layer (out-SchemaNode K R n) (out-SchemaNode K R n).body u v Q
+  pub node_means : (n : Node) (v : Data) → (answers o n).means v ≡ body_means (validator_means o means) (inside n).body v
+  node_means n v = ap (λ a. a.means v) (is_step n) ∙ means_layer (inside n) (inside n).body v
 
-  pub node_first : (n : SchemaNode K R) (u : Bool) (v : Data) (Q : Path) → (answers o n).first u v Q ≡ body_first
-      (validator_first o (λ n. (answers o n).means) (λ n. (answers o n).report) u (λ n. (answers o n).first)) (out-SchemaNode K R n).location (out-SchemaNode K R n).body v Q
-  unfolding answers
-  node_first n u v Q = ap (λ a. a.first u v Q) (fold_out-SchemaNode K R Answers (node_step o) n) ∙ first_layer (out-SchemaNode K R n) (out-SchemaNode K R n).body u v Q
+  pub node_finds : (n : Node) (u : Bool) (v : Data) (Q : Path) → (answers o n).report u v Q ≡ body_report
+      (validator_report o means finds u) (inside n).location (inside n).body v Q
+  node_finds n u v Q = ap (λ a. a.report u v Q) (is_step n) ∙ finds_layer (inside n) (inside n).body u v Q
 
-  pub node_shows : (n : SchemaNode K R) (u : Bool) (v : Data) (Q : Path) → (answers o n).tree u v Q ≡ body_tree (validator_tree o (λ n. (answers o n).means) (λ n. (answers o n).tree) u)
-      (out-SchemaNode K R n).location (out-SchemaNode K R n).body v Q
-  unfolding answers
-  node_shows n u v Q = ap (λ a. a.tree u v Q) (fold_out-SchemaNode K R Answers (node_step o) n) ∙ shows_layer (out-SchemaNode K R n) (out-SchemaNode K R n).body u v Q
+  pub node_first : (n : Node) (u : Bool) (v : Data) (Q : Path) → (answers o n).first u v Q ≡ body_first
+      (validator_first o means finds u finds_first) (inside n).location (inside n).body v Q
+  node_first n u v Q = ap (λ a. a.first u v Q) (is_step n) ∙ first_layer (inside n) (inside n).body u v Q
 
-  pub node_location : (n : SchemaNode K R) → (answers o n).location ≡ (out-SchemaNode K R n).location
-  unfolding answers
-  node_location n = ap (λ a. a.location) (fold_out-SchemaNode K R Answers (node_step o) n)
+  pub node_shows : (n : Node) (u : Bool) (v : Data) (Q : Path) → (answers o n).tree u v Q ≡ body_tree (validator_tree o means shows u)
+      (inside n).location (inside n).body v Q
+  node_shows n u v Q = ap (λ a. a.tree u v Q) (is_step n) ∙ shows_layer (inside n) (inside n).body u v Q
 
-  pub node_formed : (n : SchemaNode K R) → (answers o n).formed ≡ body_formed (validator_formed o (λ n. (answers o n).formed)) (out-SchemaNode K R n).body
-  unfolding answers
-  node_formed n = ap (λ a. a.formed) (fold_out-SchemaNode K R Answers (node_step o) n) ∙ formed_layer (out-SchemaNode K R n) (out-SchemaNode K R n).body
+  pub node_location : (n : Node) → (answers o n).location ≡ (inside n).location
+  node_location n = ap (λ a. a.location) (is_step n)
+
+  pub node_formed : (n : Node) → (answers o n).formed ≡ body_formed (validator_formed o is_formed) (inside n).body
+  node_formed n = ap (λ a. a.formed) (is_step n) ∙ formed_layer (inside n) (inside n).body
 
   -- a node answers as what stands at its place
-  pub node_answers : (n : SchemaNode K R) (P : Path) (b : Body (KeywordOver K R (SchemaNode K R))) → (out-SchemaNode K R n).location ≡ P
-      → (out-SchemaNode K R n).body ≡ b → AnswersBy o (answers o) P b n
+  pub node_answers : (n : Node) (P : Path) (b : Body NodeKeyword) → (inside n).location ≡ P
+      → (inside n).body ≡ b → AnswersBy o (answers o) P b n
   node_answers n P b at is = subst₂ (λ P b. AnswersBy o (answers o) P b n) at is record {
     verdict = node_means n;
     faults = node_finds n;

@@ -22,29 +22,32 @@ record Kept (f g : Fault) : Type 0 where
   pub told : f ≡ cut whole
   pub alike : IsLike whole g
 
+kept_as : {w l : Kind} {v : Data} {Q P : Path} → IsLikeKind w l → Kept (fault (cut_kind w) v Q P) (fault l v Q P)
+kept_as {w} {v = v} {Q} {P} h = record { whole = fault w v Q P; told = refl; alike = like h }
+
 mutual
   kept_kind : (k l : Kind) (v : Data) (Q P : Path) → IsLikeKind k (cut_kind l) → Kept (fault k v Q P) (fault l v Q P)
-  kept_kind k (AdditionalProperties []) v Q P itself = record { whole = fault (AdditionalProperties []) v Q P; told = refl; alike = like itself }
-  kept_kind k (AdditionalProperties (n ∷ ns)) v Q P itself = record { whole = fault (AdditionalProperties (n ∷ ns)) v Q P; told = refl; alike = like itself }
-  kept_kind k (AnyOf c) v Q P itself = record { whole = fault (AnyOf c) v Q P; told = refl; alike = like itself }
-  kept_kind (AnyOf d) (AnyOf c) v Q P (like_any_of h) = record { whole = fault (AnyOf d) v Q P; told = refl; alike = like (like_any_of h) }
-  kept_kind k (OneOfNotValid c) v Q P itself = record { whole = fault (OneOfNotValid c) v Q P; told = refl; alike = like itself }
-  kept_kind (OneOfNotValid d) (OneOfNotValid c) v Q P (like_not_valid h) = record { whole = fault (OneOfNotValid d) v Q P; told = refl; alike = like (like_not_valid h) }
-  kept_kind k (OneOfMultipleValid c) v Q P itself = record { whole = fault (OneOfMultipleValid c) v Q P; told = refl; alike = like itself }
-  kept_kind (OneOfMultipleValid d) (OneOfMultipleValid c) v Q P (like_multiple h) = record { whole = fault (OneOfMultipleValid d) v Q P; told = refl; alike = like (like_multiple h) }
-  kept_kind k (Not d) v Q P itself = record { whole = fault (Not d) v Q P; told = refl; alike = like itself }
-  kept_kind k (Required n) v Q P itself = record { whole = fault (Required n) v Q P; told = refl; alike = like itself }
-  kept_kind k FalseSchema v Q P itself = record { whole = fault FalseSchema v Q P; told = refl; alike = like itself }
-  kept_kind k (PropertyNames f) v Q P itself = record { whole = fault (PropertyNames f) v Q P; told = refl; alike = like itself }
+  kept_kind k (AdditionalProperties []) v Q P itself = kept_as itself
+  kept_kind k (AdditionalProperties (n ∷ ns)) v Q P itself = kept_as itself
+  kept_kind k (AnyOf c) v Q P itself = kept_as itself
+  kept_kind (AnyOf d) (AnyOf c) v Q P (like_any_of h) = kept_as (like_any_of h)
+  kept_kind k (OneOfNotValid c) v Q P itself = kept_as itself
+  kept_kind (OneOfNotValid d) (OneOfNotValid c) v Q P (like_not_valid h) = kept_as (like_not_valid h)
+  kept_kind k (OneOfMultipleValid c) v Q P itself = kept_as itself
+  kept_kind (OneOfMultipleValid d) (OneOfMultipleValid c) v Q P (like_multiple h) = kept_as (like_multiple h)
+  kept_kind k (Not d) v Q P itself = kept_as itself
+  kept_kind k (Required n) v Q P itself = kept_as itself
+  kept_kind k FalseSchema v Q P itself = kept_as itself
+  kept_kind k (PropertyNames f) v Q P itself = kept_as itself
   kept_kind (PropertyNames g) (PropertyNames f) v Q P (like_names h) =
       let n = kept g f h in record { whole = fault (PropertyNames n.whole) v Q P; told = ap (λ x. fault (PropertyNames x) v Q P) n.told; alike = like (like_names n.alike) }
-  kept_kind k (Leaf n t) v Q P itself = record { whole = fault (Leaf n t) v Q P; told = refl; alike = like itself }
-  kept_kind k (SingleType t) v Q P itself = record { whole = fault (SingleType t) v Q P; told = refl; alike = like itself }
-  kept_kind k MultipleTypes v Q P itself = record { whole = fault MultipleTypes v Q P; told = refl; alike = like itself }
-  kept_kind k UniqueItems v Q P itself = record { whole = fault UniqueItems v Q P; told = refl; alike = like itself }
-  kept_kind k Regex v Q P itself = record { whole = fault Regex v Q P; told = refl; alike = like itself }
-  kept_kind k (Unsupported n) v Q P itself = record { whole = fault (Unsupported n) v Q P; told = refl; alike = like itself }
-  kept_kind k (LeafRefused n) v Q P itself = record { whole = fault (LeafRefused n) v Q P; told = refl; alike = like itself }
+  kept_kind k (Leaf n t) v Q P itself = kept_as itself
+  kept_kind k (SingleType t) v Q P itself = kept_as itself
+  kept_kind k MultipleTypes v Q P itself = kept_as itself
+  kept_kind k UniqueItems v Q P itself = kept_as itself
+  kept_kind k Regex v Q P itself = kept_as itself
+  kept_kind k (Unsupported n) v Q P itself = kept_as itself
+  kept_kind k (LeafRefused n) v Q P itself = kept_as itself
 
   kept : (f g : Fault) → IsLike f (cut g) → Kept f g
   kept (fault k v Q P) (fault l w R O) (like h) = kept_kind k l v Q P h
