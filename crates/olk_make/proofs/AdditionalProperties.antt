@@ -88,6 +88,10 @@ module _ {K R N : Type 0} (o : Kit K R) (answers : N → Answers) where
   abbrev tree : N → Bool → Data → Path → Tree
   tree n = (answers n).tree
 
+  -- patterns with their nodes, as they are kept
+  abbrev PatternNodes : Type 0
+  PatternNodes = Vec (CompiledPattern R × N) Global
+
   -- ---- nodes that stand for schemas answer as these
 
   answers_as : (n : N) (S : Data) (P : Path) → Stands o answers n S P → AnswersAs o means report tree n S P
@@ -153,6 +157,11 @@ module _ {K R N : Type 0} (o : Kit K R) (answers : N → Answers) where
   declared_side None x (Some d) L form h = absurd h
   declared_side (Some b) x None L form h = absurd h
 
+  -- patterns that are there, and what they are
+  kept_patterns : (v : Option PatternNodes) {l : List (CompiledPattern R × N)} → option_map (λ (w : PatternNodes). w.items) v ≡ Some l → (w : PatternNodes) × (v ≡ Some w) × (w.items ≡ l)
+  kept_patterns None q = absurd (true≢false (sym (ap is_some q)))
+  kept_patterns (Some w) q = (w, refl, ap (λ z. unwrap_or z []) q)
+
   -- the patterns stand for what `patternProperties` holds at L, zip the names ns
   record PatternsSide (k : AdditionalProperties R N) (ns : List Name) (a : Option Data) (L : Path) : Type 0 where
     patterns : PatternsAnswer o means report tree (patterns_in k.patterns) (entries_in a) L
@@ -175,23 +184,15 @@ module _ {K R N : Type 0} (o : Kit K R) (answers : N → Answers) where
       known = λ p i n c at_name at_pattern. ap (λ t. table_says t p i) form.1
           ∙ h.table.says p i n c (ap (λ ns. slice_get ns p) names ∙ at_name)
           (ap (λ ps. slice_get ps i) (sym (ap (map (λ e. e.0)) same ∙ patterns_kept x.patterns.items x.nodes.items (members d) L h.patterns h.nodes)) ∙ at_pattern);
-      there = of_items.0;
+      there = ap is_some (kept_patterns k.patterns form.0).1;
       place = λ e. form.2 ∙ h.place;
     }
       where
-        there_with : (v : Option (Vec (CompiledPattern R × N) Global)) → option_map (λ (v : Vec (CompiledPattern R × N) Global). v.items) v ≡ Some
-            (zip x.patterns.items x.nodes.items) → (is_some v ≡ true) × (patterns_in v ≡ zip x.patterns.items x.nodes.items)
-        there_with None q = absurd (true≢false (sym (ap is_some q)))
-        there_with (Some v) q = (refl, ap (λ z. unwrap_or z []) q)
-
-        of_items : (is_some k.patterns ≡ true) × (patterns_in k.patterns ≡ zip x.patterns.items x.nodes.items)
-        of_items = there_with k.patterns form.0
-
         same : patterns_in k.patterns ≡ zip x.patterns.items x.nodes.items
-        same = of_items.1
+        same = let kept = kept_patterns k.patterns form.0 in ap patterns_in kept.1 ∙ kept.2
 
         names : x.table.names ≡ keys_in (declared_beside ms)
-        names = h.names ∙ ap (λ b. map (λ (e : Name × Data). e.0) (cond b (declared_beside ms) [])) restricted
+        names = h.names ∙ ap (λ b. keys_in (cond b (declared_beside ms) [])) restricted
     patterns_side None (Some d) L form h = absurd h
     patterns_side (Some x) None L form h = absurd h
 
@@ -222,24 +223,19 @@ module _ {K R N : Type 0} (o : Kit K R) (answers : N → Answers) where
   zipped_formed _ _ h = refl
 
   module _ (k : AdditionalProperties R N) (ms : Members) (restricted : is_restricted ms ≡ true) (names : List Name) (declared : names ≡ keys_in (declared_beside ms)) where
-    abbrev are_formed_beside : Vec (CompiledPattern R × N) Global → Bool
+    abbrev are_formed_beside : PatternNodes → Bool
     are_formed_beside es = is_table_formed o.answers names (map (λ e. e.0) es.items) k.table && list_all (entry_formed o answers) es.items
 
     beside_formed : (b : Option (Patterns R N)) (a : Option Data) (L : Path) → HasPatterns b k → Fills (λ x. PatternsStand o answers (known_of ms) x L) b a
         → option_map_or are_formed_beside k.patterns true ≡ true
     beside_formed None None L form h = ap (λ v. option_map_or are_formed_beside v true) form
-    beside_formed (Some x) (Some d) L form h = by k.patterns form.0
-      where
-        by : (v : Option (Vec (CompiledPattern R × N) Global)) → option_map (λ (v : Vec (CompiledPattern R × N) Global). v.items) v ≡ Some (zip x.patterns.items x.nodes.items)
-            → option_map_or are_formed_beside v true ≡ true
-        by None q = absurd (true≢false (sym (ap is_some q)))
-        by (Some v) q =
-            let items : v.items ≡ zip x.patterns.items x.nodes.items = ap (λ z. unwrap_or z []) q in
-            let patterns : map (λ e. e.0) v.items ≡ x.patterns.items = ap (map (λ e. e.0)) items ∙ patterns_kept x.patterns.items x.nodes.items (members d) L h.patterns h.nodes in
-            let same_names : x.table.names ≡ names = h.names ∙ ap (λ b. map (λ (e : Name × Data). e.0) (cond b (declared_beside ms) [])) restricted ∙ sym declared in
-            and_from _ _
-            ((λ i. is_table_formed o.answers names (patterns i) (form.1 i)) ∙ table_formed o.answers names x.patterns.items x.table same_names h.table)
-            (ap (list_all (entry_formed o answers)) items ∙ zipped_formed x.patterns.items x.nodes.items (stand_formed o answers x.nodes.items (members d) L h.nodes))
+    beside_formed (Some x) (Some d) L form h =
+        let kept = kept_patterns k.patterns form.0 in
+        let patterns : map (λ e. e.0) kept.0.items ≡ x.patterns.items = ap (map (λ e. e.0)) kept.2 ∙ patterns_kept x.patterns.items x.nodes.items (members d) L h.patterns h.nodes in
+        let same_names : x.table.names ≡ names = h.names ∙ ap (λ b. keys_in (cond b (declared_beside ms) [])) restricted ∙ sym declared in
+        ap (λ v. option_map_or are_formed_beside v true) kept.1 ∙ and_from _ _
+        ((λ i. is_table_formed o.answers names (patterns i) (form.1 i)) ∙ table_formed o.answers names x.patterns.items x.table same_names h.table)
+        (ap (list_all (entry_formed o answers)) kept.2 ∙ zipped_formed x.patterns.items x.nodes.items (stand_formed o answers x.nodes.items (members d) L h.nodes))
     beside_formed _ _ L form h = absurd h
 
   rest_formed : (x : Option N) (d : Data) (L : Path) → RestStands o answers x d L → case_formed o answers x ≡ true
@@ -322,14 +318,10 @@ module _ {K R N : Type 0} (o : Kit K R) (answers : N → Answers) where
   map_for _ _ h = absurd h
 
   many_patterns : (b : Option (Patterns R N)) (k : AdditionalProperties R N) → HasPatterns b k
-      → option_map (λ (v : Vec (CompiledPattern R × N) Global). length v.items) k.patterns ≡ option_map (λ (x : Patterns R N). length (zip x.patterns.items x.nodes.items)) b
-  many_patterns None k h = ap (option_map (λ (v : Vec (CompiledPattern R × N) Global). length v.items)) h
-  many_patterns (Some x) k h = by k.patterns h.0
-    where
-      by : (v : Option (Vec (CompiledPattern R × N) Global)) → option_map (λ (v : Vec (CompiledPattern R × N) Global). v.items) v ≡ Some (zip x.patterns.items x.nodes.items)
-          → option_map (λ (v : Vec (CompiledPattern R × N) Global). length v.items) v ≡ Some (length (zip x.patterns.items x.nodes.items))
-      by None q = absurd (true≢false (sym (ap is_some q)))
-      by (Some v) q = ap (option_map length) q
+      → option_map (λ (v : PatternNodes). length v.items) k.patterns ≡ option_map (λ (x : Patterns R N). length (zip x.patterns.items x.nodes.items)) b
+  many_patterns None k h = ap (option_map (λ (v : PatternNodes). length v.items)) h
+  many_patterns (Some x) k h =
+      let kept = kept_patterns k.patterns h.0 in ap (option_map (λ (v : PatternNodes). length v.items)) kept.1 ∙ ap (λ l. Some (length l)) kept.2
 
   pub is_additional_properties : (k : KeywordOver K R N) (P L : Path) (rest : Option N) (b : Beside R N) (n : Option Name) → IsFormOfAdditionalProperties P L rest b n k
       → IsAdditionalProperties P L (is_some rest) (option_map (λ (m : DeclaredNodes N). length m.names) b.properties)

@@ -58,7 +58,7 @@ module _ {K R N : Type 0} (o : Kit K R) (answers : N → Answers) where
 
       pub each_ask : (ns : List N) (es : Rows) (L : Path) → AnswerEach ns es L → (every (λ n. (answers n).means v) ns).asks u ≤ sum_by (λ e. w.asked u e v) es
       each_ask [] [] L h = omega arith
-      each_ask (n ∷ ns) (e ∷ es) L h = more_within _ _ _ _ _ (h.0.asks_within u v) (each_ask ns es L h.1) (sum_by-cons (λ e. w.asked u e v) e es)
+      each_ask (n ∷ ns) (e ∷ es) L h = more_within _ _ _ _ _ (h.0.asks_within u v) (each_ask ns es L h.1) (sum_by-cons _ e es)
       each_ask _ _ L h = absurd h
 
       pub each_find : (Q : Path) (ns : List N) (es : Rows) (L : Path) → AnswerEach ns es L → flat_map (λ n. (answers n).report u v Q) ns ∼ flat_map (λ e. w.faults u e v L Q) es

@@ -20,7 +20,7 @@ use Rattle.serde_json.specs.View.{view}
 use Rattle.serde_json.specs.declared.value.Value.{Value}
 use Rattle.olk_spec.specs.Names.{Name, Path, ◌//◌, lookup_name, first_if_equal, filter_once, put_if, is_empty, is_among}
 use Rattle.olk_spec.specs.Vocabulary.{Keyword, properties, pattern_properties, required, all_of, any_of, not_keyword, leaf, unread, keyword_named}
-use Rattle.olk_spec.specs.Faults.{Fault, AnyOf, Not, Leaf, fault, Context, context, IsLikeContext, like_none, like_branch, like, like_any_of, ◌∼◌, like_empty, like_next, like_through}
+use Rattle.olk_spec.specs.Faults.{Fault, Kind, IsLikeKind, AnyOf, Not, Leaf, fault, Context, context, IsLikeContext, like_none, like_branch, like, like_any_of, ◌∼◌, like_empty, like_next, like_through}
 use Rattle.olk_spec.specs.Schemas.{read_members, listed, numbered, at, members, texts, is_object, is_array}
 use Rattle.olk_spec.specs.Malformed.{has_repeat, items_list, items_of_array}
 use Rattle.olk_spec.specs.Meaning.{accepts, asks, report, tree, meaning_step}
@@ -76,6 +76,11 @@ with_nothing a b h = omega (arith, h)
 pub same_within : (a b c : ℕ) → a ≤ b → c ≡ b → a ≤ c
 same_within a b c h e = omega (arith, h, e)
 
+-- faults of like kinds, where there are any
+pub fault_like : (b : Bool) {k l : Kind} (v : Data) (P Q : Path) → IsLikeKind k l → fault_if b k v P Q ∼ fault_if b l v P Q
+fault_like true v P Q h = like_next (like h) like_empty
+fault_like false v P Q h = like_empty
+
 module _ {K R N : Type 0} (o : Kit K R) (answers : N → Answers) where
   abbrev pub question : KeywordOver K R N → Data → Question
   question k v = validator_means o (λ n. (answers n).means) k v
@@ -95,10 +100,10 @@ module _ {K R N : Type 0} (o : Kit K R) (answers : N → Answers) where
 
     node_asks : (xs : List Data) → (every (answers n).means xs).asks u ≤ sum_by (asks o.world u S) xs
     node_asks [] = omega arith
-    node_asks (x ∷ xs) = more_within _ _ _ _ _ (h.asks_within u x) (node_asks xs) (sum_by-cons (asks o.world u S) x xs)
+    node_asks (x ∷ xs) = more_within _ _ _ _ _ (h.asks_within u x) (node_asks xs) (sum_by-cons _ x xs)
 
     node_finds : (Q : Path) (xs : List Data) → flat_map (λ x. (answers n).report u x Q) xs ∼ flat_map (λ x. report o.world u S x L Q) xs
-    node_finds Q xs = ∼_flat_map_any (λ x. (answers n).report u x Q) (λ x. report o.world u S x L Q) (λ x. h.faults u x Q) xs
+    node_finds Q xs = ∼_flat_map_any _ _ (λ x. h.faults u x Q) xs
 
   module _ (u : Bool) (v : Data) where
     abbrev each_at : Name × N → Question
@@ -113,7 +118,7 @@ module _ {K R N : Type 0} (o : Kit K R) (answers : N → Answers) where
     members_ask : (ns : List N) (es : Rows) (L : Path) → StandEach o answers ns es L → (every each_at (zip (keys_in es) ns)).asks u ≤ sum_by
         (λ e. sum_by (asks o.world u e.1) (at e.0 v)) es
     members_ask [] [] L h = omega arith
-    members_ask (n ∷ ns) (e ∷ es) L h = more_within _ _ _ _ _ (node_asks n e.1 (L // e.0) h.0 u (at e.0 v)) (members_ask ns es L h.1) (sum_by-cons (λ e. sum_by (asks o.world u e.1) (at e.0 v)) e es)
+    members_ask (n ∷ ns) (e ∷ es) L h = more_within _ _ _ _ _ (node_asks n e.1 (L // e.0) h.0 u (at e.0 v)) (members_ask ns es L h.1) (sum_by-cons _ e es)
     members_ask _ _ L h = absurd h
 
     members_find : (Q : Path) (ns : List N) (es : Rows) (L : Path) → StandEach o answers ns es L
@@ -133,7 +138,7 @@ module _ {K R N : Type 0} (o : Kit K R) (answers : N → Answers) where
 
     pub any_ask : (ns : List N) (es : Rows) (L : Path) → StandEach o answers ns es L → (some at_value ns).asks u ≤ sum_by (λ e. asks o.world u e.1 v) es
     any_ask [] [] L h = omega arith
-    any_ask (n ∷ ns) (e ∷ es) L h = more_within _ _ _ _ _ (h.0.asks_within u v) (any_ask ns es L h.1) (sum_by-cons (λ e. asks o.world u e.1 v) e es)
+    any_ask (n ∷ ns) (e ∷ es) L h = more_within _ _ _ _ _ (h.0.asks_within u v) (any_ask ns es L h.1) (sum_by-cons _ e es)
     any_ask _ _ L h = absurd h
 
     -- what the branches find, and are to find
@@ -207,10 +212,6 @@ module _ {K R N : Type 0} (o : Kit K R) (answers : N → Answers) where
     declared_show Q more ns es L h =
         λ i. result L Q (cond (is_object v) (Some (map (λ m. m.0) (filter_once (λ m. is_among m.0 (zip_names ns es L h i)) (members v)))) None) false []
         (members_show Q (members v) ns es L h i ++ more)
-
-  any_fault : (b : Bool) (c d : Context) (v : Data) (P Q : Path) → IsLikeContext c d → fault_if b (AnyOf c) v P Q ∼ fault_if b (AnyOf d) v P Q
-  any_fault true c d v P Q h = like_next (like (like_any_of h)) like_empty
-  any_fault false c d v P Q h = like_empty
 
   -- ---- one keyword
 
@@ -453,7 +454,7 @@ module _ {K R N : Type 0} (o : Kit K R) (answers : N → Answers) where
         (λ u v Q. subst₂ (λ x y. x ∼ y)
         (ap (λ b. fault_if (not b) (AnyOf (found_in u v Q ns)) v L Q) (sym (any_accept u v _ _ _ stand)) ∙ sym (any_form_finds L ns u v Q k form))
         (ap (λ M. fault_if (none_accepts u v (numbered (items_list ds))) (AnyOf (meant_in u v Q M (numbered (items_list ds)))) v M Q) p ∙ sym (fact.any_of_report o.world ms ds u v P Q))
-        (any_fault (none_accepts u v (numbered (items_list ds))) _ _ v L Q (any_context u v Q _ _ _ stand)));
+        (fault_like (none_accepts u v (numbered (items_list ds))) v L Q (like_any_of (any_context u v Q _ _ _ stand))));
     shows = λ u h v Q.
         ap (λ t. t ∷ []) (any_form_shows L ns u v Q k form ∙ any_show u v Q _ _ _ stand ∙ ap (λ M. any_shown o.world u v M Q (numbered (items_list ds))) p)
         ∙ sym (any_of_child o.world u v ms P Q ds);

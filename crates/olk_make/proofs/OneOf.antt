@@ -27,7 +27,7 @@ use Rattle.olk_meaning.proofs.OneOf as fact
 use Rattle.olk_make.specs.Forms.{IsFormOfOneOf}
 use Rattle.olk_make.specs.Holding.{StandEach}
 use Rattle.olk_make.specs.Making.{KeywordMeans}
-use Rattle.olk_make.proofs.Held.{question, shown, found, found_in, at_value, accepts_value, any_ask, any_context, branches_show, accepting_show, one, same_within, at_most_through}
+use Rattle.olk_make.proofs.Held.{fault_like, question, shown, found, found_in, at_value, accepts_value, any_ask, any_context, branches_show, accepting_show, one, same_within, at_most_through}
 use Rattle.olk_make.proofs.Formed.{just_one_formed, stand_formed, one_of_formed}
 
 -- one branch is counted where it accepts
@@ -38,14 +38,6 @@ one_counted false = refl
 one_reported : (b : Bool) (c : Context) (v : Data) (L Q : Path) → fault_if (not b) (OneOfNotValid c) v L Q ≡ one_of_report (0 + cond b 1 0) c v L Q
 one_reported true c v L Q = refl
 one_reported false c v L Q = refl
-
-not_valid : (b : Bool) (c d : Context) (v : Data) (P Q : Path) → IsLikeContext c d → fault_if b (OneOfNotValid c) v P Q ∼ fault_if b (OneOfNotValid d) v P Q
-not_valid true c d v P Q h = like_next (like (like_not_valid h)) like_empty
-not_valid false c d v P Q h = like_empty
-
-multiple_valid : (b : Bool) (c d : Context) (v : Data) (P Q : Path) → IsLikeContext c d → fault_if b (OneOfMultipleValid c) v P Q ∼ fault_if b (OneOfMultipleValid d) v P Q
-multiple_valid true c d v P Q h = like_next (like (like_multiple h)) like_empty
-multiple_valid false c d v P Q h = like_empty
 
 module _ {K R N : Type 0} (o : Kit K R) (answers : N → Answers) where
   module _ (u : Bool) (v : Data) where
@@ -106,7 +98,7 @@ module _ {K R N : Type 0} (o : Kit K R) (answers : N → Answers) where
         subst₂ (λ x y. x ∼ y)
         (sym (form_finds L ns u v Q k form ∙ ap (λ n. one_of_report n (found_in o answers u v Q ns) v L Q) (counted u v _ _ _ stand)))
         (ap (λ M. fact.one_of_faults o.world u v count M Q (numbered (items_list ds))) p ∙ sym (fact.one_of_report o.world u v ms ds P Q))
-        (∼_append (not_valid (count == 0) _ _ v L Q context) (multiple_valid (nat_lt 1 count) _ _ v L Q context)));
+        (∼_append (fault_like (count == 0) v L Q (like_not_valid context)) (fault_like (nat_lt 1 count) v L Q (like_multiple context))));
     shows = λ u h v Q.
         ap (λ t. t ∷ []) (form_shows L ns u v Q k form ∙ one_show u v Q _ _ _ stand
         ∙ ap (λ M. fact.one_shown o.world u v (fact.accepting_count o.world u v (numbered (items_list ds))) M Q (numbered (items_list ds))) p)

@@ -129,13 +129,13 @@ module _ {K R N : Type 0} (o : Kit K R) (answers : N → Answers) where
 
     matched_ask : (xs : Rows) → (every (λ x. conditional (match_question o.answers o.costs e.0 x.0) ((answers e.1).means x.1) (always true)) xs).asks u ≤ sum_by asked_member xs
     matched_ask [] = omega arith
-    matched_ask (x ∷ xs) = more_within _ _ _ _ _ (one_asks x) (matched_ask xs) (sum_by-cons asked_member x xs)
+    matched_ask (x ∷ xs) = more_within _ _ _ _ _ (one_asks x) (matched_ask xs) (sum_by-cons _ x xs)
 
     module _ (v : Data) (Q : Path) where
       matched_find : matched_report o.answers (λ n. (answers n).report) u e.0 e.1 v Q ∼ entry_report u v L Q d
       matched_find =
           subst (λ xs. flat_map (λ x. (answers e.1).report u x.1 (Q // x.0)) xs ∼ entry_report u v L Q d) (sym (matched_same v))
-          (∼_flat_map_any (λ x. (answers e.1).report u x.1 (Q // x.0)) (λ x. report o.world u d.1 x.1 (L // d.0) (Q // x.0)) (λ x. s.faults u x.1 (Q // x.0)) (matched_members o.world u d.0 v))
+          (∼_flat_map_any _ _ (λ x. s.faults u x.1 (Q // x.0)) (matched_members o.world u d.0 v))
 
       trees_at : (xs : Rows) → map (λ x. (answers e.1).tree u x.1 (Q // x.0)) xs ≡ map (λ x. tree o.world u d.1 x.1 (L // d.0) (Q // x.0)) xs
       trees_at [] = refl
@@ -158,7 +158,7 @@ module _ {K R N : Type 0} (o : Kit K R) (answers : N → Answers) where
     patterns_ask [] [] h = omega arith
     patterns_ask (e ∷ es) (d ∷ ds) h =
         more_within _ _ _ _ _ (matched_ask e d L h.0 h.1 u (members v)) (patterns_ask es ds h.2)
-        (sum_by-cons (λ d. sum_by (λ x. pattern_asks o.world d.0 + cond (matches o.world u d.0 x.0) (asks o.world u d.1 x.1) 0) (members v)) d ds)
+        (sum_by-cons _ d ds)
     patterns_ask _ _ h = absurd h
 
     module _ (Q : Path) where

@@ -153,7 +153,7 @@ module _ {K R N : Type 0} (o : Kit K R) (answers : N → Answers) where
           subst (λ q. q.asks u ≤ sum_by (λ e. sum_by (λ c. asks o.world u c.1 v) (chosen v e)) (e ∷ es))
           (sym (every-append (λ n. (answers n).means v) (flat_map (chosen_at m) (at e.0 v)) (chosen_of maps es)))
           (more_within _ _ _ _ _ (each_ask o answers _ u v _ _ _ (chosen_answer m e L h.0))
-          (choices_ask maps es L h.1) (sum_by-cons (λ e. sum_by (λ c. asks o.world u c.1 v) (chosen v e)) e es))
+          (choices_ask maps es L h.1) (sum_by-cons _ e es))
       choices_ask _ _ L h = absurd h
 
       module _ (Q : Path) where

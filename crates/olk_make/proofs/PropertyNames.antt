@@ -45,7 +45,7 @@ module _ {K R N : Type 0} (o : Kit K R) (answers : N → Answers) where
 
       names_ask : (es : Rows) → (every (λ x. (answers n).means (string x.0)) es).asks u ≤ sum_by (λ x. asks o.world u d (string x.0)) es
       names_ask [] = omega arith
-      names_ask (e ∷ es) = more_within _ _ _ _ _ (stands.asks_within u (string e.0)) (names_ask es) (sum_by-cons (λ x. asks o.world u d (string x.0)) e es)
+      names_ask (e ∷ es) = more_within _ _ _ _ _ (stands.asks_within u (string e.0)) (names_ask es) (sum_by-cons _ e es)
 
       names_show : (Q : Path) (es : Rows) → map (λ x. (answers n).tree u (string x.0) Q) es ≡ map (λ x. tree o.world u d (string x.0) L Q) es
       names_show Q [] = refl
@@ -60,7 +60,7 @@ module _ {K R N : Type 0} (o : Kit K R) (answers : N → Answers) where
           (λ u v. same_within _ _ _ (names_ask d stands u (members v)) (fact.property_names_asks o.world ms d u v))
           (λ u v Q. subst (λ fs. found o answers u names_of v Q ∼ fs) (ap (λ M. flat_map (λ x. map (wrapped v Q) (report o.world u d (string x.0) M Q)) (members v)) p
           ∙ sym (fact.property_names_report o.world ms d u v is P Q))
-          (∼_flat_map_any (λ x. map (wrapped v Q) ((answers n).report u (string x.0) Q)) (λ x. map (wrapped v Q) (report o.world u d (string x.0) L Q))
+          (∼_flat_map_any _ _
           (λ x. fact.∼_wrapped v Q (stands.faults u (string x.0) Q)) (members v)));
       shows =
           λ u h v Q. ap (λ ts. plain L Q ts ∷ []) (names_show d stands u Q (members v)) ∙ ap (λ M. plain M Q (map (λ x. tree o.world u d (string x.0) M Q) (members v)) ∷ []) p
