@@ -98,11 +98,11 @@ module _ {K R N : Type 0} (o : Kit K R) (answers : N → Answers) where
       due_find : (Q : Path) → found o answers u (dependencies_of m L) v Q ∼ flat_map (λ e. w.faults u e v L Q) (due_entries d v)
       unfolding answers_of
       due_find Q =
-          subst (λ ds. flat_map (λ n. (answers n).report u v Q) (due_nodes ds v) ∼ flat_map (λ e. w.faults u e v L Q) (due_entries d v)) (sym held) (each_find o answers w u v Q _ _ _ dues)
+          subst (λ ds. flat_map (λ n. (answers n).report u v Q) (due_nodes ds v) ∼ flat_map (λ e. w.faults u e v L Q) (due_entries d v)) (sym held) (each_find o answers w u v _ Q _ _ dues)
 
       due_show : (Q : Path) → shown o answers u (dependencies_of m L) v Q ≡ plain L Q (map (λ e. w.shown u e v L Q) (due_entries d v))
       unfolding answers_of
-      due_show Q = ap (λ ds. plain L Q (map (λ n. (answers n).tree u v Q) (due_nodes ds v))) held ∙ ap (plain L Q) (each_show o answers w u v Q _ _ _ dues)
+      due_show Q = ap (λ ds. plain L Q (map (λ n. (answers n).tree u v Q) (due_nodes ds v))) held ∙ ap (plain L Q) (each_show o answers w u v _ Q _ _ dues)
 
     -- ---- the three keywords
 

@@ -50,26 +50,26 @@ module _ {K R N : Type 0} (o : Kit K R) (answers : N → Answers) where
     each_count (n ∷ ns) (e ∷ es) L h = ap suc (each_count ns es L h.1)
     each_count _ _ L h = absurd h
 
-    module _ (u : Bool) (v : Data) where
-      pub each_accept : (ns : List N) (es : Rows) (L : Path) → AnswerEach ns es L → (every (λ n. (answers n).means v) ns).accepts u ≡ list_all (λ e. w.verdict u e v) es
-      each_accept [] [] L h = refl
-      each_accept (n ∷ ns) (e ∷ es) L h = λ i. h.0.verdict u v i && each_accept ns es L h.1 i
-      each_accept _ _ L h = absurd h
+    module _ (u : Bool) (v : Data) (L : Path) where
+      pub each_accept : (ns : List N) (es : Rows) → AnswerEach ns es L → (every (λ n. (answers n).means v) ns).accepts u ≡ list_all (λ e. w.verdict u e v) es
+      each_accept [] [] h = refl
+      each_accept (n ∷ ns) (e ∷ es) h = λ i. h.0.verdict u v i && each_accept ns es h.1 i
+      each_accept _ _ h = absurd h
 
-      pub each_ask : (ns : List N) (es : Rows) (L : Path) → AnswerEach ns es L → (every (λ n. (answers n).means v) ns).asks u ≤ sum_by (λ e. w.asked u e v) es
-      each_ask [] [] L h = omega arith
-      each_ask (n ∷ ns) (e ∷ es) L h = more_within _ _ _ _ _ (h.0.asks_within u v) (each_ask ns es L h.1) (sum_by-cons _ e es)
-      each_ask _ _ L h = absurd h
+      pub each_ask : (ns : List N) (es : Rows) → AnswerEach ns es L → (every (λ n. (answers n).means v) ns).asks u ≤ sum_by (λ e. w.asked u e v) es
+      each_ask [] [] h = omega arith
+      each_ask (n ∷ ns) (e ∷ es) h = more_within _ _ _ _ _ (h.0.asks_within u v) (each_ask ns es h.1) (sum_by-cons _ e es)
+      each_ask _ _ h = absurd h
 
-      pub each_find : (Q : Path) (ns : List N) (es : Rows) (L : Path) → AnswerEach ns es L → flat_map (λ n. (answers n).report u v Q) ns ∼ flat_map (λ e. w.faults u e v L Q) es
-      each_find Q [] [] L h = like_empty
-      each_find Q (n ∷ ns) (e ∷ es) L h = ∼_append (h.0.faults u v Q) (each_find Q ns es L h.1)
-      each_find Q _ _ L h = absurd h
+      pub each_find : (Q : Path) (ns : List N) (es : Rows) → AnswerEach ns es L → flat_map (λ n. (answers n).report u v Q) ns ∼ flat_map (λ e. w.faults u e v L Q) es
+      each_find Q [] [] h = like_empty
+      each_find Q (n ∷ ns) (e ∷ es) h = ∼_append (h.0.faults u v Q) (each_find Q ns es h.1)
+      each_find Q _ _ h = absurd h
 
-      pub each_show : (Q : Path) (ns : List N) (es : Rows) (L : Path) → AnswerEach ns es L → map (λ n. (answers n).tree u v Q) ns ≡ map (λ e. w.shown u e v L Q) es
-      each_show Q [] [] L h = refl
-      each_show Q (n ∷ ns) (e ∷ es) L h = λ i. h.0.evaluation u v Q i ∷ each_show Q ns es L h.1 i
-      each_show Q _ _ L h = absurd h
+      pub each_show : (Q : Path) (ns : List N) (es : Rows) → AnswerEach ns es L → map (λ n. (answers n).tree u v Q) ns ≡ map (λ e. w.shown u e v L Q) es
+      each_show Q [] [] h = refl
+      each_show Q (n ∷ ns) (e ∷ es) h = λ i. h.0.evaluation u v Q i ∷ each_show Q ns es h.1 i
+      each_show Q _ _ h = absurd h
 
   -- ---- entries that are schemas
 

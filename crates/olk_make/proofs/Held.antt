@@ -109,37 +109,8 @@ module _ {K R N : Type 0} (o : Kit K R) (answers : N → Answers) where
     abbrev each_at : Name × N → Question
     each_at e = every (answers e.1).means (at e.0 v)
 
-    members_accept : (ns : List N) (es : Rows) (L : Path) → StandEach o answers ns es L → (every each_at (zip (keys_in es) ns)).accepts u ≡ list_all
-        (λ e. list_all (accepts o.world u e.1) (at e.0 v)) es
-    members_accept [] [] L h = refl
-    members_accept (n ∷ ns) (e ∷ es) L h = λ i. node_accepts n e.1 (L // e.0) h.0 u (at e.0 v) i && members_accept ns es L h.1 i
-    members_accept _ _ L h = absurd h
-
-    members_ask : (ns : List N) (es : Rows) (L : Path) → StandEach o answers ns es L → (every each_at (zip (keys_in es) ns)).asks u ≤ sum_by
-        (λ e. sum_by (asks o.world u e.1) (at e.0 v)) es
-    members_ask [] [] L h = omega arith
-    members_ask (n ∷ ns) (e ∷ es) L h = more_within _ _ _ _ _ (node_asks n e.1 (L // e.0) h.0 u (at e.0 v)) (members_ask ns es L h.1) (sum_by-cons _ e es)
-    members_ask _ _ L h = absurd h
-
-    members_find : (Q : Path) (ns : List N) (es : Rows) (L : Path) → StandEach o answers ns es L
-        → flat_map (λ e. flat_map (λ x. (answers e.1).report u x (Q // e.0)) (at e.0 v)) (zip (keys_in es) ns) ∼ flat_map
-        (λ e. flat_map (λ x. report o.world u e.1 x (L // e.0) (Q // e.0)) (at e.0 v)) es
-    members_find Q [] [] L h = like_empty
-    members_find Q (n ∷ ns) (e ∷ es) L h = ∼_append (node_finds n e.1 (L // e.0) h.0 u (Q // e.0) (at e.0 v)) (members_find Q ns es L h.1)
-    members_find Q _ _ L h = absurd h
-
     abbrev pub at_value : N → Question
     at_value n = (answers n).means v
-
-    any_accept : (ns : List N) (es : Rows) (L : Path) → StandEach o answers ns es L → (some at_value ns).accepts u ≡ list_any (λ e. accepts o.world u e.1 v) es
-    any_accept [] [] L h = refl
-    any_accept (n ∷ ns) (e ∷ es) L h = λ i. h.0.verdict u v i || any_accept ns es L h.1 i
-    any_accept _ _ L h = absurd h
-
-    pub any_ask : (ns : List N) (es : Rows) (L : Path) → StandEach o answers ns es L → (some at_value ns).asks u ≤ sum_by (λ e. asks o.world u e.1 v) es
-    any_ask [] [] L h = omega arith
-    any_ask (n ∷ ns) (e ∷ es) L h = more_within _ _ _ _ _ (h.0.asks_within u v) (any_ask ns es L h.1) (sum_by-cons _ e es)
-    any_ask _ _ L h = absurd h
 
     -- what the branches find, and are to find
     abbrev pub found_in : Path → List N → Context
@@ -151,67 +122,98 @@ module _ {K R N : Type 0} (o : Kit K R) (answers : N → Answers) where
     abbrev none_accepts : Rows → Bool
     none_accepts es = not (list_any (λ e. accepts o.world u e.1 v) es)
 
-    pub any_context : (Q : Path) (ns : List N) (es : Rows) (L : Path) → StandEach o answers ns es L → IsLikeContext (found_in Q ns) (meant_in Q L es)
-    any_context Q [] [] L h = like_none
-    any_context Q (n ∷ ns) (e ∷ es) L h =
-        like_branch (subst₂ (λ x y. x ∼ y) (sym (faults_in-from ((answers n).report u v Q))) (sym (faults_in-from (report o.world u e.1 v (L // e.0) Q)))
-        (h.0.faults u v Q)) (any_context Q ns es L h.1)
-    any_context Q _ _ L h = absurd h
-
-    pub branches_show : (Q : Path) (ns : List N) (es : Rows) (L : Path) → StandEach o answers ns es L → map (λ n. (answers n).tree u v Q) ns ≡ branches_shown o.world u v L Q es
-    branches_show Q ns es L h = each_show o answers (schema_answers o answers) u v Q ns es L (schemas_answer o answers ns es L h)
-
     abbrev pub accepts_value : N → Bool
     accepts_value n = ((answers n).means v).accepts u
 
-    pub accepting_show : (Q : Path) (ns : List N) (es : Rows) (L : Path) → StandEach o answers ns es L → map (λ n. (answers n).tree u v Q)
-        (filter_once accepts_value ns) ≡ branches_shown o.world u v L Q (accepting_branches o.world u v es)
-    accepting_show Q [] [] L h = refl
-    accepting_show Q (n ∷ ns) (e ∷ es) L h =
-        ap (λ b. map (λ n. (answers n).tree u v Q) (put_if b n (filter_once accepts_value ns))) (h.0.verdict u v) ∙ by (accepts o.world u e.1 v) (accepting_show Q ns es L h.1)
-      where
-        by : (b : Bool) → map (λ n. (answers n).tree u v Q) (filter_once accepts_value ns) ≡ branches_shown o.world u v L Q (accepting_branches o.world u v es)
-            → map (λ n. (answers n).tree u v Q) (put_if b n (filter_once accepts_value ns)) ≡ branches_shown o.world u v L Q (put_if b e (accepting_branches o.world u v es))
-        by true g = λ i. h.0.evaluation u v Q i ∷ g i
-        by false g = g
-    accepting_show Q _ _ L h = absurd h
+    -- at the place L
+    module _ (L : Path) where
+      members_accept : (ns : List N) (es : Rows) → StandEach o answers ns es L → (every each_at (zip (keys_in es) ns)).accepts u ≡ list_all
+          (λ e. list_all (accepts o.world u e.1) (at e.0 v)) es
+      members_accept [] [] h = refl
+      members_accept (n ∷ ns) (e ∷ es) h = λ i. node_accepts n e.1 (L // e.0) h.0 u (at e.0 v) i && members_accept ns es h.1 i
+      members_accept _ _ h = absurd h
 
-    any_show : (Q : Path) (ns : List N) (es : Rows) (L : Path) → StandEach o answers ns es L → any_of_tree (λ n. (answers n).tree u) v Q accepts_value L ns ≡ any_shown o.world u v L Q es
-    any_show Q ns es L h = λ i. cond (none i) (result L Q None true [] (branches_show Q ns es L h i)) (plain L Q (accepting_show Q ns es L h i))
-      where
-        none : is_empty (filter_once accepts_value ns) ≡ is_empty (accepting_branches o.world u v es)
-        none =
-            sym (is_empty-map (λ n. (answers n).tree u v Q) (filter_once accepts_value ns)) ∙ ap is_empty (accepting_show Q ns es L h)
-            ∙ is_empty-map (λ e. tree o.world u e.1 v (L // e.0) Q) (accepting_branches o.world u v es)
+      members_ask : (ns : List N) (es : Rows) → StandEach o answers ns es L → (every each_at (zip (keys_in es) ns)).asks u ≤ sum_by
+          (λ e. sum_by (asks o.world u e.1) (at e.0 v)) es
+      members_ask [] [] h = omega arith
+      members_ask (n ∷ ns) (e ∷ es) h = more_within _ _ _ _ _ (node_asks n e.1 (L // e.0) h.0 u (at e.0 v)) (members_ask ns es h.1) (sum_by-cons _ e es)
+      members_ask _ _ h = absurd h
 
-    zip_names : (ns : List N) (es : Rows) (L : Path) → StandEach o answers ns es L → keys_in (zip (keys_in es) ns) ≡ keys_in es
-    zip_names [] [] L h = refl
-    zip_names (n ∷ ns) (e ∷ es) L h = ap (λ ks. e.0 ∷ ks) (zip_names ns es L h.1)
-    zip_names _ _ L h = absurd h
+      members_find : (Q : Path) (ns : List N) (es : Rows) → StandEach o answers ns es L
+          → flat_map (λ e. flat_map (λ x. (answers e.1).report u x (Q // e.0)) (at e.0 v)) (zip (keys_in es) ns) ∼ flat_map
+          (λ e. flat_map (λ x. report o.world u e.1 x (L // e.0) (Q // e.0)) (at e.0 v)) es
+      members_find Q [] [] h = like_empty
+      members_find Q (n ∷ ns) (e ∷ es) h = ∼_append (node_finds n e.1 (L // e.0) h.0 u (Q // e.0) (at e.0 v)) (members_find Q ns es h.1)
+      members_find Q _ _ h = absurd h
 
-    member_shows : (Q : Path) (m : Name × Data) (ns : List N) (es : Rows) (L : Path) → StandEach o answers ns es L
-        → map (λ n. (answers n).tree u m.1 (Q // m.0)) (option_to_list (lookup_name m.0 (zip (keys_in es) ns))) ≡ shown_at o.world u v L Q es m
-    member_shows Q m [] [] L h = refl
-    member_shows Q m (n ∷ ns) (e ∷ es) L h = by (slice_cmp nat_cmp m.0 e.0) (is_eq-slice_cmp m.0 e.0) (member_shows Q m ns es L h.1)
-      where
-        by : (c : Ordering) → is_eq c ≡ bytes_eq m.0 e.0 → map (λ n. (answers n).tree u m.1 (Q // m.0)) (option_to_list (lookup_name m.0 (zip (keys_in es) ns))) ≡ shown_at o.world u v L Q es m
-            → map (λ n. (answers n).tree u m.1 (Q // m.0)) (option_to_list (first_if_equal c n (lookup_name m.0 (zip (keys_in es) ns)))) ≡ map
-            (λ d. tree o.world u d m.1 (L // m.0) (Q // m.0)) (option_to_list (first_if_equal c e.1 (lookup_name m.0 es)))
-        by Less q g = g
-        by Equal q g = (λ i. h.0.evaluation u m.1 (Q // m.0) i ∷ []) ∙ ap (λ k. tree o.world u e.1 m.1 (L // k) (Q // m.0) ∷ []) (sym (same_name m.0 e.0 (sym q)))
-        by Greater q g = g
-    member_shows Q m _ _ L h = absurd h
+      any_accept : (ns : List N) (es : Rows) → StandEach o answers ns es L → (some at_value ns).accepts u ≡ list_any (λ e. accepts o.world u e.1 v) es
+      any_accept [] [] h = refl
+      any_accept (n ∷ ns) (e ∷ es) h = λ i. h.0.verdict u v i || any_accept ns es h.1 i
+      any_accept _ _ h = absurd h
 
-    members_show : (Q : Path) (ms : Rows) (ns : List N) (es : Rows) (L : Path) → StandEach o answers ns es L
-        → flat_map (λ m. map (λ n. (answers n).tree u m.1 (Q // m.0)) (option_to_list (lookup_name m.0 (zip (keys_in es) ns)))) ms ≡ flat_map (shown_at o.world u v L Q es) ms
-    members_show Q [] ns es L h = refl
-    members_show Q (m ∷ ms) ns es L h = λ i. member_shows Q m ns es L h i ++ members_show Q ms ns es L h i
+      pub any_ask : (ns : List N) (es : Rows) → StandEach o answers ns es L → (some at_value ns).asks u ≤ sum_by (λ e. asks o.world u e.1 v) es
+      any_ask [] [] h = omega arith
+      any_ask (n ∷ ns) (e ∷ es) h = more_within _ _ _ _ _ (h.0.asks_within u v) (any_ask ns es h.1) (sum_by-cons _ e es)
+      any_ask _ _ h = absurd h
 
-    declared_show : (Q : Path) (more : List Tree) (ns : List N) (es : Rows) (L : Path) → StandEach o answers ns es L
-        → properties_tree (λ n. (answers n).tree u) v Q L (zip (keys_in es) ns) more ≡ shown_declared o.world u v L Q es more
-    declared_show Q more ns es L h =
-        λ i. result L Q (cond (is_object v) (Some (map (λ m. m.0) (filter_once (λ m. is_among m.0 (zip_names ns es L h i)) (members v)))) None) false []
-        (members_show Q (members v) ns es L h i ++ more)
+      pub any_context : (Q : Path) (ns : List N) (es : Rows) → StandEach o answers ns es L → IsLikeContext (found_in Q ns) (meant_in Q L es)
+      any_context Q [] [] h = like_none
+      any_context Q (n ∷ ns) (e ∷ es) h =
+          like_branch (subst₂ (λ x y. x ∼ y) (sym (faults_in-from ((answers n).report u v Q))) (sym (faults_in-from (report o.world u e.1 v (L // e.0) Q)))
+          (h.0.faults u v Q)) (any_context Q ns es h.1)
+      any_context Q _ _ h = absurd h
+
+      pub branches_show : (Q : Path) (ns : List N) (es : Rows) → StandEach o answers ns es L → map (λ n. (answers n).tree u v Q) ns ≡ branches_shown o.world u v L Q es
+      branches_show Q ns es h = each_show o answers _ u v _ Q _ _ (schemas_answer o answers ns es L h)
+
+      pub accepting_show : (Q : Path) (ns : List N) (es : Rows) → StandEach o answers ns es L → map (λ n. (answers n).tree u v Q)
+          (filter_once accepts_value ns) ≡ branches_shown o.world u v L Q (accepting_branches o.world u v es)
+      accepting_show Q [] [] h = refl
+      accepting_show Q (n ∷ ns) (e ∷ es) h =
+          ap (λ b. map (λ n. (answers n).tree u v Q) (put_if b n (filter_once accepts_value ns))) (h.0.verdict u v) ∙ by (accepts o.world u e.1 v) (accepting_show Q ns es h.1)
+        where
+          by : (b : Bool) → map (λ n. (answers n).tree u v Q) (filter_once accepts_value ns) ≡ branches_shown o.world u v L Q (accepting_branches o.world u v es)
+              → map (λ n. (answers n).tree u v Q) (put_if b n (filter_once accepts_value ns)) ≡ branches_shown o.world u v L Q (put_if b e (accepting_branches o.world u v es))
+          by true g = λ i. h.0.evaluation u v Q i ∷ g i
+          by false g = g
+      accepting_show Q _ _ h = absurd h
+
+      any_show : (Q : Path) (ns : List N) (es : Rows) → StandEach o answers ns es L → any_of_tree (λ n. (answers n).tree u) v Q accepts_value L ns ≡ any_shown o.world u v L Q es
+      any_show Q ns es h = λ i. cond (none i) (result L Q None true [] (branches_show Q ns es h i)) (plain L Q (accepting_show Q ns es h i))
+        where
+          none : is_empty (filter_once accepts_value ns) ≡ is_empty (accepting_branches o.world u v es)
+          none =
+              sym (is_empty-map (λ n. (answers n).tree u v Q) (filter_once accepts_value ns)) ∙ ap is_empty (accepting_show Q ns es h)
+              ∙ is_empty-map (λ e. tree o.world u e.1 v (L // e.0) Q) (accepting_branches o.world u v es)
+
+      zip_names : (ns : List N) (es : Rows) → StandEach o answers ns es L → keys_in (zip (keys_in es) ns) ≡ keys_in es
+      zip_names [] [] h = refl
+      zip_names (n ∷ ns) (e ∷ es) h = ap (λ ks. e.0 ∷ ks) (zip_names ns es h.1)
+      zip_names _ _ h = absurd h
+
+      member_shows : (Q : Path) (m : Name × Data) (ns : List N) (es : Rows) → StandEach o answers ns es L
+          → map (λ n. (answers n).tree u m.1 (Q // m.0)) (option_to_list (lookup_name m.0 (zip (keys_in es) ns))) ≡ shown_at o.world u v L Q es m
+      member_shows Q m [] [] h = refl
+      member_shows Q m (n ∷ ns) (e ∷ es) h = by (slice_cmp nat_cmp m.0 e.0) (is_eq-slice_cmp m.0 e.0) (member_shows Q m ns es h.1)
+        where
+          by : (c : Ordering) → is_eq c ≡ bytes_eq m.0 e.0 → map (λ n. (answers n).tree u m.1 (Q // m.0)) (option_to_list (lookup_name m.0 (zip (keys_in es) ns))) ≡ shown_at o.world u v L Q es m
+              → map (λ n. (answers n).tree u m.1 (Q // m.0)) (option_to_list (first_if_equal c n (lookup_name m.0 (zip (keys_in es) ns)))) ≡ map
+              (λ d. tree o.world u d m.1 (L // m.0) (Q // m.0)) (option_to_list (first_if_equal c e.1 (lookup_name m.0 es)))
+          by Less q g = g
+          by Equal q g = (λ i. h.0.evaluation u m.1 (Q // m.0) i ∷ []) ∙ ap (λ k. tree o.world u e.1 m.1 (L // k) (Q // m.0) ∷ []) (sym (same_name m.0 e.0 (sym q)))
+          by Greater q g = g
+      member_shows Q m _ _ h = absurd h
+
+      members_show : (Q : Path) (ms : Rows) (ns : List N) (es : Rows) → StandEach o answers ns es L
+          → flat_map (λ m. map (λ n. (answers n).tree u m.1 (Q // m.0)) (option_to_list (lookup_name m.0 (zip (keys_in es) ns)))) ms ≡ flat_map (shown_at o.world u v L Q es) ms
+      members_show Q [] ns es h = refl
+      members_show Q (m ∷ ms) ns es h = λ i. member_shows Q m ns es h i ++ members_show Q ms ns es h i
+
+      declared_show : (Q : Path) (more : List Tree) (ns : List N) (es : Rows) → StandEach o answers ns es L
+          → properties_tree (λ n. (answers n).tree u) v Q L (zip (keys_in es) ns) more ≡ shown_declared o.world u v L Q es more
+      declared_show Q more ns es h =
+          λ i. result L Q (cond (is_object v) (Some (map (λ m. m.0) (filter_once (λ m. is_among m.0 (zip_names ns es h i)) (members v)))) None) false []
+          (members_show Q (members v) ns es h i ++ more)
 
   -- ---- one keyword
 
@@ -236,7 +238,7 @@ module _ {K R N : Type 0} (o : Kit K R) (answers : N → Answers) where
 
   properties_show : (m : PropertiesMap N) (ns : List N) (L : Path) (es : Rows) → mapped m ≡ zip (keys_in es) ns → StandEach o answers ns es L
       → (u : Bool) (v : Data) (Q : Path) (more : List Tree) → properties_tree (λ n. (answers n).tree u) v Q L (mapped m) more ≡ shown_declared o.world u v L Q es more
-  properties_show m ns L es held stand u v Q more = ap (λ ds. properties_tree (λ n. (answers n).tree u) v Q L ds more) held ∙ declared_show u v Q more ns es L stand
+  properties_show m ns L es held stand u v Q more = ap (λ ds. properties_tree (λ n. (answers n).tree u) v Q L ds more) held ∙ declared_show u v L Q more ns es stand
 
   pub means_properties : (m : PropertiesMap N) (ns : List N) (L : Path) (fs : Members) (d : Data) → d ≡ object fs → is_map_formed m ≡ true
       → mapped m ≡ zip (keys_in (listed fs)) ns → StandEach o answers ns (listed fs) L → (ms : Members) (P : Path) → L ≡ P // codes "properties" → KeywordMeans o answers ms
@@ -248,7 +250,7 @@ module _ {K R N : Type 0} (o : Kit K R) (answers : N → Answers) where
         (λ u v. subst₂ (λ ds n. (every (each_at u v) ds).asks u ≤ n) (sym held) (sym (fact.properties_asks o.world ms fs u v)) (members_ask u v _ _ _ stand))
         (λ u v Q. subst₂ (λ ds l. flat_map (λ e. flat_map (λ x. (answers e.1).report u x (Q // e.0)) (at e.0 v)) ds ∼ l) (sym held)
         (ap (λ M. flat_map (λ e. flat_map (λ x. report o.world u e.1 x (M // e.0) (Q // e.0)) (at e.0 v)) (listed fs)) p ∙ sym (fact.properties_report o.world ms fs u v P Q))
-        (members_find u v Q _ _ _ stand));
+        (members_find u v _ Q _ _ stand));
     shows = λ u h v Q.
         ap (λ t. t ∷ []) (properties_show m ns L (listed fs) held stand u v Q [] ∙ ap (λ M. shown_declared o.world u v M Q (listed fs) []) p)
         ∙ ap (λ b. shown_declared o.world u v (P // codes "properties") Q (listed fs) (missing_child o.world u (read_members (meaning_step o.world u) ms) v P Q b) ∷ []) (sym h.2)
@@ -433,9 +435,9 @@ module _ {K R N : Type 0} (o : Kit K R) (answers : N → Answers) where
         (fact.all_of_asks o.world ms ds u v))
         (λ u v Q. subst₂ (λ x y. x ∼ y) (sym (all_form_finds L ns u v Q k form))
         (ap (λ M. flat_map (λ e. report o.world u e.1 v (M // e.0) Q) (numbered (items_list ds))) p ∙ sym (fact.all_of_report o.world ms ds u v P Q))
-        (each_find o answers _ u v Q _ _ _ answer));
+        (each_find o answers _ u v _ Q _ _ answer));
     shows = λ u h v Q.
-        ap (λ t. t ∷ []) (all_form_shows L ns u v Q k form ∙ ap (plain L Q) (branches_show u v Q _ _ _ stand)
+        ap (λ t. t ∷ []) (all_form_shows L ns u v Q k form ∙ ap (plain L Q) (branches_show u v _ Q _ _ stand)
         ∙ ap (λ M. plain M Q (branches_shown o.world u v M Q (numbered (items_list ds)))) p)
         ∙ sym (all_of_child o.world u v ms P Q ds);
     formed = just_one_formed o answers k (all_of_formed o answers k L ns form (stand_formed o answers _ _ _ stand));
@@ -454,9 +456,9 @@ module _ {K R N : Type 0} (o : Kit K R) (answers : N → Answers) where
         (λ u v Q. subst₂ (λ x y. x ∼ y)
         (ap (λ b. fault_if (not b) (AnyOf (found_in u v Q ns)) v L Q) (sym (any_accept u v _ _ _ stand)) ∙ sym (any_form_finds L ns u v Q k form))
         (ap (λ M. fault_if (none_accepts u v (numbered (items_list ds))) (AnyOf (meant_in u v Q M (numbered (items_list ds)))) v M Q) p ∙ sym (fact.any_of_report o.world ms ds u v P Q))
-        (fault_like (none_accepts u v (numbered (items_list ds))) v L Q (like_any_of (any_context u v Q _ _ _ stand))));
+        (fault_like (none_accepts u v (numbered (items_list ds))) v L Q (like_any_of (any_context u v _ Q _ _ stand))));
     shows = λ u h v Q.
-        ap (λ t. t ∷ []) (any_form_shows L ns u v Q k form ∙ any_show u v Q _ _ _ stand ∙ ap (λ M. any_shown o.world u v M Q (numbered (items_list ds))) p)
+        ap (λ t. t ∷ []) (any_form_shows L ns u v Q k form ∙ any_show u v _ Q _ _ stand ∙ ap (λ M. any_shown o.world u v M Q (numbered (items_list ds))) p)
         ∙ sym (any_of_child o.world u v ms P Q ds);
     formed = just_one_formed o answers k (any_of_formed o answers k L ns form (stand_formed o answers _ _ _ stand));
   }

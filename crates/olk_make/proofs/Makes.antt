@@ -1,4 +1,5 @@
 -- What is made of a part, and of all parts.
+use Rattle.olk_make.proofs.Taking.{apart_by}
 use Rattle.olk_tree.specs.Maps.{keys_in}
 use Rattle.olk_tree.specs.Answers.{Answers}
 use Rattle.std.specs.Prelude.{◌≡◌, Bool, true, false, not, List, [], ◌∷◌, ◌++◌, ◌&&◌, ◌||◌, map, codes, bytes_eq, Option, Some, None, is_some, Vec, String, string_bytes}
@@ -65,11 +66,7 @@ neighbours else_keyword = true
 neighbours w = false
 
 pub apart : (W : World) (n k : Name) → neighbours (keyword_named W n) ≡ true → neighbours (keyword_named W k) ≡ false → bytes_eq n k ≡ false
-apart W n k h e = by (bytes_eq n k) refl
-  where
-    by : (b : Bool) → bytes_eq n k ≡ b → bytes_eq n k ≡ false
-    by false q = q
-    by true q = absurd (true≢false (sym h ∙ ap (λ x. neighbours (keyword_named W x)) (same_name n k q) ∙ e))
+apart W n k h e = apart_by (λ x. neighbours (keyword_named W x)) n k h e
 
 no_case : (W : World) (c : Bool) (k : Name) → neighbours (keyword_named W k) ≡ false → IsNoCase c k
 no_case W c k e read_here = (

@@ -53,8 +53,8 @@ module _ {K R N : Type 0} (o : Kit K R) (answers : N → Answers) where
     one_show : (Q : Path) (ns : List N) (es : Rows) (L : Path) → StandEach o answers ns es L → one_of_tree (λ n. (answers n).tree u) v Q
         (accepts_value o answers u v) L ns ≡ fact.one_shown o.world u v (fact.accepting_count o.world u v es) L Q es
     one_show Q ns es L h = λ i. cond (counted ns es L h i == 0)
-        (result L Q None true [] (branches_show o answers u v Q ns es L h i))
-        (result L Q None false (put_if (nat_lt 1 (counted ns es L h i)) several_accept []) (accepting_show o answers u v Q ns es L h i))
+        (result L Q None true [] (branches_show o answers u v L Q ns es h i))
+        (result L Q None false (put_if (nat_lt 1 (counted ns es L h i)) several_accept []) (accepting_show o answers u v L Q ns es h i))
 
   module _ (L : Path) (ns : List N) (u : Bool) (v : Data) where
     abbrev accepting : List N → ℕ
@@ -93,7 +93,7 @@ module _ {K R N : Type 0} (o : Kit K R) (answers : N → Answers) where
         (λ u v. form_accepts L ns u v k form ∙ ap (λ n. n == 1) (counted u v _ _ _ stand) ∙ sym (fact.one_of_accepts o.world u v ms ds))
         (λ u v. same_within _ _ _ (at_most_through o answers _ _ _ (form_asks L ns u v k form) (any_ask o answers u v _ _ _ stand)) (fact.one_of_asks o.world u v ms ds))
         (λ u v Q.
-        let context = any_context o answers u v Q _ _ _ stand in
+        let context = any_context o answers u v _ Q _ _ stand in
         let count = fact.accepting_count o.world u v (numbered (items_list ds)) in
         subst₂ (λ x y. x ∼ y)
         (sym (form_finds L ns u v Q k form ∙ ap (λ n. one_of_report n (found_in o answers u v Q ns) v L Q) (counted u v _ _ _ stand)))

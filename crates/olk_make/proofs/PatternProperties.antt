@@ -114,16 +114,20 @@ module _ {K R N : Type 0} (o : Kit K R) (answers : N → Answers) where
     abbrev asked_member : Name × Data → ℕ
     asked_member x = pattern_asks o.world d.0 + cond (matches o.world u d.0 x.0) (asks o.world u d.1 x.1) 0
 
+    abbrev counts : Name × Data → ℕ
+    counts x = cond {A = ℕ} (pattern_costs o.costs e.0 || is_unfinished (pattern_answers o.answers e.0 x.0)) 1 0
+
     -- a match is counted where the pattern is open
-    counted : (x : Name × Data) → cond {A = ℕ} (pattern_costs o.costs e.0 || is_unfinished (pattern_answers o.answers e.0 x.0)) 1 0 ≡ cond {A = ℕ} (is_open o.world d.0) 1 0
+    counted : (x : Name × Data) → counts x ≡ cond {A = ℕ} (is_open o.world d.0) 1 0
     counted x = (λ i. cond {A = ℕ} (h.costs i || is_unfinished (h.answers x.0 i)) 1 0) ∙ open_counts o.world d.0 x.0
 
-    one_asks : (x : Name × Data) → cond {A = ℕ} (pattern_costs o.costs e.0 || is_unfinished (pattern_answers o.answers e.0 x.0)) 1 0 + cond
-        (reads_as u (pattern_answers o.answers e.0 x.0)) (((answers e.1).means x.1).asks u) 0 ≤ asked_member x
+    abbrev match_asks : Name × Data → ℕ
+    match_asks x = counts x + cond (reads_as u (pattern_answers o.answers e.0 x.0)) (((answers e.1).means x.1).asks u) 0
+
+    one_asks : (x : Name × Data) → match_asks x ≤ asked_member x
     one_asks x = by (ask_member x) (ap (reads_as u) (h.answers x.0))
       where
-        by : (b : Bool) → reads_as u (pattern_answers o.answers e.0 x.0) ≡ b → cond {A = ℕ} (pattern_costs o.costs e.0 || is_unfinished (pattern_answers o.answers e.0 x.0)) 1 0 + cond
-            (reads_as u (pattern_answers o.answers e.0 x.0)) (((answers e.1).means x.1).asks u) 0 ≤ pattern_asks o.world d.0 + cond b (asks o.world u d.1 x.1) 0
+        by : (b : Bool) → reads_as u (pattern_answers o.answers e.0 x.0) ≡ b → match_asks x ≤ pattern_asks o.world d.0 + cond b (asks o.world u d.1 x.1) 0
         by true q = let c = counted x in let a = ap {B = ℕ} (λ b. cond b (((answers e.1).means x.1).asks u) 0) q in let w = s.asks_within u x.1 in omega (arith, c, a, w)
         by false q = let c = counted x in let a = ap {B = ℕ} (λ b. cond b (((answers e.1).means x.1).asks u) 0) q in omega (arith, c, a)
 

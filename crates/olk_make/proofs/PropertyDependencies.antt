@@ -163,7 +163,7 @@ module _ {K R N : Type 0} (o : Kit K R) (answers : N → Answers) where
         choices_find (m ∷ maps) (e ∷ es) L h =
             subst (λ fs. fs ∼ flat_map (λ e. flat_map (λ c. report o.world u c.1 v (L // e.0 // c.0) Q) (chosen v e)) (e ∷ es))
             (sym (flat_map-append (λ n. (answers n).report u v Q) (flat_map (chosen_at m) (at e.0 v)) (chosen_of maps es)))
-            (∼_append (each_find o answers _ u v Q _ _ _ (chosen_answer m e L h.0))
+            (∼_append (each_find o answers _ u v _ Q _ _ (chosen_answer m e L h.0))
             (choices_find maps es L h.1))
         choices_find _ _ L h = absurd h
 
@@ -171,7 +171,7 @@ module _ {K R N : Type 0} (o : Kit K R) (answers : N → Answers) where
             (chosen_of maps es) ≡ flat_map (λ e. map (λ c. tree o.world u c.1 v (L // e.0 // c.0) Q) (chosen v e)) es
         choices_show [] [] L h = refl
         choices_show (m ∷ maps) (e ∷ es) L h = map-append (λ n. (answers n).tree u v Q) (flat_map (chosen_at m) (at e.0 v)) (chosen_of maps es)
-            ∙ (λ i. each_show o answers _ u v Q _ _ _ (chosen_answer m e L h.0) i
+            ∙ (λ i. each_show o answers _ u v _ Q _ _ (chosen_answer m e L h.0) i
             ++ choices_show maps es L h.1 i)
         choices_show _ _ L h = absurd h
 

@@ -55,7 +55,7 @@ last_is_found ms distinct k = last_of_named k (listed ms) None ∙ ap (λ l. las
 -- ---- the names whose parts are taken
 
 -- a test tells two names apart
-apart_by : (test : Name → Bool) (n k : Name) → test n ≡ true → test k ≡ false → bytes_eq n k ≡ false
+pub apart_by : (test : Name → Bool) (n k : Name) → test n ≡ true → test k ≡ false → bytes_eq n k ≡ false
 apart_by test n k h e = by (bytes_eq n k) refl
   where
     by : (b : Bool) → bytes_eq n k ≡ b → b ≡ false
