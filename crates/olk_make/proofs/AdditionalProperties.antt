@@ -154,8 +154,7 @@ module _ {K R N : Type 0} (o : Kit K R) (answers : N → Answers) where
   }
   declared_side None (Some m) a L form h = absurd form
   declared_side (Some b) None a L form h = absurd form
-  declared_side None x (Some d) L form h = absurd h
-  declared_side (Some b) x None L form h = absurd h
+  declared_side _ x _ L form h = absurd h
 
   -- patterns that are there, and what they are
   kept_patterns : (v : Option PatternNodes) {l : List (CompiledPattern R × N)} → option_map (λ (w : PatternNodes). w.items) v ≡ Some l → (w : PatternNodes) × (v ≡ Some w) × (w.items ≡ l)
@@ -193,8 +192,7 @@ module _ {K R N : Type 0} (o : Kit K R) (answers : N → Answers) where
 
         names : x.table.names ≡ keys_in (declared_beside ms)
         names = h.names ∙ ap (λ b. keys_in (cond b (declared_beside ms) [])) restricted
-    patterns_side None (Some d) L form h = absurd h
-    patterns_side (Some x) None L form h = absurd h
+    patterns_side _ _ L form h = absurd h
 
   -- ---- the form of what stands zip it
 

@@ -287,8 +287,8 @@ module _ {K R N : Type 0} (o : Kit K R) (answers : N → Answers) where
   -- where there is neither, `if` is not read
   pub makes_no_condition : (L : Path) (n : N) (cs : Cases N) → cs.then_schema ≡ None → cs.else_schema ≡ None → MakesCondition o answers L n cs []
   makes_no_condition L n cs p q ms d P place stands cases distinct there read_here =
-      let a = none_stands (lookup_name (codes "then") (listed ms)) (P // codes "then") (subst (λ t. Fills (Case (P // codes "then")) t (lookup_name (codes "then") (listed ms))) p cases.0) in
-      let b = none_stands (lookup_name (codes "else") (listed ms)) (P // codes "else") (subst (λ t. Fills (Case (P // codes "else")) t (lookup_name (codes "else") (listed ms))) q cases.1) in
+      let a = none_stands _ (P // codes "then") (subst (λ t. Fills (Case (P // codes "then")) t (lookup_name (codes "then") (listed ms))) p cases.0) in
+      let b = none_stands _ (P // codes "else") (subst (λ t. Fills (Case (P // codes "else")) t (lookup_name (codes "else") (listed ms))) q cases.1) in
       absurd (true≢false (sym read_here ∙ (λ i. is_some (there i) && (is_some (a i) || is_some (b i)))))
 
   pub makes_if : (r : Option (KeywordOver K R N)) (L : Path) (n : N) (cs : Cases N) → IfNone r (cs.then_schema ≡ None) → IfNone r (cs.else_schema ≡ None)

@@ -192,7 +192,8 @@ module _ {K R N : Type 0} (o : Kit K R) (answers : N → Answers) where
     shown = λ u e v L Q. cond is_list (erring L Q (required_faults (texts e.1) v L Q)) (tree o.world u e.1 v (L // e.0) Q);
   }
 
-  is_dependency : (n : N) (e : Name × Data) (L : Path) (is_list : Bool) → is_array e.1 ≡ is_list → AnswersFor o answers (entry_answers is_list) n e L → AnswersFor o answers dependency_answers n e L
+  is_dependency : (n : N) (e : Name × Data) (L : Path) (is_list : Bool) → is_array e.1 ≡ is_list → AnswersFor o answers (entry_answers is_list) n e L
+      → AnswersFor o answers dependency_answers n e L
   is_dependency n e L is_list a answer =
       let h = subst (λ b. AnswersFor o answers (entry_answers b) n e L) (sym a) answer in
       record { verdict = h.verdict; asks_within = h.asks_within; faults = h.faults; evaluation = h.evaluation; formed = h.formed }

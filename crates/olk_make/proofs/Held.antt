@@ -217,6 +217,13 @@ module _ {K R N : Type 0} (o : Kit K R) (answers : N → Answers) where
 
   -- ---- one keyword
 
+  -- what a keyword answers, told of what it holds
+  pub record Answered (k : KeywordOver K R N) (u : Bool) (v : Data) (accepted : Bool) (asked : ℕ) (reported : Path → List Fault) (evaluated : Path → Tree) : Type 0 where
+    pub verdict : (question k v).accepts u ≡ accepted
+    pub asks_within : (question k v).asks u ≤ asked
+    pub faults : (Q : Path) → found u k v Q ≡ reported Q
+    pub evaluation : (Q : Path) → shown u k v Q ≡ evaluated Q
+
   module _ (ms : Members) (k : KeywordOver K R N) (m : Name × Data) (w : Keyword) (P : Path) where
     pub one_if_free : ((u : Bool) (v : Data) → (question k v).accepts u ≡ member_accepts o.world ms m w u v)
         → ((is_restricted ms && tells_members m.0) ≡ false → (u : Bool) (v : Data) → (question k v).asks u ≤ member_asks o.world ms m w u v)
@@ -244,7 +251,8 @@ module _ {K R N : Type 0} (o : Kit K R) (answers : N → Answers) where
       → mapped m ≡ zip (keys_in (listed fs)) ns → StandEach o answers ns (listed fs) L → (ms : Members) (P : Path) → L ≡ P // codes "properties" → KeywordMeans o answers ms
       (keyword.Properties (record { properties = m; location = L }) ∷ []) (codes "properties", d) P
   unfolding answers_of
-  means_properties m ns L fs d q sized held stand ms P p = subst (λ x. KeywordMeans o answers ms (keyword.Properties (record { properties = m; location = L }) ∷ []) (codes "properties", x) P) (sym q) (record {
+  means_properties m ns L fs d q sized held stand ms P p = subst
+      (λ x. KeywordMeans o answers ms (keyword.Properties (record { properties = m; location = L }) ∷ []) (codes "properties", x) P) (sym q) (record {
     holds = one ms (keyword.Properties (record { properties = m; location = L })) (codes "properties", object fs) properties P
         (λ u v. ap (λ ds. (every (each_at u v) ds).accepts u) held ∙ members_accept u v _ _ _ stand ∙ sym (fact.properties_accepts o.world ms fs u v))
         (λ u v. subst₂ (λ ds n. (every (each_at u v) ds).asks u ≤ n) (sym held) (sym (fact.properties_asks o.world ms fs u v)) (members_ask u v _ _ _ stand))
@@ -370,58 +378,49 @@ module _ {K R N : Type 0} (o : Kit K R) (answers : N → Answers) where
   -- ---- branches
 
   module _ (L : Path) (ns : List N) (u : Bool) (v : Data) where
-    all_form_accepts : (k : KeywordOver K R N) → IsFormOfAllOf L ns k → (question k v).accepts u ≡ (every (at_value u v) ns).accepts u
-    unfolding answers_of
-    all_form_accepts (keyword.AllOf k) f = ap (λ xs. (every (at_value u v) xs).accepts u) f.0
-    all_form_accepts (keyword.SingleValueAllOf k) f = sym (and-true (((answers k.node).means v).accepts u)) ∙ ap (λ xs. (every (at_value u v) xs).accepts u) (sym f.0)
-    all_form_accepts k f = absurd f
+    abbrev trees_of : Path → List N → List Tree
+    trees_of Q xs = branch_trees (λ n. (answers n).tree u) v Q xs
 
-    all_form_asks : (k : KeywordOver K R N) → IsFormOfAllOf L ns k → (question k v).asks u ≤ (every (at_value u v) ns).asks u
+    all_form : (k : KeywordOver K R N) → IsFormOfAllOf L ns k
+        → Answered k u v ((every (at_value u v) ns).accepts u) ((every (at_value u v) ns).asks u) (λ Q. flat_map (λ n. (answers n).report u v Q) ns) (λ Q. plain L Q (trees_of Q ns))
     unfolding answers_of
-    all_form_asks (keyword.AllOf k) f = let e = ap (λ xs. (every (at_value u v) xs).asks u) f.0 in omega (arith, e)
-    all_form_asks (keyword.SingleValueAllOf k) f = let e = ap (λ xs. (every (at_value u v) xs).asks u) f.0 in omega (arith, e)
-    all_form_asks k f = absurd f
-
-    all_form_finds : (Q : Path) (k : KeywordOver K R N) → IsFormOfAllOf L ns k → found u k v Q ≡ flat_map (λ n. (answers n).report u v Q) ns
-    unfolding answers_of
-    all_form_finds Q (keyword.AllOf k) f = ap (flat_map (λ n. (answers n).report u v Q)) f.0
-    all_form_finds Q (keyword.SingleValueAllOf k) f = sym (append-nil ((answers k.node).report u v Q)) ∙ ap (flat_map (λ n. (answers n).report u v Q)) (sym f.0)
-    all_form_finds Q k f = absurd f
-
-    all_form_shows : (Q : Path) (k : KeywordOver K R N) → IsFormOfAllOf L ns k → shown u k v Q ≡ plain L Q (branch_trees (λ n. (answers n).tree u) v Q ns)
-    unfolding answers_of
-    all_form_shows Q (keyword.AllOf k) f = λ i. plain (f.2 i) Q (branch_trees (λ n. (answers n).tree u) v Q (f.0 i))
-    all_form_shows Q (keyword.SingleValueAllOf k) f = λ i. plain (f.1 i) Q (branch_trees (λ n. (answers n).tree u) v Q (sym f.0 i))
-    all_form_shows Q k f = absurd f
-
-    any_form_shows : (Q : Path) (k : KeywordOver K R N) → IsFormOfAnyOf L ns k → shown u k v Q ≡ any_of_tree (λ n. (answers n).tree u) v Q (accepts_value u v) L ns
-    unfolding answers_of
-    any_form_shows Q (keyword.AnyOf k) f = λ i. any_of_tree (λ n. (answers n).tree u) v Q (accepts_value u v) (f.2 i) (f.0 i)
-    any_form_shows Q (keyword.SingleAnyOf k) f = λ i. any_of_tree (λ n. (answers n).tree u) v Q (accepts_value u v) (f.1 i) (sym f.0 i)
-    any_form_shows Q k f = absurd f
-
-    any_form_accepts : (k : KeywordOver K R N) → IsFormOfAnyOf L ns k → (question k v).accepts u ≡ (some (at_value u v) ns).accepts u
-    unfolding answers_of
-    any_form_accepts (keyword.AnyOf k) f = ap (λ xs. (some (at_value u v) xs).accepts u) f.0
-    any_form_accepts (keyword.SingleAnyOf k) f = sym (or-false (((answers k.node).means v).accepts u)) ∙ ap (λ xs. (some (at_value u v) xs).accepts u) (sym f.0)
-    any_form_accepts k f = absurd f
-
-    any_form_asks : (k : KeywordOver K R N) → IsFormOfAnyOf L ns k → (question k v).asks u ≤ (some (at_value u v) ns).asks u
-    unfolding answers_of
-    any_form_asks (keyword.AnyOf k) f = let e = ap (λ xs. (some (at_value u v) xs).asks u) f.0 in omega (arith, e)
-    any_form_asks (keyword.SingleAnyOf k) f = let e = ap (λ xs. (some (at_value u v) xs).asks u) f.0 in omega (arith, e)
-    any_form_asks k f = absurd f
+    all_form (keyword.AllOf k) f = record {
+      verdict = ap (λ xs. (every (at_value u v) xs).accepts u) f.0;
+      asks_within = let e = ap (λ xs. (every (at_value u v) xs).asks u) f.0 in omega (arith, e);
+      faults = λ Q. ap (flat_map (λ n. (answers n).report u v Q)) f.0;
+      evaluation = λ Q. λ i. plain (f.2 i) Q (trees_of Q (f.0 i));
+    }
+    all_form (keyword.SingleValueAllOf k) f = record {
+      verdict = sym (and-true (((answers k.node).means v).accepts u)) ∙ ap (λ xs. (every (at_value u v) xs).accepts u) (sym f.0);
+      asks_within = let e = ap (λ xs. (every (at_value u v) xs).asks u) f.0 in omega (arith, e);
+      faults = λ Q. sym (append-nil ((answers k.node).report u v Q)) ∙ ap (flat_map (λ n. (answers n).report u v Q)) (sym f.0);
+      evaluation = λ Q. λ i. plain (f.1 i) Q (trees_of Q (sym f.0 i));
+    }
+    all_form k f = absurd f
 
     abbrev any_faults : List N → Path → Path → List Fault
     any_faults xs M Q = fault_if (not ((some (at_value u v) xs).accepts u)) (AnyOf (found_in u v Q xs)) v M Q
 
-    any_form_finds : (Q : Path) (k : KeywordOver K R N) → IsFormOfAnyOf L ns k → found u k v Q ≡ any_faults ns L Q
+    abbrev any_tree : List N → Path → Path → Tree
+    any_tree xs M Q = any_of_tree (λ n. (answers n).tree u) v Q (accepts_value u v) M xs
+
+    any_form : (k : KeywordOver K R N) → IsFormOfAnyOf L ns k → Answered k u v ((some (at_value u v) ns).accepts u) ((some (at_value u v) ns).asks u) (any_faults ns L) (any_tree ns L)
     unfolding answers_of
-    any_form_finds Q (keyword.AnyOf k) f = λ i. any_faults (f.0 i) (f.2 i) Q
-    any_form_finds Q (keyword.SingleAnyOf k) f =
-        ap (λ b. fault_if (not b) (AnyOf (context ((answers k.node).report u v Q ∷ []))) v k.location Q) (sym (or-false (((answers k.node).means v).accepts u)))
-        ∙ (λ i. any_faults (sym f.0 i) (f.1 i) Q)
-    any_form_finds Q k f = absurd f
+    any_form (keyword.AnyOf k) f = record {
+      verdict = ap (λ xs. (some (at_value u v) xs).accepts u) f.0;
+      asks_within = let e = ap (λ xs. (some (at_value u v) xs).asks u) f.0 in omega (arith, e);
+      faults = λ Q. λ i. any_faults (f.0 i) (f.2 i) Q;
+      evaluation = λ Q. λ i. any_tree (f.0 i) (f.2 i) Q;
+    }
+    any_form (keyword.SingleAnyOf k) f = record {
+      verdict = sym (or-false (((answers k.node).means v).accepts u)) ∙ ap (λ xs. (some (at_value u v) xs).accepts u) (sym f.0);
+      asks_within = let e = ap (λ xs. (some (at_value u v) xs).asks u) f.0 in omega (arith, e);
+      faults = λ Q.
+          ap (λ b. fault_if (not b) (AnyOf (found_in u v Q (k.node ∷ []))) v k.location Q) (sym (or-false (((answers k.node).means v).accepts u)))
+          ∙ (λ i. any_faults (sym f.0 i) (f.1 i) Q);
+      evaluation = λ Q. λ i. any_tree (sym f.0 i) (f.1 i) Q;
+    }
+    any_form k f = absurd f
 
   pub at_most_through : (a b c : ℕ) → a ≤ b → b ≤ c → a ≤ c
   at_most_through a b c h k = omega (arith, h, k)
@@ -430,14 +429,14 @@ module _ {K R N : Type 0} (o : Kit K R) (answers : N → Answers) where
       → StandEach o answers ns (numbered (items_of_array d)) L → (ms : Members) (P : Path) → L ≡ P // codes "allOf" → KeywordMeans o answers ms (k ∷ []) (codes "allOf", d) P
   means_all_of k ns L (array ds) is form stand ms P p = record {
     holds = one ms k (codes "allOf", array ds) all_of P
-        (λ u v. all_form_accepts L ns u v k form ∙ each_accept o answers _ u v _ _ _ answer ∙ sym (fact.all_of_accepts o.world ms ds u v))
-        (λ u v. same_within _ _ _ (at_most_through _ _ _ (all_form_asks L ns u v k form) (each_ask o answers _ u v _ _ _ answer))
+        (λ u v. (all_form L ns u v k form).verdict ∙ each_accept o answers _ u v _ _ _ answer ∙ sym (fact.all_of_accepts o.world ms ds u v))
+        (λ u v. same_within _ _ _ (at_most_through _ _ _ (all_form L ns u v k form).asks_within (each_ask o answers _ u v _ _ _ answer))
         (fact.all_of_asks o.world ms ds u v))
-        (λ u v Q. subst₂ (λ x y. x ∼ y) (sym (all_form_finds L ns u v Q k form))
+        (λ u v Q. subst₂ (λ x y. x ∼ y) (sym ((all_form L ns u v k form).faults Q))
         (ap (λ M. flat_map (λ e. report o.world u e.1 v (M // e.0) Q) (numbered (items_list ds))) p ∙ sym (fact.all_of_report o.world ms ds u v P Q))
         (each_find o answers _ u v _ Q _ _ answer));
     shows = λ u h v Q.
-        ap (λ t. t ∷ []) (all_form_shows L ns u v Q k form ∙ ap (plain L Q) (branches_show u v _ Q _ _ stand)
+        ap (λ t. t ∷ []) ((all_form L ns u v k form).evaluation Q ∙ ap (plain L Q) (branches_show u v _ Q _ _ stand)
         ∙ ap (λ M. plain M Q (branches_shown o.world u v M Q (numbered (items_list ds)))) p)
         ∙ sym (all_of_child o.world u v ms P Q ds);
     formed = just_one_formed o answers k (all_of_formed o answers k L ns form (stand_formed o answers _ _ _ stand));
@@ -451,14 +450,14 @@ module _ {K R N : Type 0} (o : Kit K R) (answers : N → Answers) where
       → StandEach o answers ns (numbered (items_of_array d)) L → (ms : Members) (P : Path) → L ≡ P // codes "anyOf" → KeywordMeans o answers ms (k ∷ []) (codes "anyOf", d) P
   means_any_of k ns L (array ds) is form stand ms P p = record {
     holds = one ms k (codes "anyOf", array ds) any_of P
-        (λ u v. any_form_accepts L ns u v k form ∙ any_accept u v _ _ _ stand ∙ sym (fact.any_of_accepts o.world ms ds u v))
-        (λ u v. same_within _ _ _ (at_most_through _ _ _ (any_form_asks L ns u v k form) (any_ask u v _ _ _ stand)) (fact.any_of_asks o.world ms ds u v))
+        (λ u v. (any_form L ns u v k form).verdict ∙ any_accept u v _ _ _ stand ∙ sym (fact.any_of_accepts o.world ms ds u v))
+        (λ u v. same_within _ _ _ (at_most_through _ _ _ (any_form L ns u v k form).asks_within (any_ask u v _ _ _ stand)) (fact.any_of_asks o.world ms ds u v))
         (λ u v Q. subst₂ (λ x y. x ∼ y)
-        (ap (λ b. fault_if (not b) (AnyOf (found_in u v Q ns)) v L Q) (sym (any_accept u v _ _ _ stand)) ∙ sym (any_form_finds L ns u v Q k form))
+        (ap (λ b. fault_if (not b) (AnyOf (found_in u v Q ns)) v L Q) (sym (any_accept u v _ _ _ stand)) ∙ sym ((any_form L ns u v k form).faults Q))
         (ap (λ M. fault_if (none_accepts u v (numbered (items_list ds))) (AnyOf (meant_in u v Q M (numbered (items_list ds)))) v M Q) p ∙ sym (fact.any_of_report o.world ms ds u v P Q))
         (fault_like (none_accepts u v (numbered (items_list ds))) v L Q (like_any_of (any_context u v _ Q _ _ stand))));
     shows = λ u h v Q.
-        ap (λ t. t ∷ []) (any_form_shows L ns u v Q k form ∙ any_show u v _ Q _ _ stand ∙ ap (λ M. any_shown o.world u v M Q (numbered (items_list ds))) p)
+        ap (λ t. t ∷ []) ((any_form L ns u v k form).evaluation Q ∙ any_show u v _ Q _ _ stand ∙ ap (λ M. any_shown o.world u v M Q (numbered (items_list ds))) p)
         ∙ sym (any_of_child o.world u v ms P Q ds);
     formed = just_one_formed o answers k (any_of_formed o answers k L ns form (stand_formed o answers _ _ _ stand));
   }

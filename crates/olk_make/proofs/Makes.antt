@@ -167,7 +167,8 @@ module _ {K R N : Type 0} (o : Kit K R) (answers : N → Answers) where
   without_nodes x L ns ks none make ms m P place s stand = make ms m P place s (subst (λ r. StandAt o answers r [] m.1 L) (sym none) refl)
 
   -- all but `if` and `additionalProperties` hold their own nodes alone
-  pub part_of_claims : (x : Shape K R) {L P : Path} {ks : List (KeywordOver K R N)} {p : Planned} (ns : List N) (t : Taken R N) → MakesClaims o answers x L ns P p ks → MakesPart o answers x L ns t P p ks
+  pub part_of_claims : (x : Shape K R) {L P : Path} {ks : List (KeywordOver K R N)} {p : Planned} (ns : List N) (t : Taken R N)
+      → MakesClaims o answers x L ns P p ks → MakesPart o answers x L ns t P p ks
   part_of_claims x ns t make ms m place s fits stand cases beside distinct there chosen untaken = make ms m place s stand distinct there chosen untaken
 
   -- of an equal shape

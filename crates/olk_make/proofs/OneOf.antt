@@ -7,13 +7,13 @@ use mathlib.Core.Path.{subst₂}
 use Rattle.serde_json.specs.Data.{Data, array, Members, Items}
 use Rattle.olk_spec.specs.Names.{Name, Path, ◌//◌, put_if}
 use Rattle.olk_spec.specs.Vocabulary.{one_of}
-use Rattle.olk_spec.specs.Faults.{Context, context, OneOfNotValid, OneOfMultipleValid, IsLikeContext, like, like_not_valid, like_multiple, ◌∼◌, like_empty, like_next}
+use Rattle.olk_spec.specs.Faults.{Fault, Context, context, OneOfNotValid, OneOfMultipleValid, IsLikeContext, like, like_not_valid, like_multiple, ◌∼◌, like_empty, like_next}
 use Rattle.olk_spec.specs.Schemas.{numbered, is_array}
 use mathlib.Core.Bool.{true≢false}
 use Rattle.olk_spec.specs.Malformed.{items_list, items_of_array}
 use Rattle.olk_spec.specs.Meaning.{accepts}
 use Rattle.olk_spec.specs.Reports.{fault_if}
-use Rattle.olk_spec.specs.Tree.{result}
+use Rattle.olk_spec.specs.Tree.{Tree, result}
 use Rattle.olk_spec.proofs.Order.{∼_append}
 use Rattle.olk_base.specs.Kit.{Kit}
 use Rattle.olk_tree.specs.Questions.{some}
@@ -27,7 +27,7 @@ use Rattle.olk_meaning.proofs.OneOf as fact
 use Rattle.olk_make.specs.Forms.{IsFormOfOneOf}
 use Rattle.olk_make.specs.Holding.{StandEach}
 use Rattle.olk_make.specs.Making.{KeywordMeans}
-use Rattle.olk_make.proofs.Held.{fault_like, question, shown, found, found_in, at_value, accepts_value, any_ask, any_context, branches_show, accepting_show, one, same_within, at_most_through}
+use Rattle.olk_make.proofs.Held.{Answered, fault_like, question, shown, found, found_in, at_value, accepts_value, any_ask, any_context, branches_show, accepting_show, one, same_within, at_most_through}
 use Rattle.olk_make.proofs.Formed.{just_one_formed, stand_formed, one_of_formed}
 
 -- one branch is counted where it accepts
@@ -60,47 +60,44 @@ module _ {K R N : Type 0} (o : Kit K R) (answers : N → Answers) where
     abbrev accepting : List N → ℕ
     accepting xs = count_by (accepts_value o answers u v) xs
 
-    form_accepts : (k : KeywordOver K R N) → IsFormOfOneOf L ns k → (question o answers k v).accepts u ≡ (accepting ns == 1)
-    unfolding answers_of
-    form_accepts (keyword.OneOf k) f = ap (λ xs. accepting xs == 1) f.0
-    form_accepts (keyword.SingleOneOf k) f = sym (one_counted (accepts_value o answers u v k.node)) ∙ ap (λ xs. accepting xs == 1) (sym f.0)
-    form_accepts k f = absurd f
+    abbrev one_faults : List N → Path → Path → List Fault
+    one_faults xs M Q = one_of_report (accepting xs) (found_in o answers u v Q xs) v M Q
 
-    form_asks : (k : KeywordOver K R N) → IsFormOfOneOf L ns k → (question o answers k v).asks u ≤ (some (at_value o answers u v) ns).asks u
-    unfolding answers_of
-    form_asks (keyword.OneOf k) f = let e = ap (λ xs. (some (at_value o answers u v) xs).asks u) f.0 in omega (arith, e)
-    form_asks (keyword.SingleOneOf k) f = let e = ap (λ xs. (some (at_value o answers u v) xs).asks u) f.0 in omega (arith, e)
-    form_asks k f = absurd f
+    abbrev one_tree : List N → Path → Path → Tree
+    one_tree xs M Q = one_of_tree (λ n. (answers n).tree u) v Q (accepts_value o answers u v) M xs
 
-    form_finds : (Q : Path) (k : KeywordOver K R N) → IsFormOfOneOf L ns k → found o answers u k v Q ≡ one_of_report (accepting ns) (found_in o answers u v Q ns) v L Q
+    one_form : (k : KeywordOver K R N) → IsFormOfOneOf L ns k
+        → Answered o answers k u v (accepting ns == 1) ((some (at_value o answers u v) ns).asks u) (one_faults ns L) (one_tree ns L)
     unfolding answers_of
-    form_finds Q (keyword.OneOf k) f = λ i. one_of_report (accepting (f.0 i)) (found_in o answers u v Q (f.0 i)) v (f.2 i) Q
-    form_finds Q (keyword.SingleOneOf k) f =
-        one_reported (accepts_value o answers u v k.node) (found_in o answers u v Q (k.node ∷ [])) v k.location Q
-        ∙ (λ i. one_of_report (accepting (sym f.0 i)) (found_in o answers u v Q (sym f.0 i)) v (f.1 i) Q)
-    form_finds Q k f = absurd f
-
-    form_shows : (Q : Path) (k : KeywordOver K R N) → IsFormOfOneOf L ns k → shown o answers u k v Q ≡ one_of_tree (λ n. (answers n).tree u) v Q (accepts_value o answers u v) L ns
-    unfolding answers_of
-    form_shows Q (keyword.OneOf k) f = λ i. one_of_tree (λ n. (answers n).tree u) v Q (accepts_value o answers u v) (f.2 i) (f.0 i)
-    form_shows Q (keyword.SingleOneOf k) f = λ i. one_of_tree (λ n. (answers n).tree u) v Q (accepts_value o answers u v) (f.1 i) (sym f.0 i)
-    form_shows Q k f = absurd f
+    one_form (keyword.OneOf k) f = record {
+      verdict = ap (λ xs. accepting xs == 1) f.0;
+      asks_within = let e = ap (λ xs. (some (at_value o answers u v) xs).asks u) f.0 in omega (arith, e);
+      faults = λ Q. λ i. one_faults (f.0 i) (f.2 i) Q;
+      evaluation = λ Q. λ i. one_tree (f.0 i) (f.2 i) Q;
+    }
+    one_form (keyword.SingleOneOf k) f = record {
+      verdict = sym (one_counted (accepts_value o answers u v k.node)) ∙ ap (λ xs. accepting xs == 1) (sym f.0);
+      asks_within = let e = ap (λ xs. (some (at_value o answers u v) xs).asks u) f.0 in omega (arith, e);
+      faults = λ Q. one_reported (accepts_value o answers u v k.node) (found_in o answers u v Q (k.node ∷ [])) v k.location Q ∙ (λ i. one_faults (sym f.0 i) (f.1 i) Q);
+      evaluation = λ Q. λ i. one_tree (sym f.0 i) (f.1 i) Q;
+    }
+    one_form k f = absurd f
 
   pub means_one_of : (k : KeywordOver K R N) (ns : List N) (L : Path) (d : Data) → is_array d ≡ true → IsFormOfOneOf L ns k
       → StandEach o answers ns (numbered (items_of_array d)) L → (ms : Members) (P : Path) → L ≡ P // codes "oneOf" → KeywordMeans o answers ms (k ∷ []) (codes "oneOf", d) P
   means_one_of k ns L (array ds) is form stand ms P p = record {
     holds = one o answers ms k (codes "oneOf", array ds) one_of P
-        (λ u v. form_accepts L ns u v k form ∙ ap (λ n. n == 1) (counted u v _ _ _ stand) ∙ sym (fact.one_of_accepts o.world u v ms ds))
-        (λ u v. same_within _ _ _ (at_most_through o answers _ _ _ (form_asks L ns u v k form) (any_ask o answers u v _ _ _ stand)) (fact.one_of_asks o.world u v ms ds))
+        (λ u v. (one_form L ns u v k form).verdict ∙ ap (λ n. n == 1) (counted u v _ _ _ stand) ∙ sym (fact.one_of_accepts o.world u v ms ds))
+        (λ u v. same_within _ _ _ (at_most_through o answers _ _ _ (one_form L ns u v k form).asks_within (any_ask o answers u v _ _ _ stand)) (fact.one_of_asks o.world u v ms ds))
         (λ u v Q.
         let context = any_context o answers u v _ Q _ _ stand in
         let count = fact.accepting_count o.world u v (numbered (items_list ds)) in
         subst₂ (λ x y. x ∼ y)
-        (sym (form_finds L ns u v Q k form ∙ ap (λ n. one_of_report n (found_in o answers u v Q ns) v L Q) (counted u v _ _ _ stand)))
+        (sym ((one_form L ns u v k form).faults Q ∙ ap (λ n. one_of_report n (found_in o answers u v Q ns) v L Q) (counted u v _ _ _ stand)))
         (ap (λ M. fact.one_of_faults o.world u v count M Q (numbered (items_list ds))) p ∙ sym (fact.one_of_report o.world u v ms ds P Q))
         (∼_append (fault_like (count == 0) v L Q (like_not_valid context)) (fault_like (nat_lt 1 count) v L Q (like_multiple context))));
     shows = λ u h v Q.
-        ap (λ t. t ∷ []) (form_shows L ns u v Q k form ∙ one_show u v Q _ _ _ stand
+        ap (λ t. t ∷ []) ((one_form L ns u v k form).evaluation Q ∙ one_show u v Q _ _ _ stand
         ∙ ap (λ M. fact.one_shown o.world u v (fact.accepting_count o.world u v (numbered (items_list ds))) M Q (numbered (items_list ds))) p)
         ∙ sym (fact.one_of_child o.world u v ms ds P Q);
     formed = just_one_formed o answers k (one_of_formed o answers k L ns form (stand_formed o answers _ _ _ stand));

@@ -44,7 +44,7 @@ use Rattle.olk_make.specs.Holding.{StandEach}
 use Rattle.olk_make.specs.Forms.{IsFormOfPatternProperties, IsPatternProperties}
 use Rattle.olk_make.specs.Standing.{EntriesStand}
 use Rattle.olk_make.specs.Making.{KeywordMeans, MakesMember}
-use Rattle.olk_make.proofs.Held.{question, shown, found, one_if_free}
+use Rattle.olk_make.proofs.Held.{Answered, question, shown, found, one_if_free}
 use Rattle.olk_make.proofs.Formed.{just_one_formed, entry_formed, patterns_formed}
 
 -- ---- patterns and nodes side by side
@@ -187,35 +187,28 @@ module _ {K R N : Type 0} (o : Kit K R) (answers : N → Answers) where
   -- ---- the keyword, in either form
 
   module _ (L : Path) (es : List Entry) (u : Bool) (v : Data) where
+    abbrev all_faults : List Entry → Path → List Fault
+    all_faults l Q = patterns_report o.answers (λ n. (answers n).report) u l v Q
+
+    abbrev all_tree : List Entry → Path → Path → Tree
+    all_tree l M Q = patterns_tree (λ n. (answers n).tree u) v Q o.answers u M l
+
     of_patterns : (k : KeywordOver K R N) → IsFormOfPatternProperties L es k
-        → ((question o answers k v).accepts u ≡ (all_mean v es).accepts u)
-        × ((question o answers k v).asks u ≤ (all_mean v es).asks u)
+        → Answered o answers k u v ((all_mean v es).accepts u) ((all_mean v es).asks u) (all_faults es) (all_tree es L)
     unfolding answers_of
-    of_patterns (keyword.PatternProperties p) f = (
-      ap (λ l. (all_mean v l).accepts u) f.0,
-      let q = ap (λ l. (all_mean v l).asks u) f.0 in omega (arith, q),
-    )
-    of_patterns (keyword.SingleValuePatternProperties p) f = (
-      sym (ap (λ l. (all_mean v l).accepts u) f.0 ∙ alone ((matched_mean o.answers o.costs (λ n. (answers n).means) p.value.regex p.value.node v).accepts u)),
-      let q = ap (λ l. (all_mean v l).asks u) f.0 in omega (arith, q),
-    )
-      where
-        alone : (b : Bool) → (b && true) ≡ b
-        alone true = refl
-        alone false = refl
+    of_patterns (keyword.PatternProperties p) f = record {
+      verdict = ap (λ l. (all_mean v l).accepts u) f.0;
+      asks_within = let q = ap (λ l. (all_mean v l).asks u) f.0 in omega (arith, q);
+      faults = λ Q. ap (λ l. all_faults l Q) f.0;
+      evaluation = λ Q. λ i. all_tree (f.0 i) (f.2 i) Q;
+    }
+    of_patterns (keyword.SingleValuePatternProperties p) f = record {
+      verdict = sym (ap (λ l. (all_mean v l).accepts u) f.0 ∙ and-true ((matched_mean o.answers o.costs (λ n. (answers n).means) p.value.regex p.value.node v).accepts u));
+      asks_within = let q = ap (λ l. (all_mean v l).asks u) f.0 in omega (arith, q);
+      faults = λ Q. sym (ap (λ l. all_faults l Q) f.0 ∙ append-nil _);
+      evaluation = λ Q. λ i. all_tree (sym f.0 i) (f.1 i) Q;
+    }
     of_patterns x f = absurd f
-
-    form_finds : (Q : Path) (k : KeywordOver K R N) → IsFormOfPatternProperties L es k → found o answers u k v Q ≡ patterns_report o.answers (λ n. (answers n).report) u es v Q
-    unfolding answers_of
-    form_finds Q (keyword.PatternProperties p) f = ap (λ l. patterns_report o.answers (λ n. (answers n).report) u l v Q) f.0
-    form_finds Q (keyword.SingleValuePatternProperties p) f = sym (ap (λ l. patterns_report o.answers (λ n. (answers n).report) u l v Q) f.0 ∙ append-nil _)
-    form_finds Q x f = absurd f
-
-    form_shows : (Q : Path) (k : KeywordOver K R N) → IsFormOfPatternProperties L es k → shown o answers u k v Q ≡ patterns_tree (λ n. (answers n).tree u) v Q o.answers u L es
-    unfolding answers_of
-    form_shows Q (keyword.PatternProperties p) f = λ i. patterns_tree (λ n. (answers n).tree u) v Q o.answers u (f.2 i) (f.0 i)
-    form_shows Q (keyword.SingleValuePatternProperties p) f = λ i. patterns_tree (λ n. (answers n).tree u) v Q o.answers u (f.1 i) (sym f.0 i)
-    form_shows Q x f = absurd f
 
   entries_formed : (es : List Entry) (ds : Rows) (L : Path) → EntriesStand o answers es ds L → list_all (entry_formed o answers) es ≡ true
   entries_formed [] [] L h = refl
@@ -229,13 +222,13 @@ module _ {K R N : Type 0} (o : Kit K R) (answers : N → Answers) where
     means_patterns : (ms : Members) (P : Path) → L ≡ P // codes "patternProperties" → KeywordMeans o answers ms (k ∷ []) (codes "patternProperties", d) P
     means_patterns ms P p = record {
       holds = one_if_free o answers ms k (codes "patternProperties", d) pattern_properties P
-          (λ u v. (of_patterns L es u v k form).0 ∙ patterns_accept L u v es (members d) stand ∙ sym (fact.pattern_properties_accepts o.world ms d u v))
-          (λ free u v. let f = (of_patterns L es u v k form).1 in let a = patterns_ask L u v es (members d) stand in
+          (λ u v. (of_patterns L es u v k form).verdict ∙ patterns_accept L u v es (members d) stand ∙ sym (fact.pattern_properties_accepts o.world ms d u v))
+          (λ free u v. let f = (of_patterns L es u v k form).asks_within in let a = patterns_ask L u v es (members d) stand in
           let t = fact.pattern_properties_asks o.world ms d u v (restricted_read (meaning_step o.world u) ms ∙ unrestricted ms free) in omega (arith, f, a, t))
-          (λ u v Q. like_through (∼_same (form_finds L es u v Q k form)) (subst (λ fs. patterns_report o.answers (λ n. (answers n).report) u es v Q ∼ fs)
+          (λ u v Q. like_through (∼_same ((of_patterns L es u v k form).faults Q)) (subst (λ fs. patterns_report o.answers (λ n. (answers n).report) u es v Q ∼ fs)
           (ap (λ M. flat_map (entry_report u v M Q) (members d)) p ∙ sym (fact.pattern_properties_report o.world ms d u v P Q)) (patterns_find L u v Q es (members d) stand)));
       shows = λ u alone v Q. ap (λ t. t ∷ []) (
-          form_shows L es u v Q k form
+          (of_patterns L es u v k form).evaluation Q
           ∙ (λ i. result L Q (cond (is_object v) (Some (patterns_name L u v Q es (members d) stand i)) None) false [] (patterns_show L u v Q es (members d) stand i))
           ∙ ap (λ M. result M Q (cond (is_object v) (Some (flat_map (entry_names u v) (members d))) None) false [] (flat_map (entry_trees u v M Q) (members d))) p)
           ∙ sym (fact.pattern_properties_child o.world ms d u v alone P Q);

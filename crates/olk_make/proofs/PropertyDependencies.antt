@@ -136,44 +136,44 @@ module _ {K R N : Type 0} (o : Kit K R) (answers : N → Answers) where
     abbrev chosen_of : List (SmallMap N) → Rows → List N
     chosen_of maps es = chosen_nodes (zip (keys_in es) maps) v
 
-    module _ (u : Bool) where
-      choices_accept : (maps : List (SmallMap N)) (es : Rows) (L : Path) → MapsAnswer maps es L
+    module _ (u : Bool) (L : Path) where
+      choices_accept : (maps : List (SmallMap N)) (es : Rows) → MapsAnswer maps es L
           → (every (λ n. (answers n).means v) (chosen_of maps es)).accepts u ≡ list_all (λ e. list_all (λ c. accepts o.world u c.1 v) (chosen v e)) es
-      choices_accept [] [] L h = refl
-      choices_accept (m ∷ maps) (e ∷ es) L h =
+      choices_accept [] [] h = refl
+      choices_accept (m ∷ maps) (e ∷ es) h =
           ap (λ q. q.accepts u) (every-append (λ n. (answers n).means v) (flat_map (chosen_at m) (at e.0 v)) (chosen_of maps es))
           ∙ (λ i. each_accept o answers _ u v _ _ _ (chosen_answer m e L h.0) i
-          && choices_accept maps es L h.1 i)
-      choices_accept _ _ L h = absurd h
+          && choices_accept maps es h.1 i)
+      choices_accept _ _ h = absurd h
 
-      choices_ask : (maps : List (SmallMap N)) (es : Rows) (L : Path) → MapsAnswer maps es L
+      choices_ask : (maps : List (SmallMap N)) (es : Rows) → MapsAnswer maps es L
           → (every (λ n. (answers n).means v) (chosen_of maps es)).asks u ≤ sum_by (λ e. sum_by (λ c. asks o.world u c.1 v) (chosen v e)) es
-      choices_ask [] [] L h = omega arith
-      choices_ask (m ∷ maps) (e ∷ es) L h =
+      choices_ask [] [] h = omega arith
+      choices_ask (m ∷ maps) (e ∷ es) h =
           subst (λ q. q.asks u ≤ sum_by (λ e. sum_by (λ c. asks o.world u c.1 v) (chosen v e)) (e ∷ es))
           (sym (every-append (λ n. (answers n).means v) (flat_map (chosen_at m) (at e.0 v)) (chosen_of maps es)))
           (more_within _ _ _ _ _ (each_ask o answers _ u v _ _ _ (chosen_answer m e L h.0))
-          (choices_ask maps es L h.1) (sum_by-cons _ e es))
-      choices_ask _ _ L h = absurd h
+          (choices_ask maps es h.1) (sum_by-cons _ e es))
+      choices_ask _ _ h = absurd h
 
       module _ (Q : Path) where
-        choices_find : (maps : List (SmallMap N)) (es : Rows) (L : Path) → MapsAnswer maps es L → flat_map (λ n. (answers n).report u v Q)
+        choices_find : (maps : List (SmallMap N)) (es : Rows) → MapsAnswer maps es L → flat_map (λ n. (answers n).report u v Q)
             (chosen_of maps es) ∼ flat_map (λ e. flat_map (λ c. report o.world u c.1 v (L // e.0 // c.0) Q) (chosen v e)) es
-        choices_find [] [] L h = like_empty
-        choices_find (m ∷ maps) (e ∷ es) L h =
+        choices_find [] [] h = like_empty
+        choices_find (m ∷ maps) (e ∷ es) h =
             subst (λ fs. fs ∼ flat_map (λ e. flat_map (λ c. report o.world u c.1 v (L // e.0 // c.0) Q) (chosen v e)) (e ∷ es))
             (sym (flat_map-append (λ n. (answers n).report u v Q) (flat_map (chosen_at m) (at e.0 v)) (chosen_of maps es)))
             (∼_append (each_find o answers _ u v _ Q _ _ (chosen_answer m e L h.0))
-            (choices_find maps es L h.1))
-        choices_find _ _ L h = absurd h
+            (choices_find maps es h.1))
+        choices_find _ _ h = absurd h
 
-        choices_show : (maps : List (SmallMap N)) (es : Rows) (L : Path) → MapsAnswer maps es L → map (λ n. (answers n).tree u v Q)
+        choices_show : (maps : List (SmallMap N)) (es : Rows) → MapsAnswer maps es L → map (λ n. (answers n).tree u v Q)
             (chosen_of maps es) ≡ flat_map (λ e. map (λ c. tree o.world u c.1 v (L // e.0 // c.0) Q) (chosen v e)) es
-        choices_show [] [] L h = refl
-        choices_show (m ∷ maps) (e ∷ es) L h = map-append (λ n. (answers n).tree u v Q) (flat_map (chosen_at m) (at e.0 v)) (chosen_of maps es)
+        choices_show [] [] h = refl
+        choices_show (m ∷ maps) (e ∷ es) h = map-append (λ n. (answers n).tree u v Q) (flat_map (chosen_at m) (at e.0 v)) (chosen_of maps es)
             ∙ (λ i. each_show o answers _ u v _ Q _ _ (chosen_answer m e L h.0) i
-            ++ choices_show maps es L h.1 i)
-        choices_show _ _ L h = absurd h
+            ++ choices_show maps es h.1 i)
+        choices_show _ _ h = absurd h
 
   -- ---- the validator
 
@@ -195,15 +195,15 @@ module _ {K R N : Type 0} (o : Kit K R) (answers : N → Answers) where
     unfolding answers_of
     means_property_dependencies ms P p = record {
       holds = one o answers ms (choices_of m L) (codes "propertyDependencies", d) property_dependencies P
-          (λ u v. ap (λ ds. (every (λ n. (answers n).means v) (chosen_nodes ds v)).accepts u) held ∙ choices_accept v u maps (members d) L stand
+          (λ u v. ap (λ ds. (every (λ n. (answers n).means v) (chosen_nodes ds v)).accepts u) held ∙ choices_accept v u L maps (members d) stand
           ∙ sym (fact.property_dependencies_accepts o.world ms d u v))
           (λ u v. subst₂ (λ ds k. (every (λ n. (answers n).means v) (chosen_nodes ds v)).asks u ≤ k) (sym held) (sym (fact.property_dependencies_asks o.world ms d u v))
-          (choices_ask v u maps (members d) L stand))
+          (choices_ask v u L maps (members d) stand))
           (λ u v Q. subst₂ (λ ds fs. flat_map (λ n. (answers n).report u v Q) (chosen_nodes ds v) ∼ fs) (sym held)
           (ap (λ M. flat_map (λ e. flat_map (λ c. report o.world u c.1 v (M // e.0 // c.0) Q) (chosen v e)) (members d)) p
-          ∙ sym (fact.property_dependencies_report o.world ms d u v P Q)) (choices_find v u Q maps (members d) L stand));
+          ∙ sym (fact.property_dependencies_report o.world ms d u v P Q)) (choices_find v u L Q maps (members d) stand));
       shows = λ u h v Q. ap (λ t. t ∷ [])
-          (ap (λ ds. plain L Q (map (λ n. (answers n).tree u v Q) (chosen_nodes ds v))) held ∙ ap (plain L Q) (choices_show v u Q maps (members d) L stand)
+          (ap (λ ds. plain L Q (map (λ n. (answers n).tree u v Q) (chosen_nodes ds v))) held ∙ ap (plain L Q) (choices_show v u L Q maps (members d) stand)
           ∙ ap (λ M. plain M Q (flat_map (λ e. map (λ c. tree o.world u c.1 v (M // e.0 // c.0) Q) (chosen v e)) (members d))) p)
           ∙ sym (fact.property_dependencies_child o.world ms d u v P Q);
       formed = just_one_formed o answers (choices_of m L) (ap (list_all (λ m. list_all (has_form o answers) (nodes_in (named m)))) held_maps ∙ maps_formed maps (members d) L stand);

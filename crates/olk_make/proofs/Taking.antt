@@ -52,6 +52,14 @@ last_is_found ms distinct k = last_of_named k (listed ms) None ∙ ap (λ l. las
     by None = refl
     by (Some d) = ap (λ b. cond b (Some d) None) (bytes_eq-itself k)
 
+module _ {X : Type 0} (Stands : X → Data → Type 0) where
+  nothing_fills : {x : Option X} → x ≡ None → Fills Stands x None
+  nothing_fills e = subst (λ x. Fills Stands x None) (sym e) tt
+
+  fills_found : (x : Option X) (ms : Members) → has_repeat (names_of (listed ms)) ≡ false → (k : Name) → Fills Stands x (last_named k (listed ms) None)
+      → Fills Stands x (lookup_name k (listed ms))
+  fills_found x ms distinct k = subst (Fills Stands x) (last_is_found ms distinct k)
+
 -- ---- the names whose parts are taken
 
 -- a test tells two names apart
@@ -262,10 +270,10 @@ module _ {K R N : Type 0} (o : Kit K R) (answers : N → Answers) where
         left = es;
         taken = record {
           left = subst (λ l. PartsStand o answers c l [] P) (sym e) tt;
-          at_then = λ read. subst (λ x. Fills (λ n d. Stands o answers n d (P // codes "then")) x None) (sym no_then) tt;
-          at_else = λ read. subst (λ x. Fills (λ n d. Stands o answers n d (P // codes "else")) x None) (sym no_else) tt;
-          at_properties = λ restricted. subst (λ x. Fills (λ y. DeclaredStand o answers y (P // codes "properties")) x None) (sym no_properties) tt;
-          at_patterns = λ restricted. subst (λ x. Fills (λ y. PatternsStand o answers c y (P // codes "patternProperties")) x None) (sym no_patterns) tt;
+          at_then = λ read. nothing_fills _ no_then;
+          at_else = λ read. nothing_fills _ no_else;
+          at_properties = λ restricted. nothing_fills _ no_properties;
+          at_patterns = λ restricted. nothing_fills _ no_patterns;
         };
         stand = h;
         whole = refl;
@@ -299,13 +307,12 @@ module _ {K R N : Type 0} (o : Kit K R) (answers : N → Answers) where
       (h : AreTaken o answers (plan_of ms) (known_of ms) (listed ms) P t ps) where
     pub cases_stand : is_condition ms ≡ true → CasesStand o answers t.cases ms P
     cases_stand read = (
-      subst (λ d. Fills (λ n x. Stands o answers n x (P // codes "then")) t.cases.then_schema d) (last_is_found ms distinct (codes "then")) (h.at_then read),
-      subst (λ d. Fills (λ n x. Stands o answers n x (P // codes "else")) t.cases.else_schema d) (last_is_found ms distinct (codes "else")) (h.at_else read),
+      fills_found _ _ ms distinct (codes "then") (h.at_then read),
+      fills_found _ _ ms distinct (codes "else") (h.at_else read),
     )
 
     pub beside_stands : is_restricted ms ≡ true → BesideStands o answers (known_of ms) t.beside ms P
     beside_stands restricted = (
-      subst (λ d. Fills (λ x. DeclaredStand o answers x (P // codes "properties")) t.beside.properties d) (last_is_found ms distinct (codes "properties")) (h.at_properties restricted),
-      subst (λ d. Fills (λ x. PatternsStand o answers (known_of ms) x (P // codes "patternProperties")) t.beside.patterns d)
-          (last_is_found ms distinct (codes "patternProperties")) (h.at_patterns restricted),
+      fills_found _ _ ms distinct (codes "properties") (h.at_properties restricted),
+      fills_found _ _ ms distinct (codes "patternProperties") (h.at_patterns restricted),
     )
