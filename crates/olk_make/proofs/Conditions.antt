@@ -41,7 +41,8 @@ use Rattle.olk_read.specs.declared.shape.ReadPlaces.TheVariants.{Itself}
 use Rattle.olk_make.specs.declared.part.Cases.{Cases}
 use Rattle.olk_make.specs.declared.part.Taken.{Taken}
 use Rattle.olk_make.proofs.Held.{question, shown, found}
-use Rattle.olk_make.proofs.Together.{means_permuted, means_nothing}
+use Rattle.olk_make.proofs.Together.{MeanClaim, claim_by_name, means_permuted, means_nothing}
+use Rattle.olk_make.proofs.Entries.{Rows, last_stands}
 use Rattle.olk_make.proofs.Formed.{just_one_formed, case_formed, if_formed}
 
 pub form_is_if : {K R N : Type 0} (L : Path) (n : N) (t e : Option N) (k : KeywordOver K R N) → IsFormOfIf L n t e k → IsIf L (is_some t) (is_some e) k
@@ -143,53 +144,6 @@ module _ {K R N : Type 0} (o : Kit K R) (answers : N → Answers) where
     shown_where true (Some d) L Q = refl
     shown_where false (Some d) L Q = refl
 
-  -- ---- the rows of the members that are there
-
-  abbrev rows : Name → Option Data → List (Name × Data)
-  rows k a = map (λ d. (k, d)) (option_to_list a)
-
-  same_either : {X : Type 0} (b : Bool) (x : X) → x ≡ cond b x x
-  same_either true x = refl
-  same_either false x = refl
-
-  module _ (ms : Members) (d : Data) (there : lookup_name (codes "if") (listed ms) ≡ Some d) (u : Bool) (v : Data) where
-    abbrev tested : Bool
-    tested = accepts o.world u d v
-
-    abbrev row_accepts : Name × Data → Bool
-    row_accepts m = member_accepts o.world ms m (which o ms m) u v
-
-    abbrev row_asks : Name × Data → ℕ
-    row_asks m = member_asks o.world ms m (which o ms m) u v
-
-    then_accepts : (a : Option Data) → list_all row_accepts (rows (codes "then") a) ≡ cond tested (case_verdict u v a) true
-    then_accepts None = same_either tested true
-    then_accepts (Some e) = and-true _ ∙ fact.then_accepts_beside o.world ms u v d there e
-
-    else_accepts : (a : Option Data) → list_all row_accepts (rows (codes "else") a) ≡ cond (not tested) (case_verdict u v a) true
-    else_accepts None = same_either (not tested) true
-    else_accepts (Some e) = and-true _ ∙ fact.else_accepts_beside o.world ms u v d there e
-
-    then_asks : (a : Option Data) → sum_by row_asks (rows (codes "then") a) ≡ cond tested (case_asked u v a) 0
-    then_asks None = same_either tested 0
-    then_asks (Some e) = let f = fact.then_asks_beside o.world ms u v d there e in let s = sum_by-cons row_asks (codes "then", e) [] in omega (arith, f, s)
-
-    else_asks : (a : Option Data) → sum_by row_asks (rows (codes "else") a) ≡ cond (not tested) (case_asked u v a) 0
-    else_asks None = same_either (not tested) 0
-    else_asks (Some e) = let f = fact.else_asks_beside o.world ms u v d there e in let s = sum_by-cons row_asks (codes "else", e) [] in omega (arith, f, s)
-
-    module _ (P Q : Path) where
-      abbrev row_report : Name × Data → List Fault
-      row_report m = member_report o.world ms m (which o ms m) u v P Q
-
-      then_report : (a : Option Data) → flat_map row_report (rows (codes "then") a) ≡ cond tested (case_report u v a (P // codes "then") Q) []
-      then_report None = same_either tested []
-      then_report (Some e) = append-nil _ ∙ fact.then_report_beside o.world ms u v d there e P Q
-
-      else_report : (a : Option Data) → flat_map row_report (rows (codes "else") a) ≡ cond (not tested) (case_report u v a (P // codes "else") Q) []
-      else_report None = same_either (not tested) []
-      else_report (Some e) = append-nil _ ∙ fact.else_report_beside o.world ms u v d there e P Q
-
   -- ---- one of two, as what the test chooses
 
   one_verdict : (c x y : Bool) → cond c x y ≡ (cond c x true && cond (not c) y true)
@@ -208,70 +162,117 @@ module _ {K R N : Type 0} (o : Kit K R) (answers : N → Answers) where
   one_shown true t x y = sym (append-nil (t ∷ x))
   one_shown false t x y = refl
 
-  -- ---- all three
+  -- ---- the rows of the members that are there
 
-  module _ (ms : Members) (P : Path) (distinct : has_repeat (names_of (listed ms)) ≡ false) (d : Data) (there : lookup_name (codes "if") (listed ms) ≡ Some d)
-      (read_here : is_condition ms ≡ true) where
-    abbrev at_then : Option Data
-    at_then = lookup_name (codes "then") (listed ms)
+  abbrev rows : Name → Option Data → Rows
+  rows k a = map (λ d. (k, d)) (option_to_list a)
 
-    abbrev at_else : Option Data
-    at_else = lookup_name (codes "else") (listed ms)
+  same_either : {X : Type 0} (b : Bool) (x : X) → x ≡ cond b x x
+  same_either true x = refl
+  same_either false x = refl
 
-    abbrev three : List (Name × Data)
-    three = (codes "if", d) ∷ rows (codes "then") at_then ++ rows (codes "else") at_else
+  module _ (ms : Members) (d : Data) (there : lookup_name (codes "if") (listed ms) ≡ Some d) where
+    module _ (u : Bool) (v : Data) where
+      abbrev tested : Bool
+      tested = accepts o.world u d v
 
-    module _ (L : Path) (n : N) (t e : Option N) (k : KeywordOver K R N) (place : L ≡ P // codes "if") (form : IsFormOfIf L n t e k) (stands : Stands o answers n d L)
-        (then_stands : Fills (Case (P // codes "then")) t at_then) (else_stands : Fills (Case (P // codes "else")) e at_else) where
-      mean_together : Covers o answers ms (k ∷ []) three P
-      mean_together = record {
-        verdict = λ u v. and-true _ ∙ ap (λ q. q.accepts u) (form_means L n t e k form v)
-            ∙ (λ i. cond (stands.verdict u v i) (case_accepts u v t at_then (P // codes "then") then_stands i) (case_accepts u v e at_else (P // codes "else") else_stands i))
-            ∙ one_verdict (tested ms d there u v) (case_verdict u v at_then) (case_verdict u v at_else)
-            ∙ (λ i. sym (then_accepts ms d there u v at_then) i && sym (else_accepts ms d there u v at_else) i)
-            ∙ sym (list_all-append (row_accepts ms d there u v) (rows (codes "then") at_then) (rows (codes "else") at_else));
-        asks_within = λ u v.
-            let q = ap (λ q. q.asks u) (form_means L n t e k form v) ∙ ap (λ b. ((answers n).means v).asks u + cond b ((case_question t v).asks u) ((case_question e v).asks u)) (stands.verdict u v) in
-            let w = one_asked (tested ms d there u v) (((answers n).means v).asks u) ((case_question t v).asks u) ((case_question e v).asks u) (asks o.world u d v) (case_asked u v at_then) (case_asked u v at_else) (stands.asks_within u v) (case_asks u v t at_then (P // codes "then") then_stands) (case_asks u v e at_else (P // codes "else") else_stands) in
-            let s = sum_by-cons (row_asks ms d there u v) (codes "if", d) (rows (codes "then") at_then ++ rows (codes "else") at_else) in
-            let r = sum_by-append (row_asks ms d there u v) (rows (codes "then") at_then) (rows (codes "else") at_else) in
-            let i = fact.if_asks_beside o.world ms u v d there read_here in
-            let x = then_asks ms d there u v at_then in
-            let y = else_asks ms d there u v at_else in
-            omega (arith, q, w, s, r, i, x, y);
-        faults = λ u v Q. subst₂ (λ l r. l ∼ r)
-            (ap (λ l. l ++ []) (sym (form_finds L n t e k form u v Q ∙ ap (λ b. cond b (case_found u t v Q) (case_found u e v Q)) (stands.verdict u v))))
-            ((λ i. sym (then_report ms d there u v P Q at_then) i ++ sym (else_report ms d there u v P Q at_else) i)
-            ∙ sym (flat_map-append (row_report ms d there u v P Q) (rows (codes "then") at_then) (rows (codes "else") at_else)))
-            (one_found (tested ms d there u v) _ _ _ _ (case_finds u v t at_then (P // codes "then") Q then_stands) (case_finds u v e at_else (P // codes "else") Q else_stands));
-      }
+      abbrev row_accepts : Name × Data → Bool
+      row_accepts m = member_accepts o.world ms m (which o ms m) u v
 
-      shown_together : (u : Bool) (v : Data) (Q : Path) → shown o answers u k v Q ∷ [] ≡ flat_map (λ m. member_child o.world ms m (which o ms m) u v P Q) ((codes "if", d) ∷ [])
-      shown_together u v Q =
-          ap (λ t. t ∷ []) (form_shows L n t e k form u v Q
-          ∙ (λ i. plain (place i) Q (cond (stands.verdict u v i) (subst_tree u v Q i ∷ case_shows u v t at_then (P // codes "then") Q then_stands i)
-          (case_shows u v e at_else (P // codes "else") Q else_stands i)))
-          ∙ ap (plain (P // codes "if") Q) (one_shown (tested ms d there u v) (tree o.world u d v (P // codes "if") Q) (case_trees u v at_then (P // codes "then") Q)
-          (case_trees u v at_else (P // codes "else") Q)
-          ∙ (λ i. put_if (tested ms d there u v) (tree o.world u d v (P // codes "if") Q) [] ++ sym (shown_where u v (tested ms d there u v) at_then (P // codes "then") Q) i ++ sym (shown_where u v (not (tested ms d there u v)) at_else (P // codes "else") Q) i)))
-          ∙ sym (append-nil _ ∙ fact.if_shows_beside o.world ms u v d read_here P Q)
-        where
-          subst_tree : (u : Bool) (v : Data) (Q : Path) → (answers n).tree u v Q ≡ tree o.world u d v (P // codes "if") Q
-          subst_tree u v Q = stands.evaluation u v Q ∙ ap (λ M. tree o.world u d v M Q) place
+      abbrev row_asks : Name × Data → ℕ
+      row_asks m = member_asks o.world ms m (which o ms m) u v
 
-      -- `if` means itself, `then` and `else`
-      pub means_condition : (p : Planned) → p.condition ≡ true → KeywordsMean o answers ms (k ∷ []) (claims (head p) (listed ms) (codes "if", d)) ((codes "if", d) ∷ []) P
-      means_condition p plans = means_permuted o answers ms P (k ∷ []) three (claims (head p) (listed ms) (codes "if", d)) ((codes "if", d) ∷ [])
-          (subst (λ l. IsPermutation l (claims (head p) (listed ms) (codes "if", d)))
-          (λ i. (codes "if", d) ∷ members_found ms distinct (codes "then") at_then refl i ++ members_found ms distinct (codes "else") at_else refl i)
-          (claims_condition ms distinct p plans d there))
-          (record {
-            covers = mean_together;
-            shows = λ clean u v Q. shown_together u v Q;
-            formed =
-                just_one_formed o answers k (if_formed o answers L n t e k form stands.formed (filled_formed t at_then (P // codes "then") then_stands)
-                (filled_formed e at_else (P // codes "else") else_stands));
-          })
+      then_accepts : (a : Option Data) → list_all row_accepts (rows (codes "then") a) ≡ cond tested (case_verdict u v a) true
+      then_accepts None = same_either tested true
+      then_accepts (Some e) = and-true _ ∙ fact.then_accepts_beside o.world ms u v d there e
+
+      else_accepts : (a : Option Data) → list_all row_accepts (rows (codes "else") a) ≡ cond (not tested) (case_verdict u v a) true
+      else_accepts None = same_either (not tested) true
+      else_accepts (Some e) = and-true _ ∙ fact.else_accepts_beside o.world ms u v d there e
+
+      then_asks : (a : Option Data) → sum_by row_asks (rows (codes "then") a) ≡ cond tested (case_asked u v a) 0
+      then_asks None = same_either tested 0
+      then_asks (Some e) = let f = fact.then_asks_beside o.world ms u v d there e in let s = sum_by-cons row_asks (codes "then", e) [] in omega (arith, f, s)
+
+      else_asks : (a : Option Data) → sum_by row_asks (rows (codes "else") a) ≡ cond (not tested) (case_asked u v a) 0
+      else_asks None = same_either (not tested) 0
+      else_asks (Some e) = let f = fact.else_asks_beside o.world ms u v d there e in let s = sum_by-cons row_asks (codes "else", e) [] in omega (arith, f, s)
+
+      module _ (P Q : Path) where
+        abbrev row_report : Name × Data → List Fault
+        row_report m = member_report o.world ms m (which o ms m) u v P Q
+
+        then_report : (a : Option Data) → flat_map row_report (rows (codes "then") a) ≡ cond tested (case_report u v a (P // codes "then") Q) []
+        then_report None = same_either tested []
+        then_report (Some e) = append-nil _ ∙ fact.then_report_beside o.world ms u v d there e P Q
+
+        else_report : (a : Option Data) → flat_map row_report (rows (codes "else") a) ≡ cond (not tested) (case_report u v a (P // codes "else") Q) []
+        else_report None = same_either (not tested) []
+        else_report (Some e) = append-nil _ ∙ fact.else_report_beside o.world ms u v d there e P Q
+
+    -- ---- all three
+
+    module _ (P : Path) (distinct : has_repeat (names_of (listed ms)) ≡ false) (read_here : is_condition ms ≡ true) where
+      abbrev at_then : Option Data
+      at_then = lookup_name (codes "then") (listed ms)
+
+      abbrev at_else : Option Data
+      at_else = lookup_name (codes "else") (listed ms)
+
+      abbrev three : Rows
+      three = (codes "if", d) ∷ rows (codes "then") at_then ++ rows (codes "else") at_else
+
+      module _ (L : Path) (n : N) (t e : Option N) (k : KeywordOver K R N) (place : L ≡ P // codes "if") (form : IsFormOfIf L n t e k) (stands : Stands o answers n d L)
+          (then_stands : Fills (Case (P // codes "then")) t at_then) (else_stands : Fills (Case (P // codes "else")) e at_else) where
+        mean_together : Covers o answers ms (k ∷ []) three P
+        mean_together = record {
+          verdict = λ u v. and-true _ ∙ ap (λ q. q.accepts u) (form_means L n t e k form v)
+              ∙ (λ i. cond (stands.verdict u v i) (case_accepts u v t _ _ then_stands i) (case_accepts u v e _ _ else_stands i))
+              ∙ one_verdict (tested u v) (case_verdict u v at_then) (case_verdict u v at_else)
+              ∙ (λ i. sym (then_accepts u v at_then) i && sym (else_accepts u v at_else) i)
+              ∙ sym (list_all-append (row_accepts u v) (rows (codes "then") at_then) (rows (codes "else") at_else));
+          asks_within = λ u v.
+              let q = ap (λ q. q.asks u) (form_means L n t e k form v) ∙ ap (λ b. ((answers n).means v).asks u + cond b ((case_question t v).asks u) ((case_question e v).asks u)) (stands.verdict u v) in
+              let w = one_asked (tested u v) (((answers n).means v).asks u) ((case_question t v).asks u) ((case_question e v).asks u) (asks o.world u d v) (case_asked u v at_then) (case_asked u v at_else) (stands.asks_within u v) (case_asks u v t _ _ then_stands) (case_asks u v e _ _ else_stands) in
+              let s = sum_by-cons (row_asks u v) (codes "if", d) (rows (codes "then") at_then ++ rows (codes "else") at_else) in
+              let r = sum_by-append (row_asks u v) (rows (codes "then") at_then) (rows (codes "else") at_else) in
+              let i = fact.if_asks_beside o.world ms u v d there read_here in
+              let x = then_asks u v at_then in
+              let y = else_asks u v at_else in
+              omega (arith, q, w, s, r, i, x, y);
+          faults = λ u v Q. subst₂ (λ l r. l ∼ r)
+              (ap (λ l. l ++ []) (sym (form_finds L n t e k form u v Q ∙ ap (λ b. cond b (case_found u t v Q) (case_found u e v Q)) (stands.verdict u v))))
+              ((λ i. sym (then_report u v P Q at_then) i ++ sym (else_report u v P Q at_else) i)
+              ∙ sym (flat_map-append (row_report u v P Q) (rows (codes "then") at_then) (rows (codes "else") at_else)))
+              (one_found (tested u v) _ _ _ _ (case_finds u v t _ _ Q then_stands) (case_finds u v e _ _ Q else_stands));
+        }
+
+        shown_together : (u : Bool) (v : Data) (Q : Path) → shown o answers u k v Q ∷ [] ≡ flat_map (λ m. member_child o.world ms m (which o ms m) u v P Q) ((codes "if", d) ∷ [])
+        shown_together u v Q =
+            ap (λ t. t ∷ []) (form_shows L n t e k form u v Q
+            ∙ (λ i. plain (place i) Q (cond (stands.verdict u v i) (subst_tree u v Q i ∷ case_shows u v t _ _ Q then_stands i)
+            (case_shows u v e _ _ Q else_stands i)))
+            ∙ ap (plain (P // codes "if") Q) (one_shown (tested u v) (tree o.world u d v (P // codes "if") Q) (case_trees u v at_then (P // codes "then") Q)
+            (case_trees u v at_else (P // codes "else") Q)
+            ∙ (λ i. put_if (tested u v) (tree o.world u d v (P // codes "if") Q) [] ++ sym (shown_where u v (tested u v) at_then (P // codes "then") Q) i ++ sym (shown_where u v (not (tested u v)) at_else (P // codes "else") Q) i)))
+            ∙ sym (append-nil _ ∙ fact.if_shows_beside o.world ms u v d read_here P Q)
+          where
+            subst_tree : (u : Bool) (v : Data) (Q : Path) → (answers n).tree u v Q ≡ tree o.world u d v (P // codes "if") Q
+            subst_tree u v Q = stands.evaluation u v Q ∙ ap (λ M. tree o.world u d v M Q) place
+
+        -- `if` means itself, `then` and `else`
+        pub means_condition : (p : Planned) → p.condition ≡ true → MeanClaim o answers ms p (k ∷ []) (codes "if", d) P
+        means_condition p plans = means_permuted o answers ms P (k ∷ []) three (claims (head p) (listed ms) (codes "if", d)) ((codes "if", d) ∷ [])
+            (subst (λ l. IsPermutation l (claims (head p) (listed ms) (codes "if", d)))
+            (λ i. (codes "if", d) ∷ members_found ms distinct (codes "then") at_then refl i ++ members_found ms distinct (codes "else") at_else refl i)
+            (claims_condition ms distinct p plans d there))
+            (record {
+              covers = mean_together;
+              shows = λ clean u v Q. shown_together u v Q;
+              formed =
+                  just_one_formed o answers k (if_formed o answers L n t e k form stands.formed (filled_formed t _ _ then_stands)
+                  (filled_formed e _ _ else_stands));
+            })
 
   -- ---- what is made of the nodes
 
@@ -281,13 +282,13 @@ module _ {K R N : Type 0} (o : Kit K R) (answers : N → Answers) where
 
   pub makes_condition : (k : KeywordOver K R N) (L : Path) (n : N) (cs : Cases N) → IsFormOfIf L n cs.then_schema cs.else_schema k → MakesCondition o answers L n cs (k ∷ [])
   makes_condition k L n cs form ms d P place stands cases distinct there read_here =
-      means_condition ms P distinct d there read_here L n cs.then_schema cs.else_schema k place form stands cases.0 cases.1 (plan_of ms) read_here
+      means_condition ms d there P distinct read_here L n cs.then_schema cs.else_schema k place form stands cases.0 cases.1 (plan_of ms) read_here
 
   -- where there is neither, `if` is not read
   pub makes_no_condition : (L : Path) (n : N) (cs : Cases N) → cs.then_schema ≡ None → cs.else_schema ≡ None → MakesCondition o answers L n cs []
   makes_no_condition L n cs p q ms d P place stands cases distinct there read_here =
-      let a = none_stands (lookup_name (codes "then") (listed ms)) (P // codes "then") (subst (λ t. Fills (Case (P // codes "then")) t (lookup_name (codes "then") (listed ms))) p cases.0) in
-      let b = none_stands (lookup_name (codes "else") (listed ms)) (P // codes "else") (subst (λ t. Fills (Case (P // codes "else")) t (lookup_name (codes "else") (listed ms))) q cases.1) in
+      let a = none_stands _ (P // codes "then") (subst (λ t. Fills (Case (P // codes "then")) t (lookup_name (codes "then") (listed ms))) p cases.0) in
+      let b = none_stands _ (P // codes "else") (subst (λ t. Fills (Case (P // codes "else")) t (lookup_name (codes "else") (listed ms))) q cases.1) in
       absurd (true≢false (sym read_here ∙ (λ i. is_some (there i) && (is_some (a i) || is_some (b i)))))
 
   pub makes_if : (r : Option (KeywordOver K R N)) (L : Path) (n : N) (cs : Cases N) → IfNone r (cs.then_schema ≡ None) → IfNone r (cs.else_schema ≡ None)
@@ -296,35 +297,28 @@ module _ {K R N : Type 0} (o : Kit K R) (answers : N → Answers) where
   makes_if (Some k) L n cs p q form = makes_condition k L n cs form
 
   -- the part of `if`, whose node this is
-  pub part_of_if : (L : Path) (before ns : List N) (n : N) (t : Taken R N) (P : Path) (p : Planned) (ks : List (KeywordOver K R N)) → ns ≡ before
-      ++ n ∷ [] → MakesCondition o answers L n t.cases ks → MakesPart o answers shape.If L ns t P p ks
-  part_of_if L before ns n t P p ks split make ms m place named fits stand cases beside distinct there chosen untaken =
-      subst (λ q. KeywordsMean o answers ms ks (claims (head q) (listed ms) m) (m ∷ []) P) (sym chosen)
-      (subst (λ k. KeywordsMean o answers ms ks (claims (head (plan_of ms)) (listed ms) (k, m.1)) ((k, m.1) ∷ []) P) (sym named)
-      (make ms m.1 P (place ∙ ap (λ k. P // k) named) (by before (subst (λ l. StandAt o answers Itself l m.1 L) split stand)) (cases refl) distinct (ap (λ k. lookup_name k (listed ms)) (sym named) ∙ there) fits))
-    where
-      by : (before : List N) → StandAt o answers Itself (before ++ n ∷ []) m.1 L → Stands o answers n m.1 L
-      by [] h = h
-      by (x ∷ []) h = absurd h
-      by (x ∷ y ∷ before) h = absurd h
+  pub part_of_if : {L P : Path} {n : N} {ks : List (KeywordOver K R N)} {p : Planned} (before ns : List N) (t : Taken R N) → ns ≡ before ++ n ∷ []
+      → MakesCondition o answers L n t.cases ks → MakesPart o answers shape.If L ns t P p ks
+  part_of_if before ns t split make ms m place named fits stand cases beside distinct there chosen untaken =
+      claim_by_name o answers named chosen place there (λ at_if found. make ms m.1 _ at_if (last_stands o answers before split stand) (cases refl) distinct found fits)
 
-  module _ (L : Path) (ns : List N) (t : Taken R N) (P : Path) (p : Planned) (ks : List (KeywordOver K R N)) where
-    case_is_taken : (ms : Members) (k : Name) → is_case k ≡ true → is_condition ms ≡ true → p ≡ plan_of ms → is_taken p k ≡ false → {X : Type 0} → X
-    case_is_taken ms k case fits chosen untaken =
-        absurd (true≢false (sym ((λ i. (p.restricted && tells_members k) || (ap (λ q. q.condition) chosen ∙ fits) i && case i) ∙ or-true (p.restricted && tells_members k)) ∙ untaken))
+  case_is_taken : (p : Planned) (ms : Members) (k : Name) → is_case k ≡ true → is_condition ms ≡ true → p ≡ plan_of ms → is_taken p k ≡ false → {X : Type 0} → X
+  case_is_taken p ms k case fits chosen untaken =
+      absurd (true≢false (sym ((λ i. (p.restricted && tells_members k) || (ap (λ q. q.condition) chosen ∙ fits) i && case i) ∙ or-true (p.restricted && tells_members k)) ∙ untaken))
 
+  module _ {L P : Path} {ks : List (KeywordOver K R N)} {p : Planned} (ns : List N) (t : Taken R N) where
     -- what `if` takes does not stay
     pub part_of_then : MakesPart o answers shape.Then L ns t P p ks
-    part_of_then ms m place named fits stand cases beside distinct there chosen untaken = case_is_taken ms (codes "then") refl fits chosen (ap (is_taken p) (sym named) ∙ untaken)
+    part_of_then ms m place named fits stand cases beside distinct there chosen untaken = case_is_taken p ms (codes "then") refl fits chosen (ap (is_taken p) (sym named) ∙ untaken)
 
     pub part_of_else : MakesPart o answers shape.Else L ns t P p ks
-    part_of_else ms m place named fits stand cases beside distinct there chosen untaken = case_is_taken ms (codes "else") refl fits chosen (ap (is_taken p) (sym named) ∙ untaken)
+    part_of_else ms m place named fits stand cases beside distinct there chosen untaken = case_is_taken p ms (codes "else") refl fits chosen (ap (is_taken p) (sym named) ∙ untaken)
 
   -- none of the three has a keyword of its own where `if` is not read
-  pub part_of_unpaired : (L : Path) (ns : List N) (t : Taken R N) (P : Path) (p : Planned) → MakesPart o answers shape.Unpaired L ns t P p []
-  part_of_unpaired L ns t P p ms m place named fits stand cases beside distinct there chosen untaken =
+  pub part_of_unpaired : {L P : Path} {p : Planned} (ns : List N) (t : Taken R N) → MakesPart o answers shape.Unpaired L ns t P p []
+  part_of_unpaired {L} {P} ns t ms m place named fits stand cases beside distinct there chosen untaken =
       let nothing = fact.unpaired_means_nothing o.world ms m named fits (ap is_some there) in
-      subst (λ q. KeywordsMean o answers ms [] (claims (head q) (listed ms) m) (m ∷ []) P) (sym chosen)
+      subst (λ q. MeanClaim o answers ms q [] m P) (sym chosen)
       (subst (λ rows. KeywordsMean o answers ms [] rows (m ∷ []) P) (sym
       (claims_itself ms distinct (head (plan_of ms)) m (heads_elsewhere (plan_of ms) m.0 (apart_from (codes "properties") refl refl refl)
       (apart_from (codes "required") refl refl refl) (λ e. absurd (true≢false (sym e ∙ fits)))

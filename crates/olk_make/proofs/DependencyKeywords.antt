@@ -1,4 +1,5 @@
 -- What holds `dependentRequired`, `dependentSchemas` and `dependencies`.
+use Rattle.olk_make.proofs.Together.{by_its_name}
 use Rattle.std.specs.Prelude.{◌≡◌, ◌≤◌, ◌+◌, Bool, true, false, not, cond, List, [], ◌∷◌, map, sum_by, get_or, drop, codes, Option, Some, None, is_some, unwrap_or, Vec, String}
 use Rattle.std.specs.List.{list_all, flat_map, zip}
 use Rattle.std.specs.declared.alloc.Global.{Global}
@@ -22,7 +23,7 @@ use Rattle.olk_meaning.proofs.Dependencies as fact
 use Rattle.olk_tree.specs.Questions.{always, every}
 use Rattle.olk_tree.specs.Dependencies.{due_nodes}
 use Rattle.olk_tree.specs.declared.map.SmallMap.{SmallMap}
-use Rattle.olk_tree.specs.Maps.{nodes_in, named}
+use Rattle.olk_tree.specs.Maps.{keys_in, nodes_in, named}
 use Rattle.olk_tree.specs.Validators.{answers_of}
 use Rattle.olk_tree.specs.declared.node.KeywordOver.{KeywordOver}
 use Rattle.olk_tree.specs.declared.node.KeywordOver.TheVariants as keyword
@@ -33,7 +34,7 @@ use Rattle.olk_make.specs.Forms.{IsListAt, AreListsAt, AreInOrder, IsDependencie
 use Rattle.olk_make.specs.Holding.{StandEach}
 use Rattle.olk_read.specs.declared.shape.Shape.TheVariants as shape
 use Rattle.olk_make.specs.Making.{KeywordMeans, MakesDependencies, MakesMember}
-use Rattle.olk_make.proofs.Entries.{EntryAnswers, AnswersFor, AnswerEach, each_accept, each_ask, each_find, each_show, schema_answers, schema_answer, schemas_answer}
+use Rattle.olk_make.proofs.Entries.{Rows, EntryAnswers, AnswersFor, AnswerEach, each_accept, each_ask, each_find, each_show, schema_answers, schema_answer, schemas_answer}
 use Rattle.olk_make.proofs.Held.{question, shown, found, one, same_within}
 use Rattle.olk_make.proofs.Formed.{has_form, is_formed, just_one_formed, each_keys, each_held_formed}
 
@@ -58,13 +59,13 @@ module _ {K R N : Type 0} (o : Kit K R) (answers : N → Answers) where
 
   -- the nodes of the entries that are due
   module _ (w : EntryAnswers) where
-    due_answer : (v : Data) (ns : List N) (es : List (Name × Data)) (L : Path) → AnswerEach o answers w ns es L → AnswerEach o answers w
-        (due_nodes (zip (map (λ e. e.0) es) ns) v) (filter_once (λ e. has e.0 v) es) L
+    due_answer : (v : Data) (ns : List N) (es : Rows) (L : Path) → AnswerEach o answers w ns es L → AnswerEach o answers w
+        (due_nodes (zip (keys_in es) ns) v) (filter_once (λ e. has e.0 v) es) L
     due_answer v [] [] L h = tt
     due_answer v (n ∷ ns) (e ∷ es) L h = by (has e.0 v) (due_answer v ns es L h.1)
       where
-        by : (b : Bool) → AnswerEach o answers w (due_nodes (zip (map (λ e. e.0) es) ns) v) (filter_once (λ e. has e.0 v) es) L
-            → AnswerEach o answers w (map (λ e. e.1) (put_if b (e.0, n) (filter_once (λ e. has e.0 v) (zip (map (λ e. e.0) es) ns)))) (put_if b e (filter_once (λ e. has e.0 v) es)) L
+        by : (b : Bool) → AnswerEach o answers w (due_nodes (zip (keys_in es) ns) v) (filter_once (λ e. has e.0 v) es) L
+            → AnswerEach o answers w (map (λ e. e.1) (put_if b (e.0, n) (filter_once (λ e. has e.0 v) (zip (keys_in es) ns)))) (put_if b e (filter_once (λ e. has e.0 v) es)) L
         by true k = (h.0, k)
         by false k = k
     due_answer v _ _ L h = absurd h
@@ -78,83 +79,81 @@ module _ {K R N : Type 0} (o : Kit K R) (answers : N → Answers) where
   unfolding answers_of
   dependencies_formed m L h = h
 
-  module _ (w : EntryAnswers) (m : SmallMap N) (ns : List N) (L : Path) (es : List (Name × Data)) (held : named m ≡ zip (map (λ e. e.0) es) ns) (each : AnswerEach o answers w ns es L) (u : Bool) (v : Data) where
-    abbrev due_here : List N
-    due_here = due_nodes (zip (map (λ e. e.0) es) ns) v
+  module _ (m : SmallMap N) (ns : List N) (L : Path) (d : Data) (held : named m ≡ zip (keys_in (members d)) ns) where
+    module _ (w : EntryAnswers) (each : AnswerEach o answers w ns (members d) L) (u : Bool) (v : Data) where
+      abbrev due_here : List N
+      due_here = due_nodes (zip (keys_in (members d)) ns) v
 
-    abbrev due : List (Name × Data)
-    due = filter_once (λ e. has e.0 v) es
+      dues : AnswerEach o answers w due_here (due_entries d v) L
+      dues = due_answer w v ns (members d) L each
 
-    dues : AnswerEach o answers w due_here due L
-    dues = due_answer w v ns es L each
+      due_accept : (question o answers (dependencies_of m L) v).accepts u ≡ list_all (λ e. w.verdict u e v) (due_entries d v)
+      unfolding answers_of
+      due_accept = ap (λ ds. (every (λ n. (answers n).means v) (due_nodes ds v)).accepts u) held ∙ each_accept o answers w u v _ _ _ dues
 
-    due_accept : (question o answers (dependencies_of m L) v).accepts u ≡ list_all (λ e. w.verdict u e v) due
-    unfolding answers_of
-    due_accept = ap (λ ds. (every (λ n. (answers n).means v) (due_nodes ds v)).accepts u) held ∙ each_accept o answers w u v due_here due L dues
+      due_ask : (question o answers (dependencies_of m L) v).asks u ≤ sum_by (λ e. w.asked u e v) (due_entries d v)
+      unfolding answers_of
+      due_ask = subst (λ ds. (every (λ n. (answers n).means v) (due_nodes ds v)).asks u ≤ sum_by (λ e. w.asked u e v) (due_entries d v)) (sym held) (each_ask o answers w u v _ _ _ dues)
 
-    due_ask : (question o answers (dependencies_of m L) v).asks u ≤ sum_by (λ e. w.asked u e v) due
-    unfolding answers_of
-    due_ask = subst (λ ds. (every (λ n. (answers n).means v) (due_nodes ds v)).asks u ≤ sum_by (λ e. w.asked u e v) due) (sym held) (each_ask o answers w u v due_here due L dues)
+      due_find : (Q : Path) → found o answers u (dependencies_of m L) v Q ∼ flat_map (λ e. w.faults u e v L Q) (due_entries d v)
+      unfolding answers_of
+      due_find Q =
+          subst (λ ds. flat_map (λ n. (answers n).report u v Q) (due_nodes ds v) ∼ flat_map (λ e. w.faults u e v L Q) (due_entries d v)) (sym held) (each_find o answers w u v _ Q _ _ dues)
 
-    due_find : (Q : Path) → found o answers u (dependencies_of m L) v Q ∼ flat_map (λ e. w.faults u e v L Q) due
-    unfolding answers_of
-    due_find Q =
-        subst (λ ds. flat_map (λ n. (answers n).report u v Q) (due_nodes ds v) ∼ flat_map (λ e. w.faults u e v L Q) due) (sym held) (each_find o answers w u v Q due_here due L dues)
+      due_show : (Q : Path) → shown o answers u (dependencies_of m L) v Q ≡ plain L Q (map (λ e. w.shown u e v L Q) (due_entries d v))
+      unfolding answers_of
+      due_show Q = ap (λ ds. plain L Q (map (λ n. (answers n).tree u v Q) (due_nodes ds v))) held ∙ ap (plain L Q) (each_show o answers w u v _ Q _ _ dues)
 
-    due_show : (Q : Path) → shown o answers u (dependencies_of m L) v Q ≡ plain L Q (map (λ e. w.shown u e v L Q) due)
-    unfolding answers_of
-    due_show Q = ap (λ ds. plain L Q (map (λ n. (answers n).tree u v Q) (due_nodes ds v))) held ∙ ap (plain L Q) (each_show o answers w u v Q due_here due L dues)
+    -- ---- the three keywords
 
-  -- ---- the three keywords
+    module _ (ms : Members) (P : Path) where
+      pub means_dependent_required : are_lists d ≡ true → AnswerEach o answers list_answers ns (members d) L → L ≡ P // codes "dependentRequired"
+          → KeywordMeans o answers ms (dependencies_of m L ∷ []) (codes "dependentRequired", d) P
+      means_dependent_required lists each p = record {
+        holds = one o answers ms (dependencies_of m L) (codes "dependentRequired", d) dependent_required P
+            (λ u v. due_accept list_answers each u v ∙ sym (fact.dependent_required_accepts o.world ms d u v lists))
+            (λ u v. same_within _ _ _ (due_ask list_answers each u v) (fact.dependent_required_asks o.world ms d u v ∙ sym (no_sum (due_entries d v))))
+            (λ u v Q. subst (λ fs. found o answers u (dependencies_of m L) v Q ∼ fs)
+            (ap (λ M. flat_map (λ e. required_faults (texts e.1) v M Q) (due_entries d v)) p ∙ sym (fact.dependent_required_report o.world ms d u v lists P Q))
+            (due_find list_answers each u v Q));
+        shows =
+            λ u h v Q. ap (λ t. t ∷ []) (due_show list_answers each u v Q
+            ∙ ap (λ M. plain M Q (map (λ e. erring M Q (required_faults (texts e.1) v M Q)) (due_entries d v))) p) ∙ sym (fact.dependent_required_child o.world ms d u v lists P Q);
+        formed = just_one_formed o answers (dependencies_of m L) (dependencies_formed m L (each_held_formed o answers (named m) _ _ _ held _ each));
+      }
+        where
+          no_sum : (es : Rows) → sum_by (λ e. 0) es ≡ 0
+          no_sum [] = refl
+          no_sum (e ∷ es) = sum_by-cons (λ e. 0) e es ∙ ap (λ n. 0 + n) (no_sum es)
 
-  module _ (m : SmallMap N) (ns : List N) (L : Path) (d : Data) (held : named m ≡ zip (map (λ e. e.0) (members d)) ns) (ms : Members) (P : Path) where
-    pub means_dependent_required : are_lists d ≡ true → AnswerEach o answers list_answers ns (members d) L → L ≡ P // codes "dependentRequired"
-        → KeywordMeans o answers ms (dependencies_of m L ∷ []) (codes "dependentRequired", d) P
-    means_dependent_required lists each p = record {
-      holds = one o answers ms (dependencies_of m L) (codes "dependentRequired", d) dependent_required P
-          (λ u v. due_accept list_answers m ns L (members d) held each u v ∙ sym (fact.dependent_required_accepts o.world ms d u v lists))
-          (λ u v. same_within _ _ _ (due_ask list_answers m ns L (members d) held each u v) (fact.dependent_required_asks o.world ms d u v ∙ sym (no_sum (due_entries d v))))
-          (λ u v Q. subst (λ fs. found o answers u (dependencies_of m L) v Q ∼ fs)
-          (ap (λ M. flat_map (λ e. required_faults (texts e.1) v M Q) (due_entries d v)) p ∙ sym (fact.dependent_required_report o.world ms d u v lists P Q))
-          (due_find list_answers m ns L (members d) held each u v Q));
-      shows =
-          λ u h v Q. ap (λ t. t ∷ []) (due_show list_answers m ns L (members d) held each u v Q
-          ∙ ap (λ M. plain M Q (map (λ e. erring M Q (required_faults (texts e.1) v M Q)) (due_entries d v))) p) ∙ sym (fact.dependent_required_child o.world ms d u v lists P Q);
-      formed = just_one_formed o answers (dependencies_of m L) (dependencies_formed m L (each_held_formed o answers (named m) ns (members d) L held list_answers each));
-    }
-      where
-        no_sum : (es : List (Name × Data)) → sum_by (λ e. 0) es ≡ 0
-        no_sum [] = refl
-        no_sum (e ∷ es) = sum_by-cons (λ e. 0) e es ∙ ap (λ n. 0 + n) (no_sum es)
+      pub means_dependent_schemas : AnswerEach o answers (schema_answers o answers) ns (members d) L → L ≡ P // codes "dependentSchemas"
+          → KeywordMeans o answers ms (dependencies_of m L ∷ []) (codes "dependentSchemas", d) P
+      means_dependent_schemas each p = record {
+        holds = one o answers ms (dependencies_of m L) (codes "dependentSchemas", d) dependent_schemas P
+            (λ u v. due_accept (schema_answers o answers) each u v ∙ sym (fact.dependent_schemas_accepts o.world ms d u v))
+            (λ u v. same_within _ _ _ (due_ask (schema_answers o answers) each u v) (fact.dependent_schemas_asks o.world ms d u v))
+            (λ u v Q. subst (λ fs. found o answers u (dependencies_of m L) v Q ∼ fs)
+            (ap (λ M. flat_map (λ e. report o.world u e.1 v (M // e.0) Q) (due_entries d v)) p ∙ sym (fact.dependent_schemas_report o.world ms d u v P Q))
+            (due_find (schema_answers o answers) each u v Q));
+        shows =
+            λ u h v Q. ap (λ t. t ∷ []) (due_show (schema_answers o answers) each u v Q
+            ∙ ap (λ M. plain M Q (map (λ e. tree o.world u e.1 v (M // e.0) Q) (due_entries d v))) p) ∙ sym (fact.dependent_schemas_child o.world ms d u v P Q);
+        formed = just_one_formed o answers (dependencies_of m L) (dependencies_formed m L (each_held_formed o answers (named m) _ _ _ held _ each));
+      }
 
-    pub means_dependent_schemas : AnswerEach o answers (schema_answers o answers) ns (members d) L → L ≡ P // codes "dependentSchemas"
-        → KeywordMeans o answers ms (dependencies_of m L ∷ []) (codes "dependentSchemas", d) P
-    means_dependent_schemas each p = record {
-      holds = one o answers ms (dependencies_of m L) (codes "dependentSchemas", d) dependent_schemas P
-          (λ u v. due_accept (schema_answers o answers) m ns L (members d) held each u v ∙ sym (fact.dependent_schemas_accepts o.world ms d u v))
-          (λ u v. same_within _ _ _ (due_ask (schema_answers o answers) m ns L (members d) held each u v) (fact.dependent_schemas_asks o.world ms d u v))
-          (λ u v Q. subst (λ fs. found o answers u (dependencies_of m L) v Q ∼ fs)
-          (ap (λ M. flat_map (λ e. report o.world u e.1 v (M // e.0) Q) (due_entries d v)) p ∙ sym (fact.dependent_schemas_report o.world ms d u v P Q))
-          (due_find (schema_answers o answers) m ns L (members d) held each u v Q));
-      shows =
-          λ u h v Q. ap (λ t. t ∷ []) (due_show (schema_answers o answers) m ns L (members d) held each u v Q
-          ∙ ap (λ M. plain M Q (map (λ e. tree o.world u e.1 v (M // e.0) Q) (due_entries d v))) p) ∙ sym (fact.dependent_schemas_child o.world ms d u v P Q);
-      formed = just_one_formed o answers (dependencies_of m L) (dependencies_formed m L (each_held_formed o answers (named m) ns (members d) L held (schema_answers o answers) each));
-    }
-
-    pub means_dependencies : AnswerEach o answers dependency_answers ns (members d) L → L ≡ P // codes "dependencies"
-        → KeywordMeans o answers ms (dependencies_of m L ∷ []) (codes "dependencies", d) P
-    means_dependencies each p = record {
-      holds = one o answers ms (dependencies_of m L) (codes "dependencies", d) dependencies P
-          (λ u v. due_accept dependency_answers m ns L (members d) held each u v ∙ sym (fact.dependencies_accepts o.world ms d u v))
-          (λ u v. same_within _ _ _ (due_ask dependency_answers m ns L (members d) held each u v) (fact.dependencies_asks o.world ms d u v))
-          (λ u v Q. like_through (subst (λ fs. found o answers u (dependencies_of m L) v Q ∼ fs) (ap (λ M. flat_map (λ e. dependency_report o.world u e v M Q) (due_entries d v)) p)
-          (due_find dependency_answers m ns L (members d) held each u v Q)) (∼_sym (fact.dependencies_report o.world ms d u v P Q)));
-      shows =
-          λ u h v Q. ap (λ t. t ∷ []) (due_show dependency_answers m ns L (members d) held each u v Q
-          ∙ ap (λ M. plain M Q (map (λ e. dependency_shown o.world u e v M Q) (due_entries d v))) p) ∙ sym (fact.dependencies_child o.world ms d u v P Q);
-      formed = just_one_formed o answers (dependencies_of m L) (dependencies_formed m L (each_held_formed o answers (named m) ns (members d) L held dependency_answers each));
-    }
+      pub means_dependencies : AnswerEach o answers dependency_answers ns (members d) L → L ≡ P // codes "dependencies"
+          → KeywordMeans o answers ms (dependencies_of m L ∷ []) (codes "dependencies", d) P
+      means_dependencies each p = record {
+        holds = one o answers ms (dependencies_of m L) (codes "dependencies", d) dependencies P
+            (λ u v. due_accept dependency_answers each u v ∙ sym (fact.dependencies_accepts o.world ms d u v))
+            (λ u v. same_within _ _ _ (due_ask dependency_answers each u v) (fact.dependencies_asks o.world ms d u v))
+            (λ u v Q. like_through (subst (λ fs. found o answers u (dependencies_of m L) v Q ∼ fs) (ap (λ M. flat_map (λ e. dependency_report o.world u e v M Q) (due_entries d v)) p)
+            (due_find dependency_answers each u v Q)) (∼_sym (fact.dependencies_report o.world ms d u v P Q)));
+        shows =
+            λ u h v Q. ap (λ t. t ∷ []) (due_show dependency_answers each u v Q
+            ∙ ap (λ M. plain M Q (map (λ e. dependency_shown o.world u e v M Q) (due_entries d v))) p) ∙ sym (fact.dependencies_child o.world ms d u v P Q);
+        formed = just_one_formed o answers (dependencies_of m L) (dependencies_formed m L (each_held_formed o answers (named m) _ _ _ held _ each));
+      }
 
   -- ---- what is made of lists and nodes
 
@@ -176,7 +175,7 @@ module _ {K R N : Type 0} (o : Kit K R) (answers : N → Answers) where
       listed : (x : Data) (Q : Path) → required_faults (names_in is.boxed.value.required) x is.boxed.value.location Q ≡ required_faults (texts e.1) x L Q
       listed x Q = subst₂ (λ ns P. required_faults (names_in is.boxed.value.required) x is.boxed.value.location Q ≡ required_faults ns x P Q) names is.holds.1 refl
 
-  lists_answer : (vs : List (Vec (String Global) Global)) (ns : List N) (es : List (Name × Data)) (L : Path) → AreListsAt o answers L vs ns
+  lists_answer : (vs : List (Vec (String Global) Global)) (ns : List N) (es : Rows) (L : Path) → AreListsAt o answers L vs ns
       → map names_in vs ≡ map (λ e. texts e.1) es → AnswerEach o answers list_answers ns es L
   lists_answer [] [] [] L h q = tt
   lists_answer [] [] (e ∷ es) L h q = absurd (true≢false (ap is_empty q))
@@ -185,28 +184,24 @@ module _ {K R N : Type 0} (o : Kit K R) (answers : N → Answers) where
   lists_answer _ _ es L h q = absurd h
 
   -- the node of a list, or of a schema, is that of an entry of `dependencies`
-  list_is_dependency : (n : N) (e : Name × Data) (L : Path) → is_array e.1 ≡ true → AnswersFor o answers list_answers n e L → AnswersFor o answers dependency_answers n e L
-  list_is_dependency n e L a h = record {
-    verdict = λ u v. h.verdict u v ∙ ap (λ b. cond b (is_empty (missing (texts e.1) v)) (accepts o.world u e.1 v)) (sym a);
-    asks_within = λ u v. subst (λ b. ((answers n).means v).asks u ≤ cond b 0 (asks o.world u e.1 v)) (sym a) (h.asks_within u v);
-    faults = λ u v Q. subst (λ b. (answers n).report u v Q ∼ cond b (required_faults (texts e.1) v L Q) (report o.world u e.1 v (L // e.0) Q)) (sym a) (h.faults u v Q);
-    evaluation = λ u v Q. h.evaluation u v Q ∙ ap (λ b. cond b (erring L Q (required_faults (texts e.1) v L Q)) (tree o.world u e.1 v (L // e.0) Q)) (sym a);
-    formed = h.formed;
+  abbrev entry_answers : Bool → EntryAnswers
+  entry_answers is_list = record {
+    verdict = λ u e v. cond is_list (is_empty (missing (texts e.1) v)) (accepts o.world u e.1 v);
+    asked = λ u e v. cond is_list 0 (asks o.world u e.1 v);
+    faults = λ u e v L Q. cond is_list (required_faults (texts e.1) v L Q) (report o.world u e.1 v (L // e.0) Q);
+    shown = λ u e v L Q. cond is_list (erring L Q (required_faults (texts e.1) v L Q)) (tree o.world u e.1 v (L // e.0) Q);
   }
 
-  schema_is_dependency : (n : N) (e : Name × Data) (L : Path) → is_array e.1 ≡ false → AnswersFor o answers (schema_answers o answers) n e L → AnswersFor o answers dependency_answers n e L
-  schema_is_dependency n e L a h = record {
-    verdict = λ u v. h.verdict u v ∙ ap (λ b. cond b (is_empty (missing (texts e.1) v)) (accepts o.world u e.1 v)) (sym a);
-    asks_within = λ u v. subst (λ b. ((answers n).means v).asks u ≤ cond b 0 (asks o.world u e.1 v)) (sym a) (h.asks_within u v);
-    faults = λ u v Q. subst (λ b. (answers n).report u v Q ∼ cond b (required_faults (texts e.1) v L Q) (report o.world u e.1 v (L // e.0) Q)) (sym a) (h.faults u v Q);
-    evaluation = λ u v Q. h.evaluation u v Q ∙ ap (λ b. cond b (erring L Q (required_faults (texts e.1) v L Q)) (tree o.world u e.1 v (L // e.0) Q)) (sym a);
-    formed = h.formed;
-  }
+  is_dependency : (n : N) (e : Name × Data) (L : Path) (is_list : Bool) → is_array e.1 ≡ is_list → AnswersFor o answers (entry_answers is_list) n e L
+      → AnswersFor o answers dependency_answers n e L
+  is_dependency n e L is_list a answer =
+      let h = subst (λ b. AnswersFor o answers (entry_answers b) n e L) (sym a) answer in
+      record { verdict = h.verdict; asks_within = h.asks_within; faults = h.faults; evaluation = h.evaluation; formed = h.formed }
 
-  abbrev schemas_among : List (Name × Data) → List (Name × Data)
+  abbrev schemas_among : Rows → Rows
   schemas_among es = filter_once (λ e. not (is_array e.1)) es
 
-  dependencies_answer : (vs : List (Option (Vec (String Global) Global))) (schemas ns : List N) (es : List (Name × Data)) (L : Path)
+  dependencies_answer : (vs : List (Option (Vec (String Global) Global))) (schemas ns : List N) (es : Rows) (L : Path)
       → AreInOrder o answers L vs schemas ns → map names_in_list vs ≡ map (λ e. list_of e.1) es → StandEach o answers schemas (schemas_among es) L → AnswerEach o answers dependency_answers ns es L
   dependencies_answer [] schemas ns [] L h q stand = subst (λ l. AnswerEach o answers dependency_answers l [] L) (sym h) tt
   dependencies_answer [] schemas ns (e ∷ es) L h q stand = absurd (true≢false (ap is_empty q))
@@ -219,11 +214,11 @@ module _ {K R N : Type 0} (o : Kit K R) (answers : N → Answers) where
           → ((schemas ns : List N) → AreInOrder o answers L vs schemas ns → StandEach o answers schemas (schemas_among es) L → AnswerEach o answers dependency_answers ns es L)
           → AnswerEach o answers dependency_answers ns (e ∷ es) L
       by (Some v) true a schemas [] h same stand later = absurd h
-      by (Some v) true a schemas (n ∷ ns) h same stand later = (list_is_dependency n e L a (list_answer v n e L h.0 (ap (λ x. unwrap_or x []) same)), later schemas ns h.1 stand)
+      by (Some v) true a schemas (n ∷ ns) h same stand later = (is_dependency n e L true a (list_answer v n e L h.0 (ap (λ x. unwrap_or x []) same)), later schemas ns h.1 stand)
       by None false a [] ns h same stand later = absurd stand
       by None false a (s ∷ schemas) [] h same stand later = absurd h
       by None false a (s ∷ schemas) (n ∷ ns) h same stand later =
-          (schema_is_dependency n e L a (schema_answer o answers n e L (subst (λ x. Stands o answers x e.1 (L // e.0)) (sym h.0) stand.0)), later schemas ns h.1 stand.1)
+          (is_dependency n e L false a (schema_answer o answers n e L (subst (λ x. Stands o answers x e.1 (L // e.0)) (sym h.0) stand.0)), later schemas ns h.1 stand.1)
       by (Some v) false a schemas ns h same stand later = absurd (true≢false (ap is_some same))
       by None true a schemas ns h same stand later = absurd (true≢false (sym (ap is_some same)))
 
@@ -231,8 +226,8 @@ module _ {K R N : Type 0} (o : Kit K R) (answers : N → Answers) where
 
   module _ (keys : List Name) (ns : List N) (L : Path) (k : KeywordOver K R N) (form : IsFormOfDependencies L (zip keys ns) k) where
     -- over the entries of a value
-    module _ (d : Data) (named_keys : keys ≡ map (λ e. e.0) (members d)) where
-      keyword_means : (ms : Members) (n : Name) (P : Path) → ((m : SmallMap N) → named m ≡ zip (map (λ e. e.0) (members d)) ns
+    module _ (d : Data) (named_keys : keys ≡ keys_in (members d)) where
+      keyword_means : (ms : Members) (n : Name) (P : Path) → ((m : SmallMap N) → named m ≡ zip (keys_in (members d)) ns
           → KeywordMeans o answers ms (dependencies_of m L ∷ []) (n, d) P) → KeywordMeans o answers ms (k ∷ []) (n, d) P
       keyword_means ms n P means = by k form
         where
@@ -241,32 +236,32 @@ module _ {K R N : Type 0} (o : Kit K R) (answers : N → Answers) where
               subst (λ M. KeywordMeans o answers ms (dependencies_of x.dependencies M ∷ []) (n, d) P) (sym f.1) (means x.dependencies (f.0 ∙ ap (λ ks. zip ks ns) named_keys))
           by x f = absurd f
 
-      keys_are : (w : EntryAnswers) → AnswerEach o answers w ns (members d) L → IsDependencies L (map (λ e. e.0) (members d)) k
+      keys_are : (w : EntryAnswers) → AnswerEach o answers w ns (members d) L → IsDependencies L (keys_in (members d)) k
       keys_are w each = by k form
         where
-          by : (k : KeywordOver K R N) → IsFormOfDependencies L (zip keys ns) k → IsDependencies L (map (λ e. e.0) (members d)) k
+          by : (k : KeywordOver K R N) → IsFormOfDependencies L (zip keys ns) k → IsDependencies L (keys_in (members d)) k
           by (keyword.Dependencies x) f = (each_keys o answers (named x.dependencies) ns (members d) L (f.0 ∙ ap (λ ks. zip ks ns) named_keys) w each, f.1)
           by x f = absurd f
 
     module _ (lists : Vec (Vec (String Global) Global) Global) (is : AreListsAt o answers L lists.items ns) where
       pub makes_dependent_required : MakesMember o answers (shape.DependentRequired keys lists) L [] (k ∷ [])
-      makes_dependent_required ms x P p s h = subst (λ n. KeywordMeans o answers ms (k ∷ []) (n, x.1) P) (sym s.0) (keyword_means x.1 s.2 ms (codes "dependentRequired") P
-          (λ m held. means_dependent_required m ns L x.1 held ms P s.3 (lists_answer lists.items ns (members x.1) L is s.4) (p ∙ ap (λ n. P // n) s.0)))
+      makes_dependent_required ms x P p s h = by_its_name o answers s.0 p (λ place. keyword_means x.1 s.2 ms (codes "dependentRequired") P
+          (λ m held. means_dependent_required m ns L x.1 held ms P s.3 (lists_answer lists.items ns (members x.1) L is s.4) place))
 
       pub keys_of_dependent_required : MakesDependencies o answers (shape.DependentRequired keys lists) L [] k
       keys_of_dependent_required x s h = keys_are x.1 s.2 list_answers (lists_answer lists.items ns (members x.1) L is s.4)
 
     pub makes_dependent_schemas : MakesMember o answers (shape.DependentSchemas keys) L ns (k ∷ [])
-    makes_dependent_schemas ms x P p s h = subst (λ n. KeywordMeans o answers ms (k ∷ []) (n, x.1) P) (sym s.0) (keyword_means x.1 s.2 ms (codes "dependentSchemas") P
-        (λ m held. means_dependent_schemas m ns L x.1 held ms P (schemas_answer o answers ns (members x.1) L h) (p ∙ ap (λ n. P // n) s.0)))
+    makes_dependent_schemas ms x P p s h = by_its_name o answers s.0 p (λ place. keyword_means x.1 s.2 ms (codes "dependentSchemas") P
+        (λ m held. means_dependent_schemas m ns L x.1 held ms P (schemas_answer o answers ns (members x.1) L h) place))
 
     pub keys_of_dependent_schemas : MakesDependencies o answers (shape.DependentSchemas keys) L ns k
     keys_of_dependent_schemas x s h = keys_are x.1 s.2 (schema_answers o answers) (schemas_answer o answers ns (members x.1) L h)
 
     module _ (lists : Vec (Option (Vec (String Global) Global)) Global) (schemas : List N) (is : AreInOrder o answers L lists.items schemas ns) where
       pub makes_dependencies : MakesMember o answers (shape.Dependencies keys lists) L schemas (k ∷ [])
-      makes_dependencies ms x P p s h = subst (λ n. KeywordMeans o answers ms (k ∷ []) (n, x.1) P) (sym s.0) (keyword_means x.1 s.2 ms (codes "dependencies") P
-          (λ m held. means_dependencies m ns L x.1 held ms P (dependencies_answer lists.items schemas ns (members x.1) L is s.3 h) (p ∙ ap (λ n. P // n) s.0)))
+      makes_dependencies ms x P p s h = by_its_name o answers s.0 p (λ place. keyword_means x.1 s.2 ms (codes "dependencies") P
+          (λ m held. means_dependencies m ns L x.1 held ms P (dependencies_answer lists.items schemas ns (members x.1) L is s.3 h) place))
 
       pub keys_of_dependencies : MakesDependencies o answers (shape.Dependencies keys lists) L schemas k
       keys_of_dependencies x s h = keys_are x.1 s.2 dependency_answers (dependencies_answer lists.items schemas ns (members x.1) L is s.3 h)

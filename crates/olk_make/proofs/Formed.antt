@@ -26,7 +26,7 @@ use Rattle.olk_tree.specs.declared.node.KeywordOver.{KeywordOver}
 use Rattle.olk_tree.specs.declared.node.KeywordOver.TheVariants as keyword
 use Rattle.olk_make.specs.Forms.{IsMapFor, IsFormOfAllOf, IsFormOfAnyOf, IsFormOfOneOf, IsFormOfPatternProperties, IsFormOfIf}
 use Rattle.olk_make.specs.Holding.{StandEach}
-use Rattle.olk_make.proofs.Entries.{EntryAnswers, AnswerEach, each_count, schema_answers, schemas_answer}
+use Rattle.olk_make.proofs.Entries.{Rows, EntryAnswers, AnswerEach, each_count, schema_answers, schemas_answer}
 
 -- ---- one, or several
 
@@ -53,25 +53,25 @@ module _ {K R N : Type 0} (o : Kit K R) (answers : N → Answers) where
 
   -- ---- nodes
 
-  pub each_formed : (w : EntryAnswers) (ns : List N) (es : List (Name × Data)) (L : Path) → AnswerEach o answers w ns es L → list_all has_form ns ≡ true
+  pub each_formed : (w : EntryAnswers) (ns : List N) (es : Rows) (L : Path) → AnswerEach o answers w ns es L → list_all has_form ns ≡ true
   each_formed w [] [] L h = refl
   each_formed w (n ∷ ns) (e ∷ es) L h = and_from (has_form n) (list_all has_form ns) h.0.formed (each_formed w ns es L h.1)
   each_formed w _ _ L h = absurd h
 
-  pub stand_formed : (ns : List N) (es : List (Name × Data)) (L : Path) → StandEach o answers ns es L → list_all has_form ns ≡ true
+  pub stand_formed : (ns : List N) (es : Rows) (L : Path) → StandEach o answers ns es L → list_all has_form ns ≡ true
   stand_formed ns es L h = each_formed (schema_answers o answers) ns es L (schemas_answer o answers ns es L h)
 
   -- ---- entries of these names and nodes
 
-  module _ (ds : List (Name × N)) (ns : List N) (es : List (Name × Data)) (L : Path) (held : ds ≡ zip (map (λ e. e.0) es) ns) where
+  module _ (ds : List (Name × N)) (ns : List N) (es : Rows) (L : Path) (held : ds ≡ zip (keys_in es) ns) where
     module _ (w : EntryAnswers) (each : AnswerEach o answers w ns es L) where
-      pub each_keys : keys_in ds ≡ map (λ e. e.0) es
-      each_keys = ap keys_in held ∙ firsts-zip (map (λ e. e.0) es) ns (each_count o answers w ns es L each)
+      pub each_keys : keys_in ds ≡ keys_in es
+      each_keys = ap keys_in held ∙ firsts-zip (keys_in es) ns (each_count o answers w ns es L each)
 
       pub each_nodes : nodes_in ds ≡ ns
-      each_nodes = ap nodes_in held ∙ seconds-zip (map (λ e. e.0) es) ns (each_count o answers w ns es L each)
+      each_nodes = ap nodes_in held ∙ seconds-zip (keys_in es) ns (each_count o answers w ns es L each)
 
-      pub each_long : length ds ≡ length (map {A = Name × Data} (λ e. e.0) es)
+      pub each_long : length ds ≡ length (keys_in es)
       each_long = sym (length-map ds (λ e. e.0)) ∙ ap length each_keys
 
       pub each_held_formed : list_all has_form (nodes_in ds) ≡ true

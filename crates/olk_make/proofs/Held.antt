@@ -20,9 +20,9 @@ use Rattle.serde_json.specs.View.{view}
 use Rattle.serde_json.specs.declared.value.Value.{Value}
 use Rattle.olk_spec.specs.Names.{Name, Path, ◌//◌, lookup_name, first_if_equal, filter_once, put_if, is_empty, is_among}
 use Rattle.olk_spec.specs.Vocabulary.{Keyword, properties, pattern_properties, required, all_of, any_of, not_keyword, leaf, unread, keyword_named}
-use Rattle.olk_spec.specs.Faults.{Fault, AnyOf, Not, Leaf, fault, Context, context, IsLikeContext, like_none, like_branch, like, like_any_of, ◌∼◌, like_empty, like_next, like_through}
-use Rattle.olk_spec.specs.Schemas.{read_members, listed, numbered, at, members, texts, is_object}
-use Rattle.olk_spec.specs.Malformed.{has_repeat, items_list}
+use Rattle.olk_spec.specs.Faults.{Fault, Kind, IsLikeKind, AnyOf, Not, Leaf, fault, Context, context, IsLikeContext, like_none, like_branch, like, like_any_of, ◌∼◌, like_empty, like_next, like_through}
+use Rattle.olk_spec.specs.Schemas.{read_members, listed, numbered, at, members, texts, is_object, is_array}
+use Rattle.olk_spec.specs.Malformed.{has_repeat, items_list, items_of_array}
 use Rattle.olk_spec.specs.Meaning.{accepts, asks, report, tree, meaning_step}
 use Rattle.olk_spec.specs.Accepts.{missing}
 use Rattle.olk_spec.specs.Reports.{required_faults, fault_if}
@@ -33,7 +33,7 @@ use Rattle.olk_spec.proofs.Order.{∼_same, ∼_append, ∼_behind, ∼_swap, �
 use Rattle.olk_spec.proofs.Walks.{same_name}
 use Rattle.olk_base.specs.Kit.{Kit}
 use Rattle.olk_tree.specs.Questions.{Question, every, some}
-use Rattle.olk_tree.specs.Maps.{named, mapped}
+use Rattle.olk_tree.specs.Maps.{keys_in, named, mapped}
 use Rattle.olk_tree.specs.Validators.{answers_of, validator_means, validator_report, validator_tree}
 use Rattle.olk_tree.specs.Answers.{Answers}
 use Rattle.olk_tree.specs.Shown.{missing_trees, properties_tree, branch_trees, any_of_tree}
@@ -52,8 +52,8 @@ use Rattle.olk_tree.specs.declared.properties.SmallPropertiesWithRequired2.{Smal
 use Rattle.olk_tree.specs.declared.node.KeywordOver.{KeywordOver}
 use Rattle.olk_tree.specs.declared.node.KeywordOver.TheVariants as keyword
 use Rattle.olk_meaning.proofs.Facts as fact
-use Rattle.olk_make.proofs.Entries.{AnswerEach, each_accept, each_ask, each_find, each_show, schema_answers, schemas_answer}
-use Rattle.olk_make.proofs.Together.{means_alone, means_permuted}
+use Rattle.olk_make.proofs.Entries.{Rows, AnswerEach, each_accept, each_ask, each_find, each_show, schema_answers, schemas_answer}
+use Rattle.olk_make.proofs.Together.{MeanClaim, means_alone, means_permuted}
 use Rattle.olk_meaning.proofs.Claims.{listing, fuses, claims_itself, claims_both, claims_nothing, head_itself, head_of_required, heads_elsewhere, plan_fusing, IsNoCase}
 use Rattle.olk_meaning.proofs.TakenOver.{IsNotTaken, free_takes_nothing, free_fuses_none, fusing_is_free, fused_is_restricted}
 use Rattle.olk_meaning.proofs.RestrictedClaims.{claims_no_fused}
@@ -76,6 +76,11 @@ with_nothing a b h = omega (arith, h)
 pub same_within : (a b c : ℕ) → a ≤ b → c ≡ b → a ≤ c
 same_within a b c h e = omega (arith, h, e)
 
+-- faults of like kinds, where there are any
+pub fault_like : (b : Bool) {k l : Kind} (v : Data) (P Q : Path) → IsLikeKind k l → fault_if b k v P Q ∼ fault_if b l v P Q
+fault_like true v P Q h = like_next (like h) like_empty
+fault_like false v P Q h = like_empty
+
 module _ {K R N : Type 0} (o : Kit K R) (answers : N → Answers) where
   abbrev pub question : KeywordOver K R N → Data → Question
   question k v = validator_means o (λ n. (answers n).means) k v
@@ -95,116 +100,129 @@ module _ {K R N : Type 0} (o : Kit K R) (answers : N → Answers) where
 
     node_asks : (xs : List Data) → (every (answers n).means xs).asks u ≤ sum_by (asks o.world u S) xs
     node_asks [] = omega arith
-    node_asks (x ∷ xs) = more_within _ _ _ _ _ (h.asks_within u x) (node_asks xs) (sum_by-cons (asks o.world u S) x xs)
+    node_asks (x ∷ xs) = more_within _ _ _ _ _ (h.asks_within u x) (node_asks xs) (sum_by-cons _ x xs)
 
     node_finds : (Q : Path) (xs : List Data) → flat_map (λ x. (answers n).report u x Q) xs ∼ flat_map (λ x. report o.world u S x L Q) xs
-    node_finds Q xs = ∼_flat_map_any (λ x. (answers n).report u x Q) (λ x. report o.world u S x L Q) (λ x. h.faults u x Q) xs
+    node_finds Q xs = ∼_flat_map_any _ _ (λ x. h.faults u x Q) xs
 
   module _ (u : Bool) (v : Data) where
     abbrev each_at : Name × N → Question
     each_at e = every (answers e.1).means (at e.0 v)
 
-    members_accept : (ns : List N) (es : List (Name × Data)) (L : Path) → StandEach o answers ns es L → (every each_at (zip (map (λ e. e.0) es) ns)).accepts u ≡ list_all
-        (λ e. list_all (accepts o.world u e.1) (at e.0 v)) es
-    members_accept [] [] L h = refl
-    members_accept (n ∷ ns) (e ∷ es) L h = λ i. node_accepts n e.1 (L // e.0) h.0 u (at e.0 v) i && members_accept ns es L h.1 i
-    members_accept _ _ L h = absurd h
-
-    members_ask : (ns : List N) (es : List (Name × Data)) (L : Path) → StandEach o answers ns es L → (every each_at (zip (map (λ e. e.0) es) ns)).asks u ≤ sum_by
-        (λ e. sum_by (asks o.world u e.1) (at e.0 v)) es
-    members_ask [] [] L h = omega arith
-    members_ask (n ∷ ns) (e ∷ es) L h = more_within _ _ _ _ _ (node_asks n e.1 (L // e.0) h.0 u (at e.0 v)) (members_ask ns es L h.1) (sum_by-cons (λ e. sum_by (asks o.world u e.1) (at e.0 v)) e es)
-    members_ask _ _ L h = absurd h
-
-    members_find : (Q : Path) (ns : List N) (es : List (Name × Data)) (L : Path) → StandEach o answers ns es L
-        → flat_map (λ e. flat_map (λ x. (answers e.1).report u x (Q // e.0)) (at e.0 v)) (zip (map (λ e. e.0) es) ns) ∼ flat_map
-        (λ e. flat_map (λ x. report o.world u e.1 x (L // e.0) (Q // e.0)) (at e.0 v)) es
-    members_find Q [] [] L h = like_empty
-    members_find Q (n ∷ ns) (e ∷ es) L h = ∼_append (node_finds n e.1 (L // e.0) h.0 u (Q // e.0) (at e.0 v)) (members_find Q ns es L h.1)
-    members_find Q _ _ L h = absurd h
-
     abbrev pub at_value : N → Question
     at_value n = (answers n).means v
 
-    any_accept : (ns : List N) (es : List (Name × Data)) (L : Path) → StandEach o answers ns es L → (some at_value ns).accepts u ≡ list_any (λ e. accepts o.world u e.1 v) es
-    any_accept [] [] L h = refl
-    any_accept (n ∷ ns) (e ∷ es) L h = λ i. h.0.verdict u v i || any_accept ns es L h.1 i
-    any_accept _ _ L h = absurd h
+    -- what the branches find, and are to find
+    abbrev pub found_in : Path → List N → Context
+    found_in Q ns = context (map (λ n. (answers n).report u v Q) ns)
 
-    pub any_ask : (ns : List N) (es : List (Name × Data)) (L : Path) → StandEach o answers ns es L → (some at_value ns).asks u ≤ sum_by (λ e. asks o.world u e.1 v) es
-    any_ask [] [] L h = omega arith
-    any_ask (n ∷ ns) (e ∷ es) L h = more_within _ _ _ _ _ (h.0.asks_within u v) (any_ask ns es L h.1) (sum_by-cons (λ e. asks o.world u e.1 v) e es)
-    any_ask _ _ L h = absurd h
+    abbrev pub meant_in : Path → Path → Rows → Context
+    meant_in Q L es = context (map (λ e. report o.world u e.1 v (L // e.0) Q) es)
 
-    pub any_context : (Q : Path) (ns : List N) (es : List (Name × Data)) (L : Path) → StandEach o answers ns es L
-        → IsLikeContext (context (map (λ n. (answers n).report u v Q) ns)) (context (map (λ e. report o.world u e.1 v (L // e.0) Q) es))
-    any_context Q [] [] L h = like_none
-    any_context Q (n ∷ ns) (e ∷ es) L h =
-        like_branch (subst₂ (λ x y. x ∼ y) (sym (faults_in-from ((answers n).report u v Q))) (sym (faults_in-from (report o.world u e.1 v (L // e.0) Q)))
-        (h.0.faults u v Q)) (any_context Q ns es L h.1)
-    any_context Q _ _ L h = absurd h
-
-    pub branches_show : (Q : Path) (ns : List N) (es : List (Name × Data)) (L : Path) → StandEach o answers ns es L → map (λ n. (answers n).tree u v Q) ns ≡ branches_shown o.world u v L Q es
-    branches_show Q ns es L h = each_show o answers (schema_answers o answers) u v Q ns es L (schemas_answer o answers ns es L h)
+    abbrev none_accepts : Rows → Bool
+    none_accepts es = not (list_any (λ e. accepts o.world u e.1 v) es)
 
     abbrev pub accepts_value : N → Bool
     accepts_value n = ((answers n).means v).accepts u
 
-    pub accepting_show : (Q : Path) (ns : List N) (es : List (Name × Data)) (L : Path) → StandEach o answers ns es L → map (λ n. (answers n).tree u v Q)
-        (filter_once accepts_value ns) ≡ branches_shown o.world u v L Q (accepting_branches o.world u v es)
-    accepting_show Q [] [] L h = refl
-    accepting_show Q (n ∷ ns) (e ∷ es) L h =
-        ap (λ b. map (λ n. (answers n).tree u v Q) (put_if b n (filter_once accepts_value ns))) (h.0.verdict u v) ∙ by (accepts o.world u e.1 v) (accepting_show Q ns es L h.1)
-      where
-        by : (b : Bool) → map (λ n. (answers n).tree u v Q) (filter_once accepts_value ns) ≡ branches_shown o.world u v L Q (accepting_branches o.world u v es)
-            → map (λ n. (answers n).tree u v Q) (put_if b n (filter_once accepts_value ns)) ≡ branches_shown o.world u v L Q (put_if b e (accepting_branches o.world u v es))
-        by true g = λ i. h.0.evaluation u v Q i ∷ g i
-        by false g = g
-    accepting_show Q _ _ L h = absurd h
+    -- at the place L
+    module _ (L : Path) where
+      members_accept : (ns : List N) (es : Rows) → StandEach o answers ns es L → (every each_at (zip (keys_in es) ns)).accepts u ≡ list_all
+          (λ e. list_all (accepts o.world u e.1) (at e.0 v)) es
+      members_accept [] [] h = refl
+      members_accept (n ∷ ns) (e ∷ es) h = λ i. node_accepts n e.1 (L // e.0) h.0 u (at e.0 v) i && members_accept ns es h.1 i
+      members_accept _ _ h = absurd h
 
-    any_show : (Q : Path) (ns : List N) (es : List (Name × Data)) (L : Path) → StandEach o answers ns es L → any_of_tree (λ n. (answers n).tree u) v Q accepts_value L ns ≡ any_shown o.world u v L Q es
-    any_show Q ns es L h = λ i. cond (none i) (result L Q None true [] (branches_show Q ns es L h i)) (plain L Q (accepting_show Q ns es L h i))
-      where
-        none : is_empty (filter_once accepts_value ns) ≡ is_empty (accepting_branches o.world u v es)
-        none =
-            sym (is_empty-map (λ n. (answers n).tree u v Q) (filter_once accepts_value ns)) ∙ ap is_empty (accepting_show Q ns es L h)
-            ∙ is_empty-map (λ e. tree o.world u e.1 v (L // e.0) Q) (accepting_branches o.world u v es)
+      members_ask : (ns : List N) (es : Rows) → StandEach o answers ns es L → (every each_at (zip (keys_in es) ns)).asks u ≤ sum_by
+          (λ e. sum_by (asks o.world u e.1) (at e.0 v)) es
+      members_ask [] [] h = omega arith
+      members_ask (n ∷ ns) (e ∷ es) h = more_within _ _ _ _ _ (node_asks n e.1 (L // e.0) h.0 u (at e.0 v)) (members_ask ns es h.1) (sum_by-cons _ e es)
+      members_ask _ _ h = absurd h
 
-    zip_names : (ns : List N) (es : List (Name × Data)) (L : Path) → StandEach o answers ns es L → map {A = Name × N} (λ e. e.0) (zip (map (λ e. e.0) es) ns) ≡ map {A = Name × Data} (λ e. e.0) es
-    zip_names [] [] L h = refl
-    zip_names [] (e ∷ es) L h = absurd h
-    zip_names (n ∷ ns) [] L h = absurd h
-    zip_names (n ∷ ns) (e ∷ es) L h = ap (λ ks. e.0 ∷ ks) (zip_names ns es L h.1)
+      members_find : (Q : Path) (ns : List N) (es : Rows) → StandEach o answers ns es L
+          → flat_map (λ e. flat_map (λ x. (answers e.1).report u x (Q // e.0)) (at e.0 v)) (zip (keys_in es) ns) ∼ flat_map
+          (λ e. flat_map (λ x. report o.world u e.1 x (L // e.0) (Q // e.0)) (at e.0 v)) es
+      members_find Q [] [] h = like_empty
+      members_find Q (n ∷ ns) (e ∷ es) h = ∼_append (node_finds n e.1 (L // e.0) h.0 u (Q // e.0) (at e.0 v)) (members_find Q ns es h.1)
+      members_find Q _ _ h = absurd h
 
-    member_shows : (Q : Path) (m : Name × Data) (ns : List N) (es : List (Name × Data)) (L : Path) → StandEach o answers ns es L
-        → map (λ n. (answers n).tree u m.1 (Q // m.0)) (option_to_list (lookup_name m.0 (zip (map (λ e. e.0) es) ns))) ≡ shown_at o.world u v L Q es m
-    member_shows Q m [] [] L h = refl
-    member_shows Q m (n ∷ ns) (e ∷ es) L h = by (slice_cmp nat_cmp m.0 e.0) (is_eq-slice_cmp m.0 e.0) (member_shows Q m ns es L h.1)
-      where
-        by : (c : Ordering) → is_eq c ≡ bytes_eq m.0 e.0 → map (λ n. (answers n).tree u m.1 (Q // m.0)) (option_to_list (lookup_name m.0 (zip (map (λ e. e.0) es) ns))) ≡ shown_at o.world u v L Q es m
-            → map (λ n. (answers n).tree u m.1 (Q // m.0)) (option_to_list (first_if_equal c n (lookup_name m.0 (zip (map (λ e. e.0) es) ns)))) ≡ map
-            (λ d. tree o.world u d m.1 (L // m.0) (Q // m.0)) (option_to_list (first_if_equal c e.1 (lookup_name m.0 es)))
-        by Less q g = g
-        by Equal q g = (λ i. h.0.evaluation u m.1 (Q // m.0) i ∷ []) ∙ ap (λ k. tree o.world u e.1 m.1 (L // k) (Q // m.0) ∷ []) (sym (same_name m.0 e.0 (sym q)))
-        by Greater q g = g
-    member_shows Q m _ _ L h = absurd h
+      any_accept : (ns : List N) (es : Rows) → StandEach o answers ns es L → (some at_value ns).accepts u ≡ list_any (λ e. accepts o.world u e.1 v) es
+      any_accept [] [] h = refl
+      any_accept (n ∷ ns) (e ∷ es) h = λ i. h.0.verdict u v i || any_accept ns es h.1 i
+      any_accept _ _ h = absurd h
 
-    members_show : (Q : Path) (ms : List (Name × Data)) (ns : List N) (es : List (Name × Data)) (L : Path) → StandEach o answers ns es L
-        → flat_map (λ m. map (λ n. (answers n).tree u m.1 (Q // m.0)) (option_to_list (lookup_name m.0 (zip (map (λ e. e.0) es) ns)))) ms ≡ flat_map (shown_at o.world u v L Q es) ms
-    members_show Q [] ns es L h = refl
-    members_show Q (m ∷ ms) ns es L h = λ i. member_shows Q m ns es L h i ++ members_show Q ms ns es L h i
+      pub any_ask : (ns : List N) (es : Rows) → StandEach o answers ns es L → (some at_value ns).asks u ≤ sum_by (λ e. asks o.world u e.1 v) es
+      any_ask [] [] h = omega arith
+      any_ask (n ∷ ns) (e ∷ es) h = more_within _ _ _ _ _ (h.0.asks_within u v) (any_ask ns es h.1) (sum_by-cons _ e es)
+      any_ask _ _ h = absurd h
 
-    declared_show : (Q : Path) (more : List Tree) (ns : List N) (es : List (Name × Data)) (L : Path) → StandEach o answers ns es L
-        → properties_tree (λ n. (answers n).tree u) v Q L (zip (map (λ e. e.0) es) ns) more ≡ shown_declared o.world u v L Q es more
-    declared_show Q more ns es L h =
-        λ i. result L Q (cond (is_object v) (Some (map (λ m. m.0) (filter_once (λ m. is_among m.0 (zip_names ns es L h i)) (members v)))) None) false []
-        (members_show Q (members v) ns es L h i ++ more)
+      pub any_context : (Q : Path) (ns : List N) (es : Rows) → StandEach o answers ns es L → IsLikeContext (found_in Q ns) (meant_in Q L es)
+      any_context Q [] [] h = like_none
+      any_context Q (n ∷ ns) (e ∷ es) h =
+          like_branch (subst₂ (λ x y. x ∼ y) (sym (faults_in-from ((answers n).report u v Q))) (sym (faults_in-from (report o.world u e.1 v (L // e.0) Q)))
+          (h.0.faults u v Q)) (any_context Q ns es h.1)
+      any_context Q _ _ h = absurd h
 
-  any_fault : (b : Bool) (c d : Context) (v : Data) (P Q : Path) → IsLikeContext c d → fault_if b (AnyOf c) v P Q ∼ fault_if b (AnyOf d) v P Q
-  any_fault true c d v P Q h = like_next (like (like_any_of h)) like_empty
-  any_fault false c d v P Q h = like_empty
+      pub branches_show : (Q : Path) (ns : List N) (es : Rows) → StandEach o answers ns es L → map (λ n. (answers n).tree u v Q) ns ≡ branches_shown o.world u v L Q es
+      branches_show Q ns es h = each_show o answers _ u v _ Q _ _ (schemas_answer o answers ns es L h)
+
+      pub accepting_show : (Q : Path) (ns : List N) (es : Rows) → StandEach o answers ns es L → map (λ n. (answers n).tree u v Q)
+          (filter_once accepts_value ns) ≡ branches_shown o.world u v L Q (accepting_branches o.world u v es)
+      accepting_show Q [] [] h = refl
+      accepting_show Q (n ∷ ns) (e ∷ es) h =
+          ap (λ b. map (λ n. (answers n).tree u v Q) (put_if b n (filter_once accepts_value ns))) (h.0.verdict u v) ∙ by (accepts o.world u e.1 v) (accepting_show Q ns es h.1)
+        where
+          by : (b : Bool) → map (λ n. (answers n).tree u v Q) (filter_once accepts_value ns) ≡ branches_shown o.world u v L Q (accepting_branches o.world u v es)
+              → map (λ n. (answers n).tree u v Q) (put_if b n (filter_once accepts_value ns)) ≡ branches_shown o.world u v L Q (put_if b e (accepting_branches o.world u v es))
+          by true g = λ i. h.0.evaluation u v Q i ∷ g i
+          by false g = g
+      accepting_show Q _ _ h = absurd h
+
+      any_show : (Q : Path) (ns : List N) (es : Rows) → StandEach o answers ns es L → any_of_tree (λ n. (answers n).tree u) v Q accepts_value L ns ≡ any_shown o.world u v L Q es
+      any_show Q ns es h = λ i. cond (none i) (result L Q None true [] (branches_show Q ns es h i)) (plain L Q (accepting_show Q ns es h i))
+        where
+          none : is_empty (filter_once accepts_value ns) ≡ is_empty (accepting_branches o.world u v es)
+          none =
+              sym (is_empty-map (λ n. (answers n).tree u v Q) (filter_once accepts_value ns)) ∙ ap is_empty (accepting_show Q ns es h)
+              ∙ is_empty-map (λ e. tree o.world u e.1 v (L // e.0) Q) (accepting_branches o.world u v es)
+
+      zip_names : (ns : List N) (es : Rows) → StandEach o answers ns es L → keys_in (zip (keys_in es) ns) ≡ keys_in es
+      zip_names [] [] h = refl
+      zip_names (n ∷ ns) (e ∷ es) h = ap (λ ks. e.0 ∷ ks) (zip_names ns es h.1)
+      zip_names _ _ h = absurd h
+
+      member_shows : (Q : Path) (m : Name × Data) (ns : List N) (es : Rows) → StandEach o answers ns es L
+          → map (λ n. (answers n).tree u m.1 (Q // m.0)) (option_to_list (lookup_name m.0 (zip (keys_in es) ns))) ≡ shown_at o.world u v L Q es m
+      member_shows Q m [] [] h = refl
+      member_shows Q m (n ∷ ns) (e ∷ es) h = by (slice_cmp nat_cmp m.0 e.0) (is_eq-slice_cmp m.0 e.0) (member_shows Q m ns es h.1)
+        where
+          by : (c : Ordering) → is_eq c ≡ bytes_eq m.0 e.0 → map (λ n. (answers n).tree u m.1 (Q // m.0)) (option_to_list (lookup_name m.0 (zip (keys_in es) ns))) ≡ shown_at o.world u v L Q es m
+              → map (λ n. (answers n).tree u m.1 (Q // m.0)) (option_to_list (first_if_equal c n (lookup_name m.0 (zip (keys_in es) ns)))) ≡ map
+              (λ d. tree o.world u d m.1 (L // m.0) (Q // m.0)) (option_to_list (first_if_equal c e.1 (lookup_name m.0 es)))
+          by Less q g = g
+          by Equal q g = (λ i. h.0.evaluation u m.1 (Q // m.0) i ∷ []) ∙ ap (λ k. tree o.world u e.1 m.1 (L // k) (Q // m.0) ∷ []) (sym (same_name m.0 e.0 (sym q)))
+          by Greater q g = g
+      member_shows Q m _ _ h = absurd h
+
+      members_show : (Q : Path) (ms : Rows) (ns : List N) (es : Rows) → StandEach o answers ns es L
+          → flat_map (λ m. map (λ n. (answers n).tree u m.1 (Q // m.0)) (option_to_list (lookup_name m.0 (zip (keys_in es) ns)))) ms ≡ flat_map (shown_at o.world u v L Q es) ms
+      members_show Q [] ns es h = refl
+      members_show Q (m ∷ ms) ns es h = λ i. member_shows Q m ns es h i ++ members_show Q ms ns es h i
+
+      declared_show : (Q : Path) (more : List Tree) (ns : List N) (es : Rows) → StandEach o answers ns es L
+          → properties_tree (λ n. (answers n).tree u) v Q L (zip (keys_in es) ns) more ≡ shown_declared o.world u v L Q es more
+      declared_show Q more ns es h =
+          λ i. result L Q (cond (is_object v) (Some (map (λ m. m.0) (filter_once (λ m. is_among m.0 (zip_names ns es h i)) (members v)))) None) false []
+          (members_show Q (members v) ns es h i ++ more)
 
   -- ---- one keyword
+
+  -- what a keyword answers, told of what it holds
+  pub record Answered (k : KeywordOver K R N) (u : Bool) (v : Data) (accepted : Bool) (asked : ℕ) (reported : Path → List Fault) (evaluated : Path → Tree) : Type 0 where
+    pub verdict : (question k v).accepts u ≡ accepted
+    pub asks_within : (question k v).asks u ≤ asked
+    pub faults : (Q : Path) → found u k v Q ≡ reported Q
+    pub evaluation : (Q : Path) → shown u k v Q ≡ evaluated Q
 
   module _ (ms : Members) (k : KeywordOver K R N) (m : Name × Data) (w : Keyword) (P : Path) where
     pub one_if_free : ((u : Bool) (v : Data) → (question k v).accepts u ≡ member_accepts o.world ms m w u v)
@@ -225,47 +243,27 @@ module _ {K R N : Type 0} (o : Kit K R) (answers : N → Answers) where
 
   -- ---- properties
 
-  module _ (m : PropertiesMap N) (ns : List N) (L : Path) (es : List (Name × Data)) (held : mapped m ≡ zip (map (λ e. e.0) es) ns) (stand : StandEach o answers ns es L) where
-    abbrev properties_keyword : KeywordOver K R N
-    properties_keyword = keyword.Properties (record { properties = m; location = L })
-
-    module _ (u : Bool) (v : Data) where
-      properties_accept : (question properties_keyword v).accepts u ≡ list_all (λ e. list_all (accepts o.world u e.1) (at e.0 v)) es
-      unfolding answers_of
-      properties_accept = ap (λ ds. (every (each_at u v) ds).accepts u) held ∙ members_accept u v ns es L stand
-
-      properties_ask : (question properties_keyword v).asks u ≤ sum_by (λ e. sum_by (asks o.world u e.1) (at e.0 v)) es
-      unfolding answers_of
-      properties_ask = subst (λ ds. (every (each_at u v) ds).asks u ≤ sum_by (λ e. sum_by (asks o.world u e.1) (at e.0 v)) es) (sym held) (members_ask u v ns es L stand)
-
-      properties_find : (Q : Path) → found u properties_keyword v Q ∼ flat_map (λ e. flat_map (λ x. report o.world u e.1 x (L // e.0) (Q // e.0)) (at e.0 v)) es
-      unfolding answers_of
-      properties_find Q =
-          subst (λ ds. flat_map (λ e. flat_map (λ x. (answers e.1).report u x (Q // e.0)) (at e.0 v)) ds ∼ flat_map
-          (λ e. flat_map (λ x. report o.world u e.1 x (L // e.0) (Q // e.0)) (at e.0 v)) es) (sym held) (members_find u v Q ns es L stand)
-
-      properties_show : (Q : Path) (more : List Tree) → properties_tree (λ n. (answers n).tree u) v Q L (mapped m) more ≡ shown_declared o.world u v L Q es more
-      properties_show Q more = ap (λ ds. properties_tree (λ n. (answers n).tree u) v Q L ds more) held ∙ declared_show u v Q more ns es L stand
-
-      alone_show : (Q : Path) → shown u properties_keyword v Q ≡ properties_tree (λ n. (answers n).tree u) v Q L (mapped m) []
-      unfolding answers_of
-      alone_show Q = refl
+  properties_show : (m : PropertiesMap N) (ns : List N) (L : Path) (es : Rows) → mapped m ≡ zip (keys_in es) ns → StandEach o answers ns es L
+      → (u : Bool) (v : Data) (Q : Path) (more : List Tree) → properties_tree (λ n. (answers n).tree u) v Q L (mapped m) more ≡ shown_declared o.world u v L Q es more
+  properties_show m ns L es held stand u v Q more = ap (λ ds. properties_tree (λ n. (answers n).tree u) v Q L ds more) held ∙ declared_show u v L Q more ns es stand
 
   pub means_properties : (m : PropertiesMap N) (ns : List N) (L : Path) (fs : Members) (d : Data) → d ≡ object fs → is_map_formed m ≡ true
-      → mapped m ≡ zip (map (λ e. e.0) (listed fs)) ns → StandEach o answers ns (listed fs) L → (ms : Members) (P : Path) → L ≡ P // codes "properties" → KeywordMeans o answers ms
+      → mapped m ≡ zip (keys_in (listed fs)) ns → StandEach o answers ns (listed fs) L → (ms : Members) (P : Path) → L ≡ P // codes "properties" → KeywordMeans o answers ms
       (keyword.Properties (record { properties = m; location = L }) ∷ []) (codes "properties", d) P
-  means_properties m ns L fs d q sized held stand ms P p = subst (λ x. KeywordMeans o answers ms (properties_keyword m ns L (listed fs) held stand ∷ []) (codes "properties", x) P) (sym q) (record {
-    holds = one ms (properties_keyword m ns L (listed fs) held stand) (codes "properties", object fs) properties P
-        (λ u v. properties_accept m ns L (listed fs) held stand u v ∙ sym (fact.properties_accepts o.world ms fs u v))
-        (λ u v. same_within _ _ _ (properties_ask m ns L (listed fs) held stand u v) (fact.properties_asks o.world ms fs u v))
-        (λ u v Q. subst (λ l. found u (properties_keyword m ns L (listed fs) held stand) v Q ∼ l)
+  unfolding answers_of
+  means_properties m ns L fs d q sized held stand ms P p = subst
+      (λ x. KeywordMeans o answers ms (keyword.Properties (record { properties = m; location = L }) ∷ []) (codes "properties", x) P) (sym q) (record {
+    holds = one ms (keyword.Properties (record { properties = m; location = L })) (codes "properties", object fs) properties P
+        (λ u v. ap (λ ds. (every (each_at u v) ds).accepts u) held ∙ members_accept u v _ _ _ stand ∙ sym (fact.properties_accepts o.world ms fs u v))
+        (λ u v. subst₂ (λ ds n. (every (each_at u v) ds).asks u ≤ n) (sym held) (sym (fact.properties_asks o.world ms fs u v)) (members_ask u v _ _ _ stand))
+        (λ u v Q. subst₂ (λ ds l. flat_map (λ e. flat_map (λ x. (answers e.1).report u x (Q // e.0)) (at e.0 v)) ds ∼ l) (sym held)
         (ap (λ M. flat_map (λ e. flat_map (λ x. report o.world u e.1 x (M // e.0) (Q // e.0)) (at e.0 v)) (listed fs)) p ∙ sym (fact.properties_report o.world ms fs u v P Q))
-        (properties_find m ns L (listed fs) held stand u v Q));
+        (members_find u v _ Q _ _ stand));
     shows = λ u h v Q.
-        ap (λ t. t ∷ []) (alone_show m ns L (listed fs) held stand u v Q ∙ properties_show m ns L (listed fs) held stand u v Q [] ∙ ap (λ M. shown_declared o.world u v M Q (listed fs) []) p)
+        ap (λ t. t ∷ []) (properties_show m ns L (listed fs) held stand u v Q [] ∙ ap (λ M. shown_declared o.world u v M Q (listed fs) []) p)
         ∙ ap (λ b. shown_declared o.world u v (P // codes "properties") Q (listed fs) (missing_child o.world u (read_members (meaning_step o.world u) ms) v P Q b) ∷ []) (sym h.2)
         ∙ sym (properties_child o.world u v ms P Q fs h.0 h.1);
-    formed = just_one_formed o answers (properties_keyword m ns L (listed fs) held stand) (properties_formed o answers m L sized (each_held_formed o answers (mapped m) ns (listed fs) L held (schema_answers o answers) (schemas_answer o answers ns (listed fs) L stand)));
+    formed = just_one_formed o answers (keyword.Properties (record { properties = m; location = L })) (properties_formed o answers m L sized (each_held_formed o answers (mapped m) _ _ _ held _ (schemas_answer o answers _ _ _ stand)));
   })
 
   -- ---- properties, with required or alone
@@ -329,14 +327,14 @@ module _ {K R N : Type 0} (o : Kit K R) (answers : N → Answers) where
       by false h = refl
       by true h = h
 
-  few_formed : (k : SmallPropertiesWithRequired2 N) (fs : Members) (d : Data) → d ≡ object fs → length (named k.properties) ≡ length (map (λ e. e.0) (listed fs))
+  few_formed : (k : SmallPropertiesWithRequired2 N) (fs : Members) (d : Data) → d ≡ object fs → length (named k.properties) ≡ length (keys_in (listed fs))
       → declares_few (Some d) ≡ true → is_map_formed (Small k.properties) ≡ true
   few_formed k fs d q count few = ap (λ n. nat_lt n HASHMAP_THRESHOLD) (count ∙ length-map (listed fs) (λ e. e.0)) ∙ ap (λ x. declares_few (Some x)) (sym q) ∙ few
 
   pub means_form : (k : KeywordOver K R N) (names : List Name) (ns : List N) (L P : Path) (t : Option (Name × Name)) (fs : Members) (d : Data)
-      → d ≡ object fs → names ≡ map (λ e. e.0) (listed fs) → StandEach o answers ns (listed fs) L → IsFormOfProperties P L names ns t k
+      → d ≡ object fs → names ≡ keys_in (listed fs) → StandEach o answers ns (listed fs) L → IsFormOfProperties P L names ns t k
       → (ms : Members) → L ≡ P // codes "properties" → has_repeat (names_of (listed ms)) ≡ false → lookup_name (codes "properties") (listed ms) ≡ Some d
-      → t ≡ fused_pair ms → is_restricted ms ≡ false → KeywordsMean o answers ms (k ∷ []) (claims (head (plan_of ms)) (listed ms) (codes "properties", d)) ((codes "properties", d) ∷ []) P
+      → t ≡ fused_pair ms → is_restricted ms ≡ false → MeanClaim o answers ms (plan_of ms) (k ∷ []) (codes "properties", d) P
   means_form (keyword.Properties k) names ns L P None fs d q declared stand form ms p distinct there chosen unrestricted =
       subst (λ rows. KeywordsMean o answers ms (keyword.Properties k ∷ []) rows ((codes "properties", d) ∷ []) P)
       (sym (claims_itself ms distinct (head (plan_of ms)) (codes "properties", d)
@@ -346,14 +344,14 @@ module _ {K R N : Type 0} (o : Kit K R) (answers : N → Answers) where
       ((codes "properties", d) ∷ []) P) (sym form.2)
       (means_alone o answers ms P _ (codes "properties", d) (ap (λ b. b && true) unrestricted)
       (λ clean u. (there, restricted_read (meaning_step o.world u) ms ∙ unrestricted, fused o.world ms P clean (meaning_step o.world u) ∙ ap is_some (sym chosen)))
-      (means_properties k.properties ns L fs d q (map_formed k.properties (length names) (each_long o answers (mapped k.properties) ns (listed fs) L held (schema_answers o answers) (schemas_answer o answers ns (listed fs) L stand) ∙ ap length (sym declared)) form.1) held stand ms P p)))
+      (means_properties k.properties ns L fs d q (map_formed k.properties (length names) (each_long o answers (mapped k.properties) _ _ _ held _ (schemas_answer o answers _ _ _ stand) ∙ ap length (sym declared)) form.1) held stand ms P p)))
     where
-      held : mapped k.properties ≡ zip (map (λ e. e.0) (listed fs)) ns
+      held : mapped k.properties ≡ zip (keys_in (listed fs)) ns
       held = form.0 ∙ ap (λ ks. zip ks ns) declared
   means_form (keyword.PropertiesWithRequired2 k) names ns L P (Some t) fs d q declared stand form ms p distinct there chosen unrestricted =
       let both = fuses ms distinct t chosen in
-      let held : named k.value.properties ≡ zip (map (λ e. e.0) (listed fs)) ns = form.0 ∙ ap (λ ks. zip ks ns) declared in
-      let count = each_long o answers (named k.value.properties) ns (listed fs) L held (schema_answers o answers) (schemas_answer o answers ns (listed fs) L stand) in
+      let held : named k.value.properties ≡ zip (keys_in (listed fs)) ns = form.0 ∙ ap (λ ks. zip ks ns) declared in
+      let count = each_long o answers (named k.value.properties) _ _ _ held _ (schemas_answer o answers _ _ _ stand) in
       let few : is_map_formed (Small k.value.properties) ≡ true = few_formed k.value fs d q count (ap declares_few (sym there ∙ both.declared) ∙ both.few) in
       let plain = means_properties (Small k.value.properties) ns L fs d q few held stand ms P p in
       means_permuted o answers ms P (keyword.PropertiesWithRequired2 k ∷ []) ((codes "properties", d) ∷ (codes "required", listing t) ∷ [])
@@ -372,7 +370,7 @@ module _ {K R N : Type 0} (o : Kit K R) (answers : N → Answers) where
             (there ∙ ap Some q) (restricted_read step ms ∙ unrestricted));
         formed =
             just_one_formed o answers (keyword.PropertiesWithRequired2 k)
-            (required2_formed o answers k few ((λ i. bytes_eq (form.2 i) (form.3 i)) ∙ both.differ) (each_held_formed o answers (named k.value.properties) ns (listed fs) L held (schema_answers o answers) (schemas_answer o answers ns (listed fs) L stand)));
+            (required2_formed o answers k few ((λ i. bytes_eq (form.2 i) (form.3 i)) ∙ both.differ) (each_held_formed o answers (named k.value.properties) _ _ _ held _ (schemas_answer o answers _ _ _ stand)));
       }
   means_form k names ns L P None fs d q declared stand form ms p distinct there chosen unrestricted = absurd form
   means_form k names ns L P (Some t) fs d q declared stand form ms p distinct there chosen unrestricted = absurd form
@@ -380,187 +378,123 @@ module _ {K R N : Type 0} (o : Kit K R) (answers : N → Answers) where
   -- ---- branches
 
   module _ (L : Path) (ns : List N) (u : Bool) (v : Data) where
-    all_form_accepts : (k : KeywordOver K R N) → IsFormOfAllOf L ns k → (question k v).accepts u ≡ (every (at_value u v) ns).accepts u
-    unfolding answers_of
-    all_form_accepts (keyword.AllOf k) f = ap (λ xs. (every (at_value u v) xs).accepts u) f.0
-    all_form_accepts (keyword.SingleValueAllOf k) f = sym (and-true (((answers k.node).means v).accepts u)) ∙ ap (λ xs. (every (at_value u v) xs).accepts u) (sym f.0)
-    all_form_accepts k f = absurd f
+    abbrev trees_of : Path → List N → List Tree
+    trees_of Q xs = branch_trees (λ n. (answers n).tree u) v Q xs
 
-    all_form_asks : (k : KeywordOver K R N) → IsFormOfAllOf L ns k → (question k v).asks u ≤ (every (at_value u v) ns).asks u
+    all_form : (k : KeywordOver K R N) → IsFormOfAllOf L ns k
+        → Answered k u v ((every (at_value u v) ns).accepts u) ((every (at_value u v) ns).asks u) (λ Q. flat_map (λ n. (answers n).report u v Q) ns) (λ Q. plain L Q (trees_of Q ns))
     unfolding answers_of
-    all_form_asks (keyword.AllOf k) f = let e = ap (λ xs. (every (at_value u v) xs).asks u) f.0 in omega (arith, e)
-    all_form_asks (keyword.SingleValueAllOf k) f = let e = ap (λ xs. (every (at_value u v) xs).asks u) f.0 in omega (arith, e)
-    all_form_asks k f = absurd f
-
-    all_form_finds : (Q : Path) (k : KeywordOver K R N) → IsFormOfAllOf L ns k → found u k v Q ≡ flat_map (λ n. (answers n).report u v Q) ns
-    unfolding answers_of
-    all_form_finds Q (keyword.AllOf k) f = ap (flat_map (λ n. (answers n).report u v Q)) f.0
-    all_form_finds Q (keyword.SingleValueAllOf k) f = sym (append-nil ((answers k.node).report u v Q)) ∙ ap (flat_map (λ n. (answers n).report u v Q)) (sym f.0)
-    all_form_finds Q k f = absurd f
-
-    all_form_shows : (Q : Path) (k : KeywordOver K R N) → IsFormOfAllOf L ns k → shown u k v Q ≡ plain L Q (branch_trees (λ n. (answers n).tree u) v Q ns)
-    unfolding answers_of
-    all_form_shows Q (keyword.AllOf k) f = λ i. plain (f.2 i) Q (branch_trees (λ n. (answers n).tree u) v Q (f.0 i))
-    all_form_shows Q (keyword.SingleValueAllOf k) f = λ i. plain (f.1 i) Q (branch_trees (λ n. (answers n).tree u) v Q (sym f.0 i))
-    all_form_shows Q k f = absurd f
-
-    any_form_shows : (Q : Path) (k : KeywordOver K R N) → IsFormOfAnyOf L ns k → shown u k v Q ≡ any_of_tree (λ n. (answers n).tree u) v Q (accepts_value u v) L ns
-    unfolding answers_of
-    any_form_shows Q (keyword.AnyOf k) f = λ i. any_of_tree (λ n. (answers n).tree u) v Q (accepts_value u v) (f.2 i) (f.0 i)
-    any_form_shows Q (keyword.SingleAnyOf k) f = λ i. any_of_tree (λ n. (answers n).tree u) v Q (accepts_value u v) (f.1 i) (sym f.0 i)
-    any_form_shows Q k f = absurd f
-
-    any_form_accepts : (k : KeywordOver K R N) → IsFormOfAnyOf L ns k → (question k v).accepts u ≡ (some (at_value u v) ns).accepts u
-    unfolding answers_of
-    any_form_accepts (keyword.AnyOf k) f = ap (λ xs. (some (at_value u v) xs).accepts u) f.0
-    any_form_accepts (keyword.SingleAnyOf k) f = sym (or-false (((answers k.node).means v).accepts u)) ∙ ap (λ xs. (some (at_value u v) xs).accepts u) (sym f.0)
-    any_form_accepts k f = absurd f
-
-    any_form_asks : (k : KeywordOver K R N) → IsFormOfAnyOf L ns k → (question k v).asks u ≤ (some (at_value u v) ns).asks u
-    unfolding answers_of
-    any_form_asks (keyword.AnyOf k) f = let e = ap (λ xs. (some (at_value u v) xs).asks u) f.0 in omega (arith, e)
-    any_form_asks (keyword.SingleAnyOf k) f = let e = ap (λ xs. (some (at_value u v) xs).asks u) f.0 in omega (arith, e)
-    any_form_asks k f = absurd f
+    all_form (keyword.AllOf k) f = record {
+      verdict = ap (λ xs. (every (at_value u v) xs).accepts u) f.0;
+      asks_within = let e = ap (λ xs. (every (at_value u v) xs).asks u) f.0 in omega (arith, e);
+      faults = λ Q. ap (flat_map (λ n. (answers n).report u v Q)) f.0;
+      evaluation = λ Q. λ i. plain (f.2 i) Q (trees_of Q (f.0 i));
+    }
+    all_form (keyword.SingleValueAllOf k) f = record {
+      verdict = sym (and-true (((answers k.node).means v).accepts u)) ∙ ap (λ xs. (every (at_value u v) xs).accepts u) (sym f.0);
+      asks_within = let e = ap (λ xs. (every (at_value u v) xs).asks u) f.0 in omega (arith, e);
+      faults = λ Q. sym (append-nil ((answers k.node).report u v Q)) ∙ ap (flat_map (λ n. (answers n).report u v Q)) (sym f.0);
+      evaluation = λ Q. λ i. plain (f.1 i) Q (trees_of Q (sym f.0 i));
+    }
+    all_form k f = absurd f
 
     abbrev any_faults : List N → Path → Path → List Fault
-    any_faults xs M Q = fault_if (not ((some (at_value u v) xs).accepts u)) (AnyOf (context (map (λ n. (answers n).report u v Q) xs))) v M Q
+    any_faults xs M Q = fault_if (not ((some (at_value u v) xs).accepts u)) (AnyOf (found_in u v Q xs)) v M Q
 
-    any_form_finds : (Q : Path) (k : KeywordOver K R N) → IsFormOfAnyOf L ns k → found u k v Q ≡ any_faults ns L Q
+    abbrev any_tree : List N → Path → Path → Tree
+    any_tree xs M Q = any_of_tree (λ n. (answers n).tree u) v Q (accepts_value u v) M xs
+
+    any_form : (k : KeywordOver K R N) → IsFormOfAnyOf L ns k → Answered k u v ((some (at_value u v) ns).accepts u) ((some (at_value u v) ns).asks u) (any_faults ns L) (any_tree ns L)
     unfolding answers_of
-    any_form_finds Q (keyword.AnyOf k) f = λ i. any_faults (f.0 i) (f.2 i) Q
-    any_form_finds Q (keyword.SingleAnyOf k) f =
-        ap (λ b. fault_if (not b) (AnyOf (context ((answers k.node).report u v Q ∷ []))) v k.location Q) (sym (or-false (((answers k.node).means v).accepts u)))
-        ∙ (λ i. any_faults (sym f.0 i) (f.1 i) Q)
-    any_form_finds Q k f = absurd f
+    any_form (keyword.AnyOf k) f = record {
+      verdict = ap (λ xs. (some (at_value u v) xs).accepts u) f.0;
+      asks_within = let e = ap (λ xs. (some (at_value u v) xs).asks u) f.0 in omega (arith, e);
+      faults = λ Q. λ i. any_faults (f.0 i) (f.2 i) Q;
+      evaluation = λ Q. λ i. any_tree (f.0 i) (f.2 i) Q;
+    }
+    any_form (keyword.SingleAnyOf k) f = record {
+      verdict = sym (or-false (((answers k.node).means v).accepts u)) ∙ ap (λ xs. (some (at_value u v) xs).accepts u) (sym f.0);
+      asks_within = let e = ap (λ xs. (some (at_value u v) xs).asks u) f.0 in omega (arith, e);
+      faults = λ Q.
+          ap (λ b. fault_if (not b) (AnyOf (found_in u v Q (k.node ∷ []))) v k.location Q) (sym (or-false (((answers k.node).means v).accepts u)))
+          ∙ (λ i. any_faults (sym f.0 i) (f.1 i) Q);
+      evaluation = λ Q. λ i. any_tree (sym f.0 i) (f.1 i) Q;
+    }
+    any_form k f = absurd f
 
   pub at_most_through : (a b c : ℕ) → a ≤ b → b ≤ c → a ≤ c
   at_most_through a b c h k = omega (arith, h, k)
 
-  pub means_all_of : (k : KeywordOver K R N) (ns : List N) (L : Path) (ds : Items) (d : Data) → d ≡ array ds → IsFormOfAllOf L ns k
-      → StandEach o answers ns (numbered (items_list ds)) L → (ms : Members) (P : Path) → L ≡ P // codes "allOf" → KeywordMeans o answers ms (k ∷ []) (codes "allOf", d) P
-  means_all_of k ns L ds d q form stand ms P p = subst (λ x. KeywordMeans o answers ms (k ∷ []) (codes "allOf", x) P) (sym q) (record {
+  pub means_all_of : (k : KeywordOver K R N) (ns : List N) (L : Path) (d : Data) → is_array d ≡ true → IsFormOfAllOf L ns k
+      → StandEach o answers ns (numbered (items_of_array d)) L → (ms : Members) (P : Path) → L ≡ P // codes "allOf" → KeywordMeans o answers ms (k ∷ []) (codes "allOf", d) P
+  means_all_of k ns L (array ds) is form stand ms P p = record {
     holds = one ms k (codes "allOf", array ds) all_of P
-        (λ u v. all_form_accepts L ns u v k form ∙ each_accept o answers (schema_answers o answers) u v ns (numbered (items_list ds)) L answer ∙ sym (fact.all_of_accepts o.world ms ds u v))
-        (λ u v. same_within _ _ _ (at_most_through _ _ _ (all_form_asks L ns u v k form) (each_ask o answers (schema_answers o answers) u v ns (numbered (items_list ds)) L answer))
+        (λ u v. (all_form L ns u v k form).verdict ∙ each_accept o answers _ u v _ _ _ answer ∙ sym (fact.all_of_accepts o.world ms ds u v))
+        (λ u v. same_within _ _ _ (at_most_through _ _ _ (all_form L ns u v k form).asks_within (each_ask o answers _ u v _ _ _ answer))
         (fact.all_of_asks o.world ms ds u v))
-        (λ u v Q. subst₂ (λ x y. x ∼ y) (sym (all_form_finds L ns u v Q k form))
+        (λ u v Q. subst₂ (λ x y. x ∼ y) (sym ((all_form L ns u v k form).faults Q))
         (ap (λ M. flat_map (λ e. report o.world u e.1 v (M // e.0) Q) (numbered (items_list ds))) p ∙ sym (fact.all_of_report o.world ms ds u v P Q))
-        (each_find o answers (schema_answers o answers) u v Q ns (numbered (items_list ds)) L answer));
+        (each_find o answers _ u v _ Q _ _ answer));
     shows = λ u h v Q.
-        ap (λ t. t ∷ []) (all_form_shows L ns u v Q k form ∙ ap (plain L Q) (branches_show u v Q ns (numbered (items_list ds)) L stand)
+        ap (λ t. t ∷ []) ((all_form L ns u v k form).evaluation Q ∙ ap (plain L Q) (branches_show u v _ Q _ _ stand)
         ∙ ap (λ M. plain M Q (branches_shown o.world u v M Q (numbered (items_list ds)))) p)
         ∙ sym (all_of_child o.world u v ms P Q ds);
-    formed = just_one_formed o answers k (all_of_formed o answers k L ns form (stand_formed o answers ns (numbered (items_list ds)) L stand));
-  })
+    formed = just_one_formed o answers k (all_of_formed o answers k L ns form (stand_formed o answers _ _ _ stand));
+  }
     where
       answer : AnswerEach o answers (schema_answers o answers) ns (numbered (items_list ds)) L
-      answer = schemas_answer o answers ns (numbered (items_list ds)) L stand
+      answer = schemas_answer o answers _ _ _ stand
+  means_all_of k ns L d is form stand ms P p = absurd (true≢false (sym is))
 
-  pub means_any_of : (k : KeywordOver K R N) (ns : List N) (L : Path) (ds : Items) (d : Data) → d ≡ array ds → IsFormOfAnyOf L ns k
-      → StandEach o answers ns (numbered (items_list ds)) L → (ms : Members) (P : Path) → L ≡ P // codes "anyOf" → KeywordMeans o answers ms (k ∷ []) (codes "anyOf", d) P
-  means_any_of k ns L ds d q form stand ms P p = subst (λ x. KeywordMeans o answers ms (k ∷ []) (codes "anyOf", x) P) (sym q) (record {
+  pub means_any_of : (k : KeywordOver K R N) (ns : List N) (L : Path) (d : Data) → is_array d ≡ true → IsFormOfAnyOf L ns k
+      → StandEach o answers ns (numbered (items_of_array d)) L → (ms : Members) (P : Path) → L ≡ P // codes "anyOf" → KeywordMeans o answers ms (k ∷ []) (codes "anyOf", d) P
+  means_any_of k ns L (array ds) is form stand ms P p = record {
     holds = one ms k (codes "anyOf", array ds) any_of P
-        (λ u v. any_form_accepts L ns u v k form ∙ any_accept u v ns (numbered (items_list ds)) L stand ∙ sym (fact.any_of_accepts o.world ms ds u v))
-        (λ u v. same_within _ _ _ (at_most_through _ _ _ (any_form_asks L ns u v k form) (any_ask u v ns (numbered (items_list ds)) L stand)) (fact.any_of_asks o.world ms ds u v))
-        (λ u v Q. subst₂ (λ x y. x ∼ y) (told u v Q) (meant u v Q) (any_fault (not (list_any (λ e. accepts o.world u e.1 v) (numbered (items_list ds))))
-        (context (map (λ n. (answers n).report u v Q) ns)) (context (map (λ e. report o.world u e.1 v (L // e.0) Q) (numbered (items_list ds)))) v L Q
-        (any_context u v Q ns (numbered (items_list ds)) L stand)));
+        (λ u v. (any_form L ns u v k form).verdict ∙ any_accept u v _ _ _ stand ∙ sym (fact.any_of_accepts o.world ms ds u v))
+        (λ u v. same_within _ _ _ (at_most_through _ _ _ (any_form L ns u v k form).asks_within (any_ask u v _ _ _ stand)) (fact.any_of_asks o.world ms ds u v))
+        (λ u v Q. subst₂ (λ x y. x ∼ y)
+        (ap (λ b. fault_if (not b) (AnyOf (found_in u v Q ns)) v L Q) (sym (any_accept u v _ _ _ stand)) ∙ sym ((any_form L ns u v k form).faults Q))
+        (ap (λ M. fault_if (none_accepts u v (numbered (items_list ds))) (AnyOf (meant_in u v Q M (numbered (items_list ds)))) v M Q) p ∙ sym (fact.any_of_report o.world ms ds u v P Q))
+        (fault_like (none_accepts u v (numbered (items_list ds))) v L Q (like_any_of (any_context u v _ Q _ _ stand))));
     shows = λ u h v Q.
-        ap (λ t. t ∷ []) (any_form_shows L ns u v Q k form ∙ any_show u v Q ns (numbered (items_list ds)) L stand ∙ ap (λ M. any_shown o.world u v M Q (numbered (items_list ds))) p)
+        ap (λ t. t ∷ []) ((any_form L ns u v k form).evaluation Q ∙ any_show u v _ Q _ _ stand ∙ ap (λ M. any_shown o.world u v M Q (numbered (items_list ds))) p)
         ∙ sym (any_of_child o.world u v ms P Q ds);
-    formed = just_one_formed o answers k (any_of_formed o answers k L ns form (stand_formed o answers ns (numbered (items_list ds)) L stand));
-  })
-    where
-      told : (u : Bool) (v : Data) (Q : Path) → fault_if (not (list_any (λ e. accepts o.world u e.1 v) (numbered (items_list ds))))
-          (AnyOf (context (map (λ n. (answers n).report u v Q) ns))) v L Q ≡ found u k v Q
-      told u v Q =
-          ap (λ b. fault_if (not b) (AnyOf (context (map (λ n. (answers n).report u v Q) ns))) v L Q) (sym (any_accept u v ns (numbered (items_list ds)) L stand))
-          ∙ sym (any_form_finds L ns u v Q k form)
-
-      meant : (u : Bool) (v : Data) (Q : Path) → fault_if (not (list_any (λ e. accepts o.world u e.1 v) (numbered (items_list ds))))
-          (AnyOf (context (map (λ e. report o.world u e.1 v (L // e.0) Q) (numbered (items_list ds))))) v L Q ≡ member_report o.world ms (codes "anyOf", array ds) any_of u v P Q
-      meant u v Q =
-          ap (λ M. fault_if (not (list_any (λ e. accepts o.world u e.1 v) (numbered (items_list ds))))
-          (AnyOf (context (map (λ e. report o.world u e.1 v (M // e.0) Q) (numbered (items_list ds))))) v M Q) p ∙ sym (fact.any_of_report o.world ms ds u v P Q)
+    formed = just_one_formed o answers k (any_of_formed o answers k L ns form (stand_formed o answers _ _ _ stand));
+  }
+  means_any_of k ns L d is form stand ms P p = absurd (true≢false (sym is))
 
   -- ---- not
 
-  module _ (original : Value) (n : N) (L : Path) (u : Bool) (v : Data) where
-    abbrev not_of : KeywordOver K R N
-    not_of = keyword.Not (record { original = original; node = n; location = L })
-
-    not_accept : (question not_of v).accepts u ≡ not (((answers n).means v).accepts u)
-    unfolding answers_of
-    not_accept = refl
-
-    not_ask : (question not_of v).asks u ≡ ((answers n).means v).asks u
-    unfolding answers_of
-    not_ask = refl
-
-    not_find : (Q : Path) → found u not_of v Q ≡ fault_if (((answers n).means v).accepts u) (Not (view original)) v L Q
-    unfolding answers_of
-    not_find Q = refl
-
-    not_show : (Q : Path) → shown u not_of v Q ≡ erring L Q (fault_if (((answers n).means v).accepts u) (Not (view original)) v L Q)
-    unfolding answers_of
-    not_show Q = refl
-
-    not_formed : is_formed o answers not_of ≡ has_form o answers n
-    unfolding answers_of
-    not_formed = refl
-
   pub means_not : (original : Value) (n : N) (L : Path) (d : Data) → view original ≡ d → Stands o answers n d L → (ms : Members) (P : Path)
       → L ≡ P // codes "not" → KeywordMeans o answers ms (keyword.Not (record { original = original; node = n; location = L }) ∷ []) (codes "not", d) P
+  unfolding answers_of
   means_not original n L d same stands ms P p = record {
     holds = one ms (keyword.Not (record { original = original; node = n; location = L })) (codes "not", d) not_keyword P
-        (λ u v. not_accept original n L u v ∙ ap not (stands.verdict u v) ∙ sym (fact.not_accepts o.world ms d u v))
-        (λ u v. subst₂ (λ x y. x ≤ y) (sym (not_ask original n L u v)) (sym (fact.not_asks o.world ms d u v)) (stands.asks_within u v))
-        (λ u v Q. ∼_same (not_find original n L u v Q ∙ (λ i. fault_if (stands.verdict u v i) (Not (same i)) v (p i) Q) ∙ sym (fact.not_report o.world ms d u v P Q)));
-    shows = λ u h v Q. ap (λ t. t ∷ []) (not_show original n L u v Q ∙ (λ i. erring (p i) Q (fault_if (stands.verdict u v i) (Not (same i)) v (p i) Q))) ∙ sym (not_child o.world u v ms P Q d);
-    formed = just_one_formed o answers (not_of original n L true d) (not_formed original n L true d ∙ stands.formed);
+        (λ u v. ap not (stands.verdict u v) ∙ sym (fact.not_accepts o.world ms d u v))
+        (λ u v. same_within _ _ _ (stands.asks_within u v) (fact.not_asks o.world ms d u v))
+        (λ u v Q. ∼_same ((λ i. fault_if (stands.verdict u v i) (Not (same i)) v (p i) Q) ∙ sym (fact.not_report o.world ms d u v P Q)));
+    shows = λ u h v Q. (λ i. erring (p i) Q (fault_if (stands.verdict u v i) (Not (same i)) v (p i) Q) ∷ []) ∙ sym (not_child o.world u v ms P Q d);
+    formed = and-true (has_form o answers n) ∙ stands.formed;
   }
 
   -- ---- required
 
-  module _ (names : Vec (String Global) Global) (L : Path) (u : Bool) (v : Data) where
-    abbrev required_of : KeywordOver K R N
-    required_of = keyword.Required (record { required = names; location = L })
-
-    required_accept : (question required_of v).accepts u ≡ is_empty (missing (map string_bytes names.items) v)
-    unfolding answers_of
-    required_accept = refl
-
-    required_ask : (question required_of v).asks u ≡ 0
-    unfolding answers_of
-    required_ask = refl
-
-    required_find : (Q : Path) → found u required_of v Q ≡ required_faults (map string_bytes names.items) v L Q
-    unfolding answers_of
-    required_find Q = refl
-
-    required_show : (Q : Path) → shown u required_of v Q ≡ erring L Q (required_faults (map string_bytes names.items) v L Q)
-    unfolding answers_of
-    required_show Q = refl
-
-    required_formed : is_formed o answers required_of ≡ true
-    unfolding answers_of
-    required_formed = refl
-
   pub means_required : (names : Vec (String Global) Global) (L : Path) (d : Data) → map string_bytes names.items ≡ texts d → (ms : Members) (P : Path)
       → L ≡ P // codes "required" → KeywordMeans o answers ms (keyword.Required (record { required = names; location = L }) ∷ []) (codes "required", d) P
+  unfolding answers_of
   means_required names L d same ms P p = record {
     holds = one ms (keyword.Required (record { required = names; location = L })) (codes "required", d) required P
-        (λ u v. required_accept names L u v ∙ ap (λ ns. is_empty (missing ns v)) same ∙ sym (fact.required_accepts o.world ms d u v))
-        (λ u v. subst₂ (λ x y. x ≤ y) (sym (required_ask names L u v)) (sym (fact.required_asks o.world ms d u v)) (omega arith))
-        (λ u v Q. ∼_same (required_find names L u v Q ∙ (λ i. required_faults (same i) v (p i) Q) ∙ sym (fact.required_report o.world ms d u v P Q)));
-    shows = λ u h v Q. ap (λ t. t ∷ []) (required_show names L u v Q ∙ (λ i. erring (p i) Q (required_faults (same i) v (p i) Q))) ∙ sym (required_child o.world u v ms P Q d h);
-    formed = just_one_formed o answers (required_of names L true d) (required_formed names L true d);
+        (λ u v. (λ i. is_empty (missing (same i) v)) ∙ sym (fact.required_accepts o.world ms d u v))
+        (λ u v. same_within 0 0 _ (omega arith) (fact.required_asks o.world ms d u v))
+        (λ u v Q. ∼_same ((λ i. required_faults (same i) v (p i) Q) ∙ sym (fact.required_report o.world ms d u v P Q)));
+    shows = λ u h v Q. (λ i. erring (p i) Q (required_faults (same i) v (p i) Q) ∷ []) ∙ sym (required_child o.world u v ms P Q d h);
+    formed = refl;
   }
 
   -- no keyword means what claims nothing and shows nothing
   pub nothing_means : (ms : Members) (m : Name × Data) (P : Path) (p : Planned) → claims (head p) (listed ms) m ≡ []
       → (all_malformed o ms P (listed ms) ≡ [] → (u : Bool) (v : Data) (Q : Path) → member_child o.world ms m (which o ms m) u v P Q ≡ [])
-      → KeywordsMean o answers ms [] (claims (head p) (listed ms) m) (m ∷ []) P
+      → MeanClaim o answers ms p [] m P
   nothing_means ms m P p none child = subst (λ rows. KeywordsMean o answers ms [] rows (m ∷ []) P) (sym none) record {
     covers = record { verdict = λ u v. refl; asks_within = λ u v. omega arith; faults = λ u v Q. like_empty };
     shows = λ clean u v Q. sym (append-nil _ ∙ child clean u v Q);
@@ -568,8 +502,7 @@ module _ {K R N : Type 0} (o : Kit K R) (answers : N → Answers) where
   }
 
   -- two names are fused, or one
-  pub means_fused : (t : Name × Name) (d : Data) (ms : Members) (P : Path) → Some t ≡ fused_pair ms → KeywordsMean o answers ms []
-      (claims (head (plan_of ms)) (listed ms) (codes "required", d)) ((codes "required", d) ∷ []) P
+  pub means_fused : (t : Name × Name) (d : Data) (ms : Members) (P : Path) → Some t ≡ fused_pair ms → MeanClaim o answers ms (plan_of ms) [] (codes "required", d) P
   means_fused t d ms P chosen =
       nothing_means ms (codes "required", d) P (plan_of ms) (ap (λ s. claims (head s) (listed ms) (codes "required", d)) (plan_fusing ms t chosen) ∙ claims_nothing t (is_condition ms) (listed ms) d)
       (λ clean u v Q. no_required_child o.world u v ms P Q d (clean_one_fused o.world ms P clean (meaning_step o.world u) ∙ free_fuses_none ms
@@ -582,15 +515,13 @@ module _ {K R N : Type 0} (o : Kit K R) (answers : N → Answers) where
       by None q f = absurd (true≢false (sym f))
       by (Some n) q f = fused_is_restricted ms n q
 
-  pub means_fused_one : (d : Data) (ms : Members) (P : Path) → is_some (fused_one ms) ≡ true → KeywordsMean o answers ms []
-      (claims (head (plan_of ms)) (listed ms) (codes "required", d)) ((codes "required", d) ∷ []) P
+  pub means_fused_one : (d : Data) (ms : Members) (P : Path) → is_some (fused_one ms) ≡ true → MeanClaim o answers ms (plan_of ms) [] (codes "required", d) P
   means_fused_one d ms P chosen =
       nothing_means ms (codes "required", d) P (plan_of ms) (claims_no_fused ms (one_restricts ms chosen) (listed ms) d chosen) (λ clean u v Q. required_shows_none o.world ms u v P Q d chosen)
 
   pub means_required_alone : (names : Vec (String Global) Global) (L : Path) (d : Data) → map string_bytes names.items ≡ texts d → (ms : Members) (P : Path)
       → L ≡ P // codes "required" → has_repeat (names_of (listed ms)) ≡ false → lookup_name (codes "required") (listed ms) ≡ Some d → is_some (fused_pair ms) ≡ false
-      → is_some (fused_one ms) ≡ false → KeywordsMean o answers ms (keyword.Required (record { required = names; location = L }) ∷ [])
-      (claims (head (plan_of ms)) (listed ms) (codes "required", d)) ((codes "required", d) ∷ []) P
+      → is_some (fused_one ms) ≡ false → MeanClaim o answers ms (plan_of ms) (keyword.Required (record { required = names; location = L }) ∷ []) (codes "required", d) P
   means_required_alone names L d same ms P p distinct there not_two not_one =
       subst (λ rows. KeywordsMean o answers ms (keyword.Required (record { required = names; location = L }) ∷ []) rows ((codes "required", d) ∷ []) P)
       (sym (claims_itself ms distinct (head (plan_of ms)) (codes "required", d) (head_of_required (plan_of ms) not_two not_one) there))
@@ -611,46 +542,25 @@ module _ {K R N : Type 0} (o : Kit K R) (answers : N → Answers) where
 
   pub means_own : (ks : List (KeywordOver K R N)) (ms : Members) (m : Name × Data) (P : Path) → has_repeat (names_of (listed ms)) ≡ false
       → lookup_name m.0 (listed ms) ≡ Some m.1 → bytes_eq (codes "properties") m.0 ≡ false → bytes_eq (codes "required") m.0 ≡ false → IsNoCase (is_condition ms) m.0
-      → IsNotTaken (plan_of ms) m.0 → (is_restricted ms && tells_members m.0) ≡ false → KeywordMeans o answers ms ks m P → KeywordsMean o answers ms ks
-      (claims (head (plan_of ms)) (listed ms) m) (m ∷ []) P
+      → IsNotTaken (plan_of ms) m.0 → (is_restricted ms && tells_members m.0) ≡ false → KeywordMeans o answers ms ks m P → MeanClaim o answers ms (plan_of ms) ks m P
   means_own ks ms m P distinct there e f apart own untaken h =
       subst (λ rows. KeywordsMean o answers ms ks rows (m ∷ []) P) (sym (claims_itself ms distinct (head (plan_of ms)) m (heads_elsewhere (plan_of ms) m.0 e f apart own) there))
       (means_alone o answers ms P ks m untaken (λ clean u. neither_of ms u m.0 m.1 untaken e f (keyword_named o.world m.0) (is_named m.0 o.world)) h)
 
   -- ---- leaves, and names that nothing reads
 
-  module _ (l : K) (L : Path) (u : Bool) (v : Data) where
-    leaf_accept : (question (keyword.Leaf L l) v).accepts u ≡ is_empty (o.finds l v)
-    unfolding answers_of
-    leaf_accept = refl
-
-    leaf_ask : (question (keyword.Leaf L l) v).asks u ≡ 0
-    unfolding answers_of
-    leaf_ask = refl
-
-    leaf_find : (Q : Path) → found u (keyword.Leaf L l) v Q ≡ map (λ t. fault (Leaf (o.keyword_of l) t) v Q L) (o.finds l v)
-    unfolding answers_of
-    leaf_find Q = refl
-
-    leaf_show : (Q : Path) → shown u (keyword.Leaf L l) v Q ≡ leaf_node L Q (described (map (λ t. fault (Leaf (o.keyword_of l) t) v Q L) (o.finds l v)))
-    unfolding answers_of
-    leaf_show Q = refl
-
-    leaf_formed : is_formed o answers (keyword.Leaf L l) ≡ true
-    unfolding answers_of
-    leaf_formed = refl
-
   pub means_leaf : (l : K) (k : Name) (L : Path) (d : Data) → keyword_named o.world k ≡ leaf → o.keyword_of l ≡ k → ((v : Data) → o.finds l v ≡ o.world.faults k d v)
       → (ms : Members) (P : Path) → L ≡ P // k → KeywordMeans o answers ms (keyword.Leaf L l ∷ []) (k, d) P
+  unfolding answers_of
   means_leaf l k L d q name same ms P p = record {
     holds = subst (λ w. Holds o answers ms (keyword.Leaf L l ∷ []) (k, d) w P) (sym q) (one ms (keyword.Leaf L l) (k, d) leaf P
-        (λ u v. leaf_accept l L u v ∙ ap is_empty (same v) ∙ sym (fact.leaf_accepts o.world ms k d u v))
-        (λ u v. subst₂ (λ x y. x ≤ y) (sym (leaf_ask l L u v)) (sym (fact.leaf_asks o.world ms k d u v)) (omega arith))
-        (λ u v Q. ∼_same (leaf_find l L u v Q ∙ (λ i. map (λ t. fault (Leaf (name i) t) v Q (p i)) (same v i)) ∙ sym (fact.leaf_report o.world ms k d u v P Q))));
+        (λ u v. ap is_empty (same v) ∙ sym (fact.leaf_accepts o.world ms k d u v))
+        (λ u v. same_within 0 0 _ (omega arith) (fact.leaf_asks o.world ms k d u v))
+        (λ u v Q. ∼_same ((λ i. map (λ t. fault (Leaf (name i) t) v Q (p i)) (same v i)) ∙ sym (fact.leaf_report o.world ms k d u v P Q))));
     shows =
-        λ u h v Q. ap (λ t. t ∷ []) (leaf_show l L u v Q ∙ (λ i. leaf_node (p i) Q (described (map (λ t. fault (Leaf (name i) t) v Q (p i)) (same v i)))))
+        λ u h v Q. (λ i. leaf_node (p i) Q (described (map (λ t. fault (Leaf (name i) t) v Q (p i)) (same v i))) ∷ [])
         ∙ sym (leaf_child o.world u v ms P Q d k) ∙ ap (λ w. member_child o.world ms (k, d) w u v P Q) (sym q);
-    formed = just_one_formed o answers (keyword.Leaf L l) (leaf_formed l L true d);
+    formed = refl;
   }
 
   pub means_unread : (k : Name) (d : Data) → keyword_named o.world k ≡ unread → (ms : Members) (P : Path) → KeywordMeans o answers ms [] (k, d) P

@@ -1,4 +1,5 @@
 -- What holds `oneOf`.
+use Rattle.olk_make.proofs.Entries.{Rows}
 use Rattle.std.specs.Prelude.{◌≡◌, ◌≤◌, ℕ, ◌+◌, ◌==◌, nat_lt, Bool, true, false, not, cond, List, [], ◌∷◌, map, count_by, codes, None}
 use Rattle.std.proofs.Common.{refl, sym, ◌∙◌, ap, subst, arith}
 use Rattle.std.proofs.lemmas.List.Sums.{sum_by-cons}
@@ -6,12 +7,13 @@ use mathlib.Core.Path.{subst₂}
 use Rattle.serde_json.specs.Data.{Data, array, Members, Items}
 use Rattle.olk_spec.specs.Names.{Name, Path, ◌//◌, put_if}
 use Rattle.olk_spec.specs.Vocabulary.{one_of}
-use Rattle.olk_spec.specs.Faults.{Context, context, OneOfNotValid, OneOfMultipleValid, IsLikeContext, like, like_not_valid, like_multiple, ◌∼◌, like_empty, like_next}
-use Rattle.olk_spec.specs.Schemas.{numbered}
-use Rattle.olk_spec.specs.Malformed.{items_list}
+use Rattle.olk_spec.specs.Faults.{Fault, Context, context, OneOfNotValid, OneOfMultipleValid, IsLikeContext, like, like_not_valid, like_multiple, ◌∼◌, like_empty, like_next}
+use Rattle.olk_spec.specs.Schemas.{numbered, is_array}
+use mathlib.Core.Bool.{true≢false}
+use Rattle.olk_spec.specs.Malformed.{items_list, items_of_array}
 use Rattle.olk_spec.specs.Meaning.{accepts}
 use Rattle.olk_spec.specs.Reports.{fault_if}
-use Rattle.olk_spec.specs.Tree.{result}
+use Rattle.olk_spec.specs.Tree.{Tree, result}
 use Rattle.olk_spec.proofs.Order.{∼_append}
 use Rattle.olk_base.specs.Kit.{Kit}
 use Rattle.olk_tree.specs.Questions.{some}
@@ -25,7 +27,7 @@ use Rattle.olk_meaning.proofs.OneOf as fact
 use Rattle.olk_make.specs.Forms.{IsFormOfOneOf}
 use Rattle.olk_make.specs.Holding.{StandEach}
 use Rattle.olk_make.specs.Making.{KeywordMeans}
-use Rattle.olk_make.proofs.Held.{question, shown, found, at_value, accepts_value, any_ask, any_context, branches_show, accepting_show, one, same_within, at_most_through}
+use Rattle.olk_make.proofs.Held.{Answered, fault_like, question, shown, found, found_in, at_value, accepts_value, any_ask, any_context, branches_show, accepting_show, one, same_within, at_most_through}
 use Rattle.olk_make.proofs.Formed.{just_one_formed, stand_formed, one_of_formed}
 
 -- one branch is counted where it accepts
@@ -37,18 +39,10 @@ one_reported : (b : Bool) (c : Context) (v : Data) (L Q : Path) → fault_if (no
 one_reported true c v L Q = refl
 one_reported false c v L Q = refl
 
-not_valid : (b : Bool) (c d : Context) (v : Data) (P Q : Path) → IsLikeContext c d → fault_if b (OneOfNotValid c) v P Q ∼ fault_if b (OneOfNotValid d) v P Q
-not_valid true c d v P Q h = like_next (like (like_not_valid h)) like_empty
-not_valid false c d v P Q h = like_empty
-
-multiple_valid : (b : Bool) (c d : Context) (v : Data) (P Q : Path) → IsLikeContext c d → fault_if b (OneOfMultipleValid c) v P Q ∼ fault_if b (OneOfMultipleValid d) v P Q
-multiple_valid true c d v P Q h = like_next (like (like_multiple h)) like_empty
-multiple_valid false c d v P Q h = like_empty
-
 module _ {K R N : Type 0} (o : Kit K R) (answers : N → Answers) where
   module _ (u : Bool) (v : Data) where
     -- as many nodes accept as schemas
-    counted : (ns : List N) (es : List (Name × Data)) (L : Path) → StandEach o answers ns es L → count_by (accepts_value o answers u v) ns ≡ fact.accepting_count o.world u v es
+    counted : (ns : List N) (es : Rows) (L : Path) → StandEach o answers ns es L → count_by (accepts_value o answers u v) ns ≡ fact.accepting_count o.world u v es
     counted [] [] L h = refl
     counted (n ∷ ns) (e ∷ es) L h =
         sum_by-cons (λ x. cond (accepts_value o answers u v x) 1 0) n ns
@@ -56,60 +50,56 @@ module _ {K R N : Type 0} (o : Kit K R) (answers : N → Answers) where
         ∙ sym (sum_by-cons (λ (x : Name × Data). cond (accepts o.world u x.1 v) 1 0) e es)
     counted _ _ L h = absurd h
 
-    one_show : (Q : Path) (ns : List N) (es : List (Name × Data)) (L : Path) → StandEach o answers ns es L → one_of_tree (λ n. (answers n).tree u) v Q
+    one_show : (Q : Path) (ns : List N) (es : Rows) (L : Path) → StandEach o answers ns es L → one_of_tree (λ n. (answers n).tree u) v Q
         (accepts_value o answers u v) L ns ≡ fact.one_shown o.world u v (fact.accepting_count o.world u v es) L Q es
     one_show Q ns es L h = λ i. cond (counted ns es L h i == 0)
-        (result L Q None true [] (branches_show o answers u v Q ns es L h i))
-        (result L Q None false (put_if (nat_lt 1 (counted ns es L h i)) several_accept []) (accepting_show o answers u v Q ns es L h i))
+        (result L Q None true [] (branches_show o answers u v L Q ns es h i))
+        (result L Q None false (put_if (nat_lt 1 (counted ns es L h i)) several_accept []) (accepting_show o answers u v L Q ns es h i))
 
   module _ (L : Path) (ns : List N) (u : Bool) (v : Data) where
     abbrev accepting : List N → ℕ
     accepting xs = count_by (accepts_value o answers u v) xs
 
-    abbrev finding : List N → Path → Context
-    finding xs Q = context (map (λ n. (answers n).report u v Q) xs)
+    abbrev one_faults : List N → Path → Path → List Fault
+    one_faults xs M Q = one_of_report (accepting xs) (found_in o answers u v Q xs) v M Q
 
-    form_accepts : (k : KeywordOver K R N) → IsFormOfOneOf L ns k → (question o answers k v).accepts u ≡ (accepting ns == 1)
+    abbrev one_tree : List N → Path → Path → Tree
+    one_tree xs M Q = one_of_tree (λ n. (answers n).tree u) v Q (accepts_value o answers u v) M xs
+
+    one_form : (k : KeywordOver K R N) → IsFormOfOneOf L ns k
+        → Answered o answers k u v (accepting ns == 1) ((some (at_value o answers u v) ns).asks u) (one_faults ns L) (one_tree ns L)
     unfolding answers_of
-    form_accepts (keyword.OneOf k) f = ap (λ xs. accepting xs == 1) f.0
-    form_accepts (keyword.SingleOneOf k) f = sym (one_counted (accepts_value o answers u v k.node)) ∙ ap (λ xs. accepting xs == 1) (sym f.0)
-    form_accepts k f = absurd f
+    one_form (keyword.OneOf k) f = record {
+      verdict = ap (λ xs. accepting xs == 1) f.0;
+      asks_within = let e = ap (λ xs. (some (at_value o answers u v) xs).asks u) f.0 in omega (arith, e);
+      faults = λ Q. λ i. one_faults (f.0 i) (f.2 i) Q;
+      evaluation = λ Q. λ i. one_tree (f.0 i) (f.2 i) Q;
+    }
+    one_form (keyword.SingleOneOf k) f = record {
+      verdict = sym (one_counted (accepts_value o answers u v k.node)) ∙ ap (λ xs. accepting xs == 1) (sym f.0);
+      asks_within = let e = ap (λ xs. (some (at_value o answers u v) xs).asks u) f.0 in omega (arith, e);
+      faults = λ Q. one_reported (accepts_value o answers u v k.node) (found_in o answers u v Q (k.node ∷ [])) v k.location Q ∙ (λ i. one_faults (sym f.0 i) (f.1 i) Q);
+      evaluation = λ Q. λ i. one_tree (sym f.0 i) (f.1 i) Q;
+    }
+    one_form k f = absurd f
 
-    form_asks : (k : KeywordOver K R N) → IsFormOfOneOf L ns k → (question o answers k v).asks u ≤ (some (at_value o answers u v) ns).asks u
-    unfolding answers_of
-    form_asks (keyword.OneOf k) f = let e = ap (λ xs. (some (at_value o answers u v) xs).asks u) f.0 in omega (arith, e)
-    form_asks (keyword.SingleOneOf k) f = let e = ap (λ xs. (some (at_value o answers u v) xs).asks u) f.0 in omega (arith, e)
-    form_asks k f = absurd f
-
-    form_finds : (Q : Path) (k : KeywordOver K R N) → IsFormOfOneOf L ns k → found o answers u k v Q ≡ one_of_report (accepting ns) (finding ns Q) v L Q
-    unfolding answers_of
-    form_finds Q (keyword.OneOf k) f = λ i. one_of_report (accepting (f.0 i)) (finding (f.0 i) Q) v (f.2 i) Q
-    form_finds Q (keyword.SingleOneOf k) f =
-        one_reported (accepts_value o answers u v k.node) (finding (k.node ∷ []) Q) v k.location Q
-        ∙ (λ i. one_of_report (accepting (sym f.0 i)) (finding (sym f.0 i) Q) v (f.1 i) Q)
-    form_finds Q k f = absurd f
-
-    form_shows : (Q : Path) (k : KeywordOver K R N) → IsFormOfOneOf L ns k → shown o answers u k v Q ≡ one_of_tree (λ n. (answers n).tree u) v Q (accepts_value o answers u v) L ns
-    unfolding answers_of
-    form_shows Q (keyword.OneOf k) f = λ i. one_of_tree (λ n. (answers n).tree u) v Q (accepts_value o answers u v) (f.2 i) (f.0 i)
-    form_shows Q (keyword.SingleOneOf k) f = λ i. one_of_tree (λ n. (answers n).tree u) v Q (accepts_value o answers u v) (f.1 i) (sym f.0 i)
-    form_shows Q k f = absurd f
-
-  pub means_one_of : (k : KeywordOver K R N) (ns : List N) (L : Path) (ds : Items) (d : Data) → d ≡ array ds → IsFormOfOneOf L ns k
-      → StandEach o answers ns (numbered (items_list ds)) L → (ms : Members) (P : Path) → L ≡ P // codes "oneOf" → KeywordMeans o answers ms (k ∷ []) (codes "oneOf", d) P
-  means_one_of k ns L ds d q form stand ms P p = subst (λ x. KeywordMeans o answers ms (k ∷ []) (codes "oneOf", x) P) (sym q) (record {
+  pub means_one_of : (k : KeywordOver K R N) (ns : List N) (L : Path) (d : Data) → is_array d ≡ true → IsFormOfOneOf L ns k
+      → StandEach o answers ns (numbered (items_of_array d)) L → (ms : Members) (P : Path) → L ≡ P // codes "oneOf" → KeywordMeans o answers ms (k ∷ []) (codes "oneOf", d) P
+  means_one_of k ns L (array ds) is form stand ms P p = record {
     holds = one o answers ms k (codes "oneOf", array ds) one_of P
-        (λ u v. form_accepts L ns u v k form ∙ ap (λ n. n == 1) (counted u v ns (numbered (items_list ds)) L stand) ∙ sym (fact.one_of_accepts o.world u v ms ds))
-        (λ u v. same_within _ _ _ (at_most_through o answers _ _ _ (form_asks L ns u v k form) (any_ask o answers u v ns (numbered (items_list ds)) L stand)) (fact.one_of_asks o.world u v ms ds))
-        (λ u v Q. subst₂ (λ x y. x ∼ y)
-        (sym (form_finds L ns u v Q k form ∙ ap (λ n. one_of_report n (context (map (λ x. (answers x).report u v Q) ns)) v L Q) (counted u v ns (numbered (items_list ds)) L stand)))
-        (ap (λ M. fact.one_of_faults o.world u v (fact.accepting_count o.world u v (numbered (items_list ds))) M Q (numbered (items_list ds))) p ∙ sym (fact.one_of_report o.world u v ms ds P Q))
-        (∼_append
-        (not_valid (fact.accepting_count o.world u v (numbered (items_list ds)) == 0) _ _ v L Q (any_context o answers u v Q ns (numbered (items_list ds)) L stand))
-        (multiple_valid (nat_lt 1 (fact.accepting_count o.world u v (numbered (items_list ds)))) _ _ v L Q (any_context o answers u v Q ns (numbered (items_list ds)) L stand))));
+        (λ u v. (one_form L ns u v k form).verdict ∙ ap (λ n. n == 1) (counted u v _ _ _ stand) ∙ sym (fact.one_of_accepts o.world u v ms ds))
+        (λ u v. same_within _ _ _ (at_most_through o answers _ _ _ (one_form L ns u v k form).asks_within (any_ask o answers u v _ _ _ stand)) (fact.one_of_asks o.world u v ms ds))
+        (λ u v Q.
+        let context = any_context o answers u v _ Q _ _ stand in
+        let count = fact.accepting_count o.world u v (numbered (items_list ds)) in
+        subst₂ (λ x y. x ∼ y)
+        (sym ((one_form L ns u v k form).faults Q ∙ ap (λ n. one_of_report n (found_in o answers u v Q ns) v L Q) (counted u v _ _ _ stand)))
+        (ap (λ M. fact.one_of_faults o.world u v count M Q (numbered (items_list ds))) p ∙ sym (fact.one_of_report o.world u v ms ds P Q))
+        (∼_append (fault_like (count == 0) v L Q (like_not_valid context)) (fault_like (nat_lt 1 count) v L Q (like_multiple context))));
     shows = λ u h v Q.
-        ap (λ t. t ∷ []) (form_shows L ns u v Q k form ∙ one_show u v Q ns (numbered (items_list ds)) L stand
+        ap (λ t. t ∷ []) ((one_form L ns u v k form).evaluation Q ∙ one_show u v Q _ _ _ stand
         ∙ ap (λ M. fact.one_shown o.world u v (fact.accepting_count o.world u v (numbered (items_list ds))) M Q (numbered (items_list ds))) p)
         ∙ sym (fact.one_of_child o.world u v ms ds P Q);
-    formed = just_one_formed o answers k (one_of_formed o answers k L ns form (stand_formed o answers ns (numbered (items_list ds)) L stand));
-  })
+    formed = just_one_formed o answers k (one_of_formed o answers k L ns form (stand_formed o answers _ _ _ stand));
+  }
+  means_one_of k ns L d is form stand ms P p = absurd (true≢false (sym is))

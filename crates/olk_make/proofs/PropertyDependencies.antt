@@ -1,4 +1,6 @@
 -- What holds `propertyDependencies`.
+use mathlib.Core.Path.{subst₂}
+use Rattle.olk_make.proofs.Together.{by_its_name}
 use Rattle.std.specs.Prelude.{◌≡◌, ◌≤◌, ⊤, ℕ, min, Bool, ◌&&◌, List, [], ◌∷◌, ◌++◌, map, length, get_or, take, drop, sum_by, codes, option_to_list, bytes_eq, Vec, true}
 use Rattle.std.specs.List.{list_all, flat_map, zip}
 use Rattle.std.specs.Ordering.{nat_cmp, is_eq}
@@ -40,7 +42,7 @@ use Rattle.olk_read.specs.declared.shape.Shape.TheVariants as shape
 use Rattle.olk_make.specs.Forms.{AreCut, IsPropertyDependencies}
 use Rattle.olk_make.specs.Holding.{StandInner}
 use Rattle.olk_make.specs.Making.{KeywordMeans, MakesMember, MakesPropertyDependencies}
-use Rattle.olk_make.proofs.Entries.{AnswersFor, AnswerEach, each_count, each_accept, each_ask, each_find, each_show, schema_answers, schemas_answer}
+use Rattle.olk_make.proofs.Entries.{Rows, AnswersFor, AnswerEach, each_count, each_accept, each_ask, each_find, each_show, schema_answers, schemas_answer}
 use Rattle.olk_make.proofs.Held.{question, shown, found, one, same_within}
 use Rattle.olk_make.proofs.Formed.{has_form, is_formed, just_one_formed, each_keys, each_held_formed}
 use Rattle.olk_spec.proofs.Truth.{and_from}
@@ -67,29 +69,29 @@ module _ {K R N : Type 0} (o : Kit K R) (answers : N → Answers) where
   abbrev SchemaFor : N → Name × Data → Path → Type 0
   SchemaFor = AnswersFor o answers (schema_answers o answers)
 
-  abbrev SchemaEach : List N → List (Name × Data) → Path → Type 0
+  abbrev SchemaEach : List N → Rows → Path → Type 0
   SchemaEach = AnswerEach o answers (schema_answers o answers)
 
   -- ---- the nodes that are chosen stand for the schemas that are
 
-  each_append : (ns rs : List N) (es fs : List (Name × Data)) (L : Path) → SchemaEach ns es L → SchemaEach rs fs L → SchemaEach (ns ++ rs) (es ++ fs) L
+  each_append : (ns rs : List N) (es fs : Rows) (L : Path) → SchemaEach ns es L → SchemaEach rs fs L → SchemaEach (ns ++ rs) (es ++ fs) L
   each_append [] rs [] fs L h k = k
   each_append (n ∷ ns) rs (e ∷ es) fs L h k = (h.0, each_append ns rs es fs L h.1 k)
   each_append _ rs _ fs L h k = absurd h
 
-  module _ {X : Type 0} (f : X → List N) (g : X → List (Name × Data)) (L : Path) (each : (x : X) → SchemaEach (f x) (g x) L) where
+  module _ {X : Type 0} (f : X → List N) (g : X → Rows) (L : Path) (each : (x : X) → SchemaEach (f x) (g x) L) where
     each_of_all : (xs : List X) → SchemaEach (flat_map f xs) (flat_map g xs) L
     each_of_all [] = tt
     each_of_all (x ∷ xs) = each_append (f x) (flat_map f xs) (g x) (flat_map g xs) L (each x) (each_of_all xs)
 
   -- what a look-up finds among the nodes, and among the entries
-  found_answers : (t : Name) (ns : List N) (es : List (Name × Data)) (L : Path) → SchemaEach ns es L → SchemaEach (option_to_list (lookup_name t (zip (map (λ e. e.0) es) ns)))
+  found_answers : (t : Name) (ns : List N) (es : Rows) (L : Path) → SchemaEach ns es L → SchemaEach (option_to_list (lookup_name t (zip (keys_in es) ns)))
       (map (λ s. (t, s)) (option_to_list (lookup_name t es))) L
   found_answers t [] [] L h = tt
   found_answers t (n ∷ ns) (e ∷ es) L h = by (slice_cmp nat_cmp t e.0) (is_eq-slice_cmp t e.0) (found_answers t ns es L h.1)
     where
-      by : (c : Ordering) → is_eq c ≡ bytes_eq t e.0 → SchemaEach (option_to_list (lookup_name t (zip (map (λ e. e.0) es) ns))) (map (λ s. (t, s)) (option_to_list (lookup_name t es))) L
-          → SchemaEach (option_to_list (first_if_equal c n (lookup_name t (zip (map (λ e. e.0) es) ns)))) (map (λ s. (t, s)) (option_to_list (first_if_equal c e.1 (lookup_name t es)))) L
+      by : (c : Ordering) → is_eq c ≡ bytes_eq t e.0 → SchemaEach (option_to_list (lookup_name t (zip (keys_in es) ns))) (map (λ s. (t, s)) (option_to_list (lookup_name t es))) L
+          → SchemaEach (option_to_list (first_if_equal c n (lookup_name t (zip (keys_in es) ns)))) (map (λ s. (t, s)) (option_to_list (first_if_equal c e.1 (lookup_name t es)))) L
       by Less q k = k
       by Equal q k = (subst (λ a. SchemaFor n (a, e.1) L) (sym (same_name t e.0 (sym q))) h.0, tt)
       by Greater q k = k
@@ -102,29 +104,28 @@ module _ {K R N : Type 0} (o : Kit K R) (answers : N → Answers) where
     each : SchemaEach nodes (members e.1) (L // e.0)
 
   -- a map for each entry
-  abbrev MapsAnswer : List (SmallMap N) → List (Name × Data) → Path → Type 0
+  abbrev MapsAnswer : List (SmallMap N) → Rows → Path → Type 0
   MapsAnswer [] [] L = ⊤
   MapsAnswer (m ∷ maps) (e ∷ es) L = MapAnswers m e L × MapsAnswer maps es L
   MapsAnswer _ _ L = ⊥
 
-  maps_formed : (maps : List (SmallMap N)) (es : List (Name × Data)) (L : Path) → MapsAnswer maps es L → list_all (λ m. list_all (has_form o answers) (nodes_in (named m))) maps ≡ true
+  maps_formed : (maps : List (SmallMap N)) (es : Rows) (L : Path) → MapsAnswer maps es L → list_all (λ m. list_all (has_form o answers) (nodes_in (named m))) maps ≡ true
   maps_formed [] [] L h = refl
-  maps_formed (m ∷ maps) (e ∷ es) L h = and_from _ _ (each_held_formed o answers (named m) h.0.nodes (members e.1) (L // e.0) h.0.held (schema_answers o answers) h.0.each) (maps_formed maps es L h.1)
+  maps_formed (m ∷ maps) (e ∷ es) L h = and_from _ _ (each_held_formed o answers (named m) _ _ _ h.0.held _ h.0.each) (maps_formed maps es L h.1)
   maps_formed _ _ L h = absurd h
 
   -- the names of each
-  maps_names : (maps : List (SmallMap N)) (es : List (Name × Data)) (L : Path) → MapsAnswer maps es L → map (λ m. keys_in (named m)) maps ≡ map (λ e. names_of e.1) es
+  maps_names : (maps : List (SmallMap N)) (es : Rows) (L : Path) → MapsAnswer maps es L → map (λ m. keys_in (named m)) maps ≡ map (λ e. names_of e.1) es
   maps_names [] [] L h = refl
   maps_names (m ∷ maps) (e ∷ es) L h =
-      λ i. each_keys o answers (named m) h.0.nodes (members e.1) (L // e.0) h.0.held (schema_answers o answers) h.0.each i ∷ maps_names maps es L h.1 i
+      λ i. each_keys o answers (named m) _ _ _ h.0.held _ h.0.each i ∷ maps_names maps es L h.1 i
   maps_names _ _ L h = absurd h
 
   -- as many as entries
-  maps_count : (maps : List (SmallMap N)) (es : List (Name × Data)) (L : Path) → MapsAnswer maps es L → length maps ≡ length (map {A = Name × Data} (λ e. e.0) es)
+  maps_count : (maps : List (SmallMap N)) (es : Rows) (L : Path) → MapsAnswer maps es L → length maps ≡ length (keys_in es)
   maps_count [] [] L h = refl
-  maps_count [] (e ∷ es) L h = absurd h
-  maps_count (m ∷ maps) [] L h = absurd h
   maps_count (m ∷ maps) (e ∷ es) L h = ap suc (maps_count maps es L h.1)
+  maps_count _ _ L h = absurd h
 
   module _ (v : Data) where
     chosen_answer : (m : SmallMap N) (e : Name × Data) (L : Path) → MapAnswers m e L → SchemaEach (flat_map (chosen_at m) (at e.0 v)) (chosen v e) (L // e.0)
@@ -132,47 +133,47 @@ module _ {K R N : Type 0} (o : Kit K R) (answers : N → Answers) where
         (λ w. each_of_all (λ t. option_to_list (lookup_name t (named m))) (λ t. map (λ s. (t, s)) (at t e.1)) (L // e.0)
         (λ t. subst (λ ds. SchemaEach (option_to_list (lookup_name t ds)) (map (λ s. (t, s)) (at t e.1)) (L // e.0)) (sym h.held) (found_answers t h.nodes (members e.1) (L // e.0) h.each)) (as_text w)) (at e.0 v)
 
-    abbrev chosen_of : List (SmallMap N) → List (Name × Data) → List N
-    chosen_of maps es = chosen_nodes (zip (map (λ e. e.0) es) maps) v
+    abbrev chosen_of : List (SmallMap N) → Rows → List N
+    chosen_of maps es = chosen_nodes (zip (keys_in es) maps) v
 
-    module _ (u : Bool) where
-      choices_accept : (maps : List (SmallMap N)) (es : List (Name × Data)) (L : Path) → MapsAnswer maps es L
+    module _ (u : Bool) (L : Path) where
+      choices_accept : (maps : List (SmallMap N)) (es : Rows) → MapsAnswer maps es L
           → (every (λ n. (answers n).means v) (chosen_of maps es)).accepts u ≡ list_all (λ e. list_all (λ c. accepts o.world u c.1 v) (chosen v e)) es
-      choices_accept [] [] L h = refl
-      choices_accept (m ∷ maps) (e ∷ es) L h =
+      choices_accept [] [] h = refl
+      choices_accept (m ∷ maps) (e ∷ es) h =
           ap (λ q. q.accepts u) (every-append (λ n. (answers n).means v) (flat_map (chosen_at m) (at e.0 v)) (chosen_of maps es))
-          ∙ (λ i. each_accept o answers (schema_answers o answers) u v (flat_map (chosen_at m) (at e.0 v)) (chosen v e) (L // e.0) (chosen_answer m e L h.0) i
-          && choices_accept maps es L h.1 i)
-      choices_accept _ _ L h = absurd h
+          ∙ (λ i. each_accept o answers _ u v _ _ _ (chosen_answer m e L h.0) i
+          && choices_accept maps es h.1 i)
+      choices_accept _ _ h = absurd h
 
-      choices_ask : (maps : List (SmallMap N)) (es : List (Name × Data)) (L : Path) → MapsAnswer maps es L
+      choices_ask : (maps : List (SmallMap N)) (es : Rows) → MapsAnswer maps es L
           → (every (λ n. (answers n).means v) (chosen_of maps es)).asks u ≤ sum_by (λ e. sum_by (λ c. asks o.world u c.1 v) (chosen v e)) es
-      choices_ask [] [] L h = omega arith
-      choices_ask (m ∷ maps) (e ∷ es) L h =
+      choices_ask [] [] h = omega arith
+      choices_ask (m ∷ maps) (e ∷ es) h =
           subst (λ q. q.asks u ≤ sum_by (λ e. sum_by (λ c. asks o.world u c.1 v) (chosen v e)) (e ∷ es))
           (sym (every-append (λ n. (answers n).means v) (flat_map (chosen_at m) (at e.0 v)) (chosen_of maps es)))
-          (more_within _ _ _ _ _ (each_ask o answers (schema_answers o answers) u v (flat_map (chosen_at m) (at e.0 v)) (chosen v e) (L // e.0) (chosen_answer m e L h.0))
-          (choices_ask maps es L h.1) (sum_by-cons (λ e. sum_by (λ c. asks o.world u c.1 v) (chosen v e)) e es))
-      choices_ask _ _ L h = absurd h
+          (more_within _ _ _ _ _ (each_ask o answers _ u v _ _ _ (chosen_answer m e L h.0))
+          (choices_ask maps es h.1) (sum_by-cons _ e es))
+      choices_ask _ _ h = absurd h
 
       module _ (Q : Path) where
-        choices_find : (maps : List (SmallMap N)) (es : List (Name × Data)) (L : Path) → MapsAnswer maps es L → flat_map (λ n. (answers n).report u v Q)
+        choices_find : (maps : List (SmallMap N)) (es : Rows) → MapsAnswer maps es L → flat_map (λ n. (answers n).report u v Q)
             (chosen_of maps es) ∼ flat_map (λ e. flat_map (λ c. report o.world u c.1 v (L // e.0 // c.0) Q) (chosen v e)) es
-        choices_find [] [] L h = like_empty
-        choices_find (m ∷ maps) (e ∷ es) L h =
+        choices_find [] [] h = like_empty
+        choices_find (m ∷ maps) (e ∷ es) h =
             subst (λ fs. fs ∼ flat_map (λ e. flat_map (λ c. report o.world u c.1 v (L // e.0 // c.0) Q) (chosen v e)) (e ∷ es))
             (sym (flat_map-append (λ n. (answers n).report u v Q) (flat_map (chosen_at m) (at e.0 v)) (chosen_of maps es)))
-            (∼_append (each_find o answers (schema_answers o answers) u v Q (flat_map (chosen_at m) (at e.0 v)) (chosen v e) (L // e.0) (chosen_answer m e L h.0))
-            (choices_find maps es L h.1))
-        choices_find _ _ L h = absurd h
+            (∼_append (each_find o answers _ u v _ Q _ _ (chosen_answer m e L h.0))
+            (choices_find maps es h.1))
+        choices_find _ _ h = absurd h
 
-        choices_show : (maps : List (SmallMap N)) (es : List (Name × Data)) (L : Path) → MapsAnswer maps es L → map (λ n. (answers n).tree u v Q)
+        choices_show : (maps : List (SmallMap N)) (es : Rows) → MapsAnswer maps es L → map (λ n. (answers n).tree u v Q)
             (chosen_of maps es) ≡ flat_map (λ e. map (λ c. tree o.world u c.1 v (L // e.0 // c.0) Q) (chosen v e)) es
-        choices_show [] [] L h = refl
-        choices_show (m ∷ maps) (e ∷ es) L h = map-append (λ n. (answers n).tree u v Q) (flat_map (chosen_at m) (at e.0 v)) (chosen_of maps es)
-            ∙ (λ i. each_show o answers (schema_answers o answers) u v Q (flat_map (chosen_at m) (at e.0 v)) (chosen v e) (L // e.0) (chosen_answer m e L h.0) i
-            ++ choices_show maps es L h.1 i)
-        choices_show _ _ L h = absurd h
+        choices_show [] [] h = refl
+        choices_show (m ∷ maps) (e ∷ es) h = map-append (λ n. (answers n).tree u v Q) (flat_map (chosen_at m) (at e.0 v)) (chosen_of maps es)
+            ∙ (λ i. each_show o answers _ u v _ Q _ _ (chosen_answer m e L h.0) i
+            ++ choices_show maps es h.1 i)
+        choices_show _ _ h = absurd h
 
   -- ---- the validator
 
@@ -180,27 +181,6 @@ module _ {K R N : Type 0} (o : Kit K R) (answers : N → Answers) where
   choices_of m L = keyword.PropertyDependencies (record { dependencies = m; location = L })
 
   module _ (m : SmallMap (SmallMap N)) (maps : List (SmallMap N)) (L : Path) (d : Data) (held : named m ≡ zip (names_of d) maps) (stand : MapsAnswer maps (members d) L) where
-    module _ (u : Bool) (v : Data) where
-      choice_accepts : (question o answers (choices_of m L) v).accepts u ≡ list_all (λ e. list_all (λ c. accepts o.world u c.1 v) (chosen v e)) (members d)
-      unfolding answers_of
-      choice_accepts = ap (λ ds. (every (λ n. (answers n).means v) (chosen_nodes ds v)).accepts u) held ∙ choices_accept v u maps (members d) L stand
-
-      choice_asks : (question o answers (choices_of m L) v).asks u ≤ sum_by (λ e. sum_by (λ c. asks o.world u c.1 v) (chosen v e)) (members d)
-      unfolding answers_of
-      choice_asks =
-          subst (λ ds. (every (λ n. (answers n).means v) (chosen_nodes ds v)).asks u ≤ sum_by (λ e. sum_by (λ c. asks o.world u c.1 v) (chosen v e)) (members d))
-          (sym held) (choices_ask v u maps (members d) L stand)
-
-      choice_finds : (Q : Path) → found o answers u (choices_of m L) v Q ∼ flat_map (λ e. flat_map (λ c. report o.world u c.1 v (L // e.0 // c.0) Q) (chosen v e)) (members d)
-      unfolding answers_of
-      choice_finds Q =
-          subst (λ ds. flat_map (λ n. (answers n).report u v Q) (chosen_nodes ds v) ∼ flat_map (λ e. flat_map (λ c. report o.world u c.1 v (L // e.0 // c.0) Q) (chosen v e)) (members d))
-          (sym held) (choices_find v u Q maps (members d) L stand)
-
-      choice_shows : (Q : Path) → shown o answers u (choices_of m L) v Q ≡ plain L Q (flat_map (λ e. map (λ c. tree o.world u c.1 v (L // e.0 // c.0) Q) (chosen v e)) (members d))
-      unfolding answers_of
-      choice_shows Q = ap (λ ds. plain L Q (map (λ n. (answers n).tree u v Q) (chosen_nodes ds v))) held ∙ ap (plain L Q) (choices_show v u Q maps (members d) L stand)
-
     held_maps : nodes_in (named m) ≡ maps
     held_maps = ap nodes_in held ∙ seconds-zip (names_of d) maps (maps_count maps (members d) L stand)
 
@@ -211,27 +191,27 @@ module _ {K R N : Type 0} (o : Kit K R) (answers : N → Answers) where
       refl,
     )
 
-    choices_formed : is_formed o answers (choices_of m L) ≡ true
-    unfolding answers_of
-    choices_formed = ap (list_all (λ m. list_all (has_form o answers) (nodes_in (named m)))) held_maps ∙ maps_formed maps (members d) L stand
-
     means_property_dependencies : (ms : Members) (P : Path) → L ≡ P // codes "propertyDependencies" → KeywordMeans o answers ms (choices_of m L ∷ []) (codes "propertyDependencies", d) P
+    unfolding answers_of
     means_property_dependencies ms P p = record {
       holds = one o answers ms (choices_of m L) (codes "propertyDependencies", d) property_dependencies P
-          (λ u v. choice_accepts u v ∙ sym (fact.property_dependencies_accepts o.world ms d u v))
-          (λ u v. same_within _ _ _ (choice_asks u v) (fact.property_dependencies_asks o.world ms d u v))
-          (λ u v Q. subst (λ fs. found o answers u (choices_of m L) v Q ∼ fs)
+          (λ u v. ap (λ ds. (every (λ n. (answers n).means v) (chosen_nodes ds v)).accepts u) held ∙ choices_accept v u L maps (members d) stand
+          ∙ sym (fact.property_dependencies_accepts o.world ms d u v))
+          (λ u v. subst₂ (λ ds k. (every (λ n. (answers n).means v) (chosen_nodes ds v)).asks u ≤ k) (sym held) (sym (fact.property_dependencies_asks o.world ms d u v))
+          (choices_ask v u L maps (members d) stand))
+          (λ u v Q. subst₂ (λ ds fs. flat_map (λ n. (answers n).report u v Q) (chosen_nodes ds v) ∼ fs) (sym held)
           (ap (λ M. flat_map (λ e. flat_map (λ c. report o.world u c.1 v (M // e.0 // c.0) Q) (chosen v e)) (members d)) p
-          ∙ sym (fact.property_dependencies_report o.world ms d u v P Q)) (choice_finds u v Q));
-      shows =
-          λ u h v Q. ap (λ t. t ∷ []) (choice_shows u v Q ∙ ap (λ M. plain M Q (flat_map (λ e. map (λ c. tree o.world u c.1 v (M // e.0 // c.0) Q) (chosen v e)) (members d))) p)
+          ∙ sym (fact.property_dependencies_report o.world ms d u v P Q)) (choices_find v u L Q maps (members d) stand));
+      shows = λ u h v Q. ap (λ t. t ∷ [])
+          (ap (λ ds. plain L Q (map (λ n. (answers n).tree u v Q) (chosen_nodes ds v))) held ∙ ap (plain L Q) (choices_show v u L Q maps (members d) stand)
+          ∙ ap (λ M. plain M Q (flat_map (λ e. map (λ c. tree o.world u c.1 v (M // e.0 // c.0) Q) (chosen v e)) (members d))) p)
           ∙ sym (fact.property_dependencies_child o.world ms d u v P Q);
-      formed = just_one_formed o answers (choices_of m L) choices_formed;
+      formed = just_one_formed o answers (choices_of m L) (ap (list_all (λ m. list_all (has_form o answers) (nodes_in (named m)))) held_maps ∙ maps_formed maps (members d) L stand);
     }
 
   -- ---- what is made of the nodes
 
-  maps_answer : (ts : List (List Name)) (ns : List N) (maps : List (SmallMap N)) (es : List (Name × Data)) (L : Path) → AreCut ts ns maps
+  maps_answer : (ts : List (List Name)) (ns : List N) (maps : List (SmallMap N)) (es : Rows) (L : Path) → AreCut ts ns maps
       → ts ≡ map (λ e. names_of e.1) es → StandInner o answers ns es L → MapsAnswer maps es L
   maps_answer [] ns [] [] L h q stand = tt
   maps_answer [] ns [] (e ∷ es) L h q stand = absurd (true≢false (ap is_empty q))
@@ -240,8 +220,8 @@ module _ {K R N : Type 0} (o : Kit K R) (answers : N → Answers) where
       let here = stand.0 in
       let after = stand.1 in
       let name : t ≡ names_of e.1 = ap (λ l. get_or l 0 []) q in
-      let each = schemas_answer o answers here (members e.1) (L // e.0) stand.3 in
-      let count : length here ≡ length t = each_count o answers (schema_answers o answers) here (members e.1) (L // e.0) each ∙ sym (ap length name) in (
+      let each = schemas_answer o answers _ _ _ stand.3 in
+      let count : length here ≡ length t = each_count o answers _ _ _ _ each ∙ sym (ap length name) in (
         record {
           nodes = here;
           held = h.0 ∙ (λ i. zip (name i) ((ap (take (length t)) stand.2 ∙ take_at here after (length t) count) i));
@@ -254,8 +234,8 @@ module _ {K R N : Type 0} (o : Kit K R) (answers : N → Answers) where
   module _ (m : SmallMap (SmallMap N)) (maps : List (SmallMap N)) (keys : List Name) (held : named m ≡ zip keys maps) (texts : Vec (List Name) Global) (ns : List N) (L : Path)
       (is : AreCut texts.items ns maps) where
     pub makes_property_dependencies : MakesMember o answers (shape.PropertyDependencies keys texts) L ns (choices_of m L ∷ [])
-    makes_property_dependencies ms x P p s h = subst (λ n. KeywordMeans o answers ms (choices_of m L ∷ []) (n, x.1) P) (sym s.0)
-        (means_property_dependencies m maps L x.1 (held ∙ ap (λ ks. zip ks maps) s.2) (maps_answer texts.items ns maps (members x.1) L is s.3 h) ms P (p ∙ ap (λ n. P // n) s.0))
+    makes_property_dependencies ms x P p s h = by_its_name o answers s.0 p
+        (means_property_dependencies m maps L x.1 (held ∙ ap (λ ks. zip ks maps) s.2) (maps_answer texts.items ns maps (members x.1) L is s.3 h) ms P)
 
     pub keys_of_property_dependencies : MakesPropertyDependencies o answers (shape.PropertyDependencies keys texts) L ns (choices_of m L)
     keys_of_property_dependencies x s h = choices_are m maps L x.1 (held ∙ ap (λ ks. zip ks maps) s.2) (maps_answer texts.items ns maps (members x.1) L is s.3 h)

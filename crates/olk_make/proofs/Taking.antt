@@ -1,4 +1,5 @@
 -- What `if` and `additionalProperties` take out of the parts of their neighbours.
+use Rattle.olk_make.proofs.Entries.{Rows}
 use Rattle.std.specs.Prelude.{◌≡◌, ◌&&◌, ◌||◌, Bool, true, false, not, cond, List, [], ◌∷◌, ◌++◌, map, codes, bytes_eq, Option, Some, None, option_to_list}
 use Rattle.std.proofs.Common.{refl, sym, ◌∙◌, ap, subst}
 use Rattle.std.proofs.lemmas.List.{append-nil, append_assoc}
@@ -30,11 +31,11 @@ use Rattle.olk_make.specs.Standing.{is_taken, untaken, IsLast, last_named, Fills
 
 -- ---- the last member of a name
 
-last_more : (k : Name) (es : List (Name × Data)) (m : Name × Data) (d : Option Data) → last_named k (es ++ m ∷ []) d ≡ cond (bytes_eq k m.0) (Some m.1) (last_named k es d)
+last_more : (k : Name) (es : Rows) (m : Name × Data) (d : Option Data) → last_named k (es ++ m ∷ []) d ≡ cond (bytes_eq k m.0) (Some m.1) (last_named k es d)
 last_more k [] m d = refl
 last_more k (e ∷ es) m d = last_more k es m (cond (bytes_eq k e.0) (Some e.1) d)
 
-last_of_named : (k : Name) (es : List (Name × Data)) (d : Option Data) → last_named k es d ≡ last_named k (members_named k es) d
+last_of_named : (k : Name) (es : Rows) (d : Option Data) → last_named k es d ≡ last_named k (members_named k es) d
 last_of_named k [] d = refl
 last_of_named k (e ∷ es) d = by (last_of_named k es) (bytes_eq k e.0) refl
   where
@@ -51,10 +52,18 @@ last_is_found ms distinct k = last_of_named k (listed ms) None ∙ ap (λ l. las
     by None = refl
     by (Some d) = ap (λ b. cond b (Some d) None) (bytes_eq-itself k)
 
+module _ {X : Type 0} (Stands : X → Data → Type 0) where
+  nothing_fills : {x : Option X} → x ≡ None → Fills Stands x None
+  nothing_fills e = subst (λ x. Fills Stands x None) (sym e) tt
+
+  fills_found : (x : Option X) (ms : Members) → has_repeat (names_of (listed ms)) ≡ false → (k : Name) → Fills Stands x (last_named k (listed ms) None)
+      → Fills Stands x (lookup_name k (listed ms))
+  fills_found x ms distinct k = subst (Fills Stands x) (last_is_found ms distinct k)
+
 -- ---- the names whose parts are taken
 
 -- a test tells two names apart
-apart_by : (test : Name → Bool) (n k : Name) → test n ≡ true → test k ≡ false → bytes_eq n k ≡ false
+pub apart_by : (test : Name → Bool) (n k : Name) → test n ≡ true → test k ≡ false → bytes_eq n k ≡ false
 apart_by test n k h e = by (bytes_eq n k) refl
   where
     by : (b : Bool) → bytes_eq n k ≡ b → b ≡ false
@@ -86,7 +95,7 @@ module _ (p : Planned) where
       by false true q s = f s
       by false false q s = refl
 
-  untaken_all : p.condition ≡ false → p.restricted ≡ false → (es : List (Name × Data)) → untaken p es ≡ es
+  untaken_all : p.condition ≡ false → p.restricted ≡ false → (es : Rows) → untaken p es ≡ es
   untaken_all c r [] = refl
   untaken_all c r (m ∷ es) = λ i. put_if (not ((r i && tells_members m.0) || (c i && is_case m.0))) m (untaken_all c r es i)
 
@@ -132,12 +141,12 @@ module _ {K R N : Type 0} (o : Kit K R) (answers : N → Answers) where
   if_reads_itself c x d s f read = absurd (true≢false (ap (bytes_eq (codes "if")) s.0))
 
   module _ (p : Planned) (c : Known) (P : Path) where
-    parts_append : (ps qs : List (Part K R N)) (es fs : List (Name × Data)) → PartsStand o answers c ps es P → PartsStand o answers c qs fs P → PartsStand o answers c (ps ++ qs) (es ++ fs) P
+    parts_append : (ps qs : List (Part K R N)) (es fs : Rows) → PartsStand o answers c ps es P → PartsStand o answers c qs fs P → PartsStand o answers c (ps ++ qs) (es ++ fs) P
     parts_append [] qs [] fs h s = s
     parts_append (x ∷ ps) qs (m ∷ es) fs h s = (h.0, parts_append ps qs es fs h.1 s)
     parts_append _ qs _ fs h s = absurd h
 
-    module _ (same : c.condition ≡ p.condition) (ps : List (Part K R N)) (done : List (Name × Data)) (t after : Taken R N) (h : AreTaken o answers p c done P t ps)
+    module _ (same : c.condition ≡ p.condition) (ps : List (Part K R N)) (done : Rows) (t after : Taken R N) (h : AreTaken o answers p c done P t ps)
         (k : Name) (d : Data) (part : Part K R N) (left : Option (Part K R N)) (stand : PartStands o answers c part (k, d) P) where
       abbrev TakenAfter : Type 0
       TakenAfter = AreTaken o answers p c (done ++ (k, d) ∷ []) P after (ps ++ option_to_list left)
@@ -154,8 +163,10 @@ module _ {K R N : Type 0} (o : Kit K R) (answers : N → Answers) where
 
       -- what is taken for a name: another name leaves it as it was, and the name itself fills it anew
       module _ {X : Type 0} (Stands : X → Data → Type 0) (n : Name) where
-        slot_kept : {x y : Option X} → y ≡ x → bytes_eq n k ≡ false → Fills Stands x (last_named n done None) → Fills Stands y (last_named n (done ++ (k, d) ∷ []) None)
-        slot_kept e apart = subst₂ (Fills Stands) (sym e) (sym (last_more n done (k, d) None ∙ ap (λ b. cond b (Some d) (last_named n done None)) apart))
+        slot_kept : {x y : Option X} {Read : Type 0} → y ≡ x → bytes_eq n k ≡ false → (Read → Fills Stands x (last_named n done None)) → Read
+            → Fills Stands y (last_named n (done ++ (k, d) ∷ []) None)
+        slot_kept e apart filled read =
+            subst₂ (Fills Stands) (sym e) (sym (last_more n done (k, d) None ∙ ap (λ b. cond b (Some d) (last_named n done None)) apart)) (filled read)
 
         slot_filled : (y : Option X) → k ≡ n → Fills Stands y (Some d) → Fills Stands y (last_named n (done ++ (k, d) ∷ []) None)
         slot_filled y e = subst (Fills Stands y) (sym (last_more n done (k, d) None ∙ ap (λ b. cond b (Some d) (last_named n done None)) (ap (bytes_eq n) e ∙ bytes_eq-itself n)))
@@ -163,14 +174,14 @@ module _ {K R N : Type 0} (o : Kit K R) (answers : N → Answers) where
       kept : is_taken p k ≡ false → (left ≡ Some part) × (after ≡ t) → TakenAfter
       kept e q = record {
         left = left_after false e q.0;
-        at_then = λ read. slot_kept _ (codes "then") (ap (λ x. x.cases.then_schema) q.1) (apart_by (is_taken p) (codes "then") k (case_is_taken p (codes "then") read refl) e) (h.at_then read);
-        at_else = λ read. slot_kept _ (codes "else") (ap (λ x. x.cases.else_schema) q.1) (apart_by (is_taken p) (codes "else") k (case_is_taken p (codes "else") read refl) e) (h.at_else read);
+        at_then = λ read. slot_kept _ (codes "then") (ap (λ x. x.cases.then_schema) q.1) (apart_by (is_taken p) (codes "then") k (case_is_taken p (codes "then") read refl) e) h.at_then read;
+        at_else = λ read. slot_kept _ (codes "else") (ap (λ x. x.cases.else_schema) q.1) (apart_by (is_taken p) (codes "else") k (case_is_taken p (codes "else") read refl) e) h.at_else read;
         at_properties =
             λ restricted. slot_kept _ (codes "properties") (ap (λ x. x.beside.properties) q.1)
-            (apart_by (is_taken p) (codes "properties") k (telling_is_taken p (codes "properties") restricted refl) e) (h.at_properties restricted);
+            (apart_by (is_taken p) (codes "properties") k (telling_is_taken p (codes "properties") restricted refl) e) h.at_properties restricted;
         at_patterns =
             λ restricted. slot_kept _ (codes "patternProperties") (ap (λ x. x.beside.patterns) q.1)
-            (apart_by (is_taken p) (codes "patternProperties") k (telling_is_taken p (codes "patternProperties") restricted refl) e) (h.at_patterns restricted);
+            (apart_by (is_taken p) (codes "patternProperties") k (telling_is_taken p (codes "patternProperties") restricted refl) e) h.at_patterns restricted;
       }
 
       where_restricted : (T : Type 0) → cond p.restricted T ((left ≡ Some part) × (after ≡ t)) → is_case k ≡ false → (p.restricted ≡ true → T → TakenAfter) → TakenAfter
@@ -186,33 +197,33 @@ module _ {K R N : Type 0} (o : Kit K R) (answers : N → Answers) where
         at_then =
             λ read. slot_filled _ (codes "then") _ s (taken_stands part.nodes.items after.cases.then_schema d (P // codes "then") q.1
             (subst (λ a. StandAt o answers Itself part.nodes.items d (P // a)) s n));
-        at_else = λ read. slot_kept _ (codes "else") q.2 (ap (bytes_eq (codes "else")) s) (h.at_else read);
-        at_properties = λ restricted. slot_kept _ (codes "properties") (ap (λ b. b.properties) q.3) (ap (bytes_eq (codes "properties")) s) (h.at_properties restricted);
-        at_patterns = λ restricted. slot_kept _ (codes "patternProperties") (ap (λ b. b.patterns) q.3) (ap (bytes_eq (codes "patternProperties")) s) (h.at_patterns restricted);
+        at_else = slot_kept _ (codes "else") q.2 (ap (bytes_eq (codes "else")) s) h.at_else;
+        at_properties = slot_kept _ (codes "properties") (ap (λ b. b.properties) q.3) (ap (bytes_eq (codes "properties")) s) h.at_properties;
+        at_patterns = slot_kept _ (codes "patternProperties") (ap (λ b. b.patterns) q.3) (ap (bytes_eq (codes "patternProperties")) s) h.at_patterns;
       }
       one_taken shape.Else s f n q = record {
         left = left_after true (ap (is_taken p) s ∙ case_is_taken p (codes "else") (sym same ∙ f) refl) q.0;
-        at_then = λ read. slot_kept _ (codes "then") q.2 (ap (bytes_eq (codes "then")) s) (h.at_then read);
+        at_then = slot_kept _ (codes "then") q.2 (ap (bytes_eq (codes "then")) s) h.at_then;
         at_else =
             λ read. slot_filled _ (codes "else") _ s (taken_stands part.nodes.items after.cases.else_schema d (P // codes "else") q.1
             (subst (λ a. StandAt o answers Itself part.nodes.items d (P // a)) s n));
-        at_properties = λ restricted. slot_kept _ (codes "properties") (ap (λ b. b.properties) q.3) (ap (bytes_eq (codes "properties")) s) (h.at_properties restricted);
-        at_patterns = λ restricted. slot_kept _ (codes "patternProperties") (ap (λ b. b.patterns) q.3) (ap (bytes_eq (codes "patternProperties")) s) (h.at_patterns restricted);
+        at_properties = slot_kept _ (codes "properties") (ap (λ b. b.properties) q.3) (ap (bytes_eq (codes "properties")) s) h.at_properties;
+        at_patterns = slot_kept _ (codes "patternProperties") (ap (λ b. b.patterns) q.3) (ap (bytes_eq (codes "patternProperties")) s) h.at_patterns;
       }
       one_taken (shape.Properties v) s f n q = where_restricted _ q (ap is_case s.0) λ restricted e. record {
         left = left_after true (telling_is_taken p k restricted (ap tells_members s.0)) e.0;
-        at_then = λ read. slot_kept _ (codes "then") (ap (λ x. x.cases.then_schema) e.1) (ap (bytes_eq (codes "then")) s.0) (h.at_then read);
-        at_else = λ read. slot_kept _ (codes "else") (ap (λ x. x.cases.else_schema) e.1) (ap (bytes_eq (codes "else")) s.0) (h.at_else read);
+        at_then = slot_kept _ (codes "then") (ap (λ x. x.cases.then_schema) e.1) (ap (bytes_eq (codes "then")) s.0) h.at_then;
+        at_else = slot_kept _ (codes "else") (ap (λ x. x.cases.else_schema) e.1) (ap (bytes_eq (codes "else")) s.0) h.at_else;
         at_properties =
             λ r. slot_filled _ (codes "properties") _ s.0 (subst (λ x. Fills (λ y. DeclaredStand o answers y (P // codes "properties")) x (Some d))
             (sym (ap (λ x. x.beside.properties) e.1)) (record { kind = s.1; names = s.2; nodes = subst (λ a. StandEach o answers part.nodes.items (members d) (P // a)) s.0 n }));
-        at_patterns = λ r. slot_kept _ (codes "patternProperties") (ap (λ x. x.beside.patterns) e.1) (ap (bytes_eq (codes "patternProperties")) s.0) (h.at_patterns r);
+        at_patterns = slot_kept _ (codes "patternProperties") (ap (λ x. x.beside.patterns) e.1) (ap (bytes_eq (codes "patternProperties")) s.0) h.at_patterns;
       }
       one_taken (shape.PatternProperties v w) s f n q = where_restricted _ q (ap is_case s.0) λ restricted e. record {
         left = left_after true (telling_is_taken p k restricted (ap tells_members s.0)) e.0;
-        at_then = λ read. slot_kept _ (codes "then") (ap (λ x. x.cases.then_schema) e.1) (ap (bytes_eq (codes "then")) s.0) (h.at_then read);
-        at_else = λ read. slot_kept _ (codes "else") (ap (λ x. x.cases.else_schema) e.1) (ap (bytes_eq (codes "else")) s.0) (h.at_else read);
-        at_properties = λ r. slot_kept _ (codes "properties") (ap (λ x. x.beside.properties) e.1) (ap (bytes_eq (codes "properties")) s.0) (h.at_properties r);
+        at_then = slot_kept _ (codes "then") (ap (λ x. x.cases.then_schema) e.1) (ap (bytes_eq (codes "then")) s.0) h.at_then;
+        at_else = slot_kept _ (codes "else") (ap (λ x. x.cases.else_schema) e.1) (ap (bytes_eq (codes "else")) s.0) h.at_else;
+        at_properties = slot_kept _ (codes "properties") (ap (λ x. x.beside.properties) e.1) (ap (bytes_eq (codes "properties")) s.0) h.at_properties;
         at_patterns =
             λ r. slot_filled _ (codes "patternProperties") _ s.0 (subst (λ x. Fills (λ y. PatternsStand o answers c y (P // codes "patternProperties")) x (Some d))
             (sym (ap (λ x. x.beside.patterns) e.1)) (record {
@@ -233,7 +244,7 @@ module _ {K R N : Type 0} (o : Kit K R) (answers : N → Answers) where
     -- ---- the parts of an object, one after the other
 
     -- nothing is taken by a plan that reads no `if` and restricts no members
-    pub nothing_to_take : (es : List (Name × Data)) (t : Taken R N) (ps : List (Part K R N)) → p.condition ≡ false → p.restricted ≡ false
+    pub nothing_to_take : (es : Rows) (t : Taken R N) (ps : List (Part K R N)) → p.condition ≡ false → p.restricted ≡ false
         → PartsStand o answers c ps es P → AreTaken o answers p c es P t ps
     nothing_to_take es t ps off free h = record {
       left = subst (λ l. PartsStand o answers c ps l P) (sym (untaken_all p off free es)) h;
@@ -243,36 +254,36 @@ module _ {K R N : Type 0} (o : Kit K R) (answers : N → Answers) where
       at_patterns = λ restricted. absurd (true≢false (sym restricted ∙ free));
     }
 
-    module _ (es : List (Name × Data)) where
+    module _ (es : Rows) where
       -- taken out of those for the members so far, and those for the others stand
       pub record TakenSoFar (t : Taken R N) (ps rest : List (Part K R N)) : Type 0 where
-        pub done : List (Name × Data)
-        pub left : List (Name × Data)
+        pub done : Rows
+        pub left : Rows
         pub taken : AreTaken o answers p c done P t ps
         pub stand : PartsStand o answers c rest left P
         pub whole : done ++ left ≡ es
 
-      pub none_taken : (t : Taken R N) (ps rest : List (Part K R N)) → t.cases.then_schema ≡ None → t.cases.else_schema ≡ None → t.beside.properties ≡ None
+      pub none_taken : {t : Taken R N} {ps rest : List (Part K R N)} → t.cases.then_schema ≡ None → t.cases.else_schema ≡ None → t.beside.properties ≡ None
           → t.beside.patterns ≡ None → ps ≡ [] → PartsStand o answers c rest es P → TakenSoFar t ps rest
-      none_taken t ps rest no_then no_else no_properties no_patterns e h = record {
+      none_taken {t} {ps} {rest} no_then no_else no_properties no_patterns e h = record {
         done = [];
         left = es;
         taken = record {
           left = subst (λ l. PartsStand o answers c l [] P) (sym e) tt;
-          at_then = λ read. subst (λ x. Fills (λ n d. Stands o answers n d (P // codes "then")) x None) (sym no_then) tt;
-          at_else = λ read. subst (λ x. Fills (λ n d. Stands o answers n d (P // codes "else")) x None) (sym no_else) tt;
-          at_properties = λ restricted. subst (λ x. Fills (λ y. DeclaredStand o answers y (P // codes "properties")) x None) (sym no_properties) tt;
-          at_patterns = λ restricted. subst (λ x. Fills (λ y. PatternsStand o answers c y (P // codes "patternProperties")) x None) (sym no_patterns) tt;
+          at_then = λ read. nothing_fills _ no_then;
+          at_else = λ read. nothing_fills _ no_else;
+          at_properties = λ restricted. nothing_fills _ no_properties;
+          at_patterns = λ restricted. nothing_fills _ no_patterns;
         };
         stand = h;
         whole = refl;
       }
 
-      pub one_more_taken : (t after : Taken R N) (ps new rest all : List (Part K R N)) (part : Part K R N) (left : Option (Part K R N)) → c.condition ≡ p.condition
+      pub one_more_taken : {t after : Taken R N} {ps new rest all : List (Part K R N)} {part : Part K R N} (left : Option (Part K R N)) → c.condition ≡ p.condition
           → new ≡ ps ++ option_to_list left → all ≡ part ∷ rest → Takes p part.shape part t after left → TakenSoFar t ps all → TakenSoFar after new rest
-      one_more_taken t after ps new rest all part left same q e takes h = by h.left (subst (λ l. PartsStand o answers c l h.left P) e h.stand) h.whole
+      one_more_taken {t} {after} {ps} {new} {rest} {all} {part} left same q e takes h = by h.left (subst (λ l. PartsStand o answers c l h.left P) e h.stand) h.whole
         where
-          by : (members : List (Name × Data)) → PartsStand o answers c (part ∷ rest) members P → h.done ++ members ≡ es → TakenSoFar after new rest
+          by : (members : Rows) → PartsStand o answers c (part ∷ rest) members P → h.done ++ members ≡ es → TakenSoFar after new rest
           by [] stand w = absurd stand
           by (m ∷ members) stand w = record {
             done = h.done ++ m ∷ [];
@@ -284,10 +295,10 @@ module _ {K R N : Type 0} (o : Kit K R) (answers : N → Answers) where
             whole = append_assoc h.done (m ∷ []) members ∙ w;
           }
 
-      pub all_taken : (t : Taken R N) (ps rest : List (Part K R N)) → rest ≡ [] → TakenSoFar t ps rest → AreTaken o answers p c es P t ps
-      all_taken t ps rest e h = by h.left (subst (λ l. PartsStand o answers c l h.left P) e h.stand) h.whole
+      pub all_taken : {t : Taken R N} {ps rest : List (Part K R N)} → rest ≡ [] → TakenSoFar t ps rest → AreTaken o answers p c es P t ps
+      all_taken {t} {ps} {rest} e h = by h.left (subst (λ l. PartsStand o answers c l h.left P) e h.stand) h.whole
         where
-          by : (left : List (Name × Data)) → PartsStand o answers c [] left P → h.done ++ left ≡ es → AreTaken o answers p c es P t ps
+          by : (left : Rows) → PartsStand o answers c [] left P → h.done ++ left ≡ es → AreTaken o answers p c es P t ps
           by [] stand w = subst (λ l. AreTaken o answers p c l P t ps) (sym (append-nil h.done) ∙ w) h.taken
           by (m ∷ left) stand w = absurd stand
 
@@ -296,13 +307,12 @@ module _ {K R N : Type 0} (o : Kit K R) (answers : N → Answers) where
       (h : AreTaken o answers (plan_of ms) (known_of ms) (listed ms) P t ps) where
     pub cases_stand : is_condition ms ≡ true → CasesStand o answers t.cases ms P
     cases_stand read = (
-      subst (λ d. Fills (λ n x. Stands o answers n x (P // codes "then")) t.cases.then_schema d) (last_is_found ms distinct (codes "then")) (h.at_then read),
-      subst (λ d. Fills (λ n x. Stands o answers n x (P // codes "else")) t.cases.else_schema d) (last_is_found ms distinct (codes "else")) (h.at_else read),
+      fills_found _ _ ms distinct (codes "then") (h.at_then read),
+      fills_found _ _ ms distinct (codes "else") (h.at_else read),
     )
 
     pub beside_stands : is_restricted ms ≡ true → BesideStands o answers (known_of ms) t.beside ms P
     beside_stands restricted = (
-      subst (λ d. Fills (λ x. DeclaredStand o answers x (P // codes "properties")) t.beside.properties d) (last_is_found ms distinct (codes "properties")) (h.at_properties restricted),
-      subst (λ d. Fills (λ x. PatternsStand o answers (known_of ms) x (P // codes "patternProperties")) t.beside.patterns d)
-          (last_is_found ms distinct (codes "patternProperties")) (h.at_patterns restricted),
+      fills_found _ _ ms distinct (codes "properties") (h.at_properties restricted),
+      fills_found _ _ ms distinct (codes "patternProperties") (h.at_patterns restricted),
     )

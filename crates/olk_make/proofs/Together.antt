@@ -1,5 +1,6 @@
 -- What validators mean together.
-use Rattle.std.specs.Prelude.{◌≡◌, ◌≤◌, ◌+◌, ℕ, Bool, true, false, ◌&&◌, List, [], ◌∷◌, ◌++◌, IsPermutation}
+use Rattle.olk_make.proofs.Entries.{Rows}
+use Rattle.std.specs.Prelude.{◌≡◌, ◌≤◌, ◌+◌, ℕ, Some, Bool, true, false, ◌&&◌, List, [], ◌∷◌, ◌++◌, IsPermutation}
 use Rattle.std.specs.List.{flat_map}
 use Rattle.std.proofs.Common.{refl, sym, ◌∙◌, ap, subst, arith}
 use mathlib.Core.Path.{subst₂}
@@ -10,7 +11,7 @@ use Rattle.std.proofs.lemmas.List.Sums.{sum_by-append, sum_by-cons}
 use Rattle.std.proofs.lemmas.Grind.{flat_map-append}
 use Rattle.std.proofs.Math.Bool.{and_assoc, and-true}
 use Rattle.serde_json.specs.Data.{Data, Members}
-use Rattle.olk_spec.specs.Names.{Name, Path, is_among}
+use Rattle.olk_spec.specs.Names.{Name, Path, ◌//◌, lookup_name, is_among}
 use Rattle.olk_spec.specs.Faults.{◌∼◌, like_empty, like_through}
 use Rattle.olk_spec.specs.Schemas.{listed}
 use Rattle.olk_spec.specs.Malformed.{has_repeat}
@@ -21,7 +22,7 @@ use Rattle.olk_tree.specs.Questions.{Question, every}
 use Rattle.olk_tree.specs.Validators.{validator_means}
 use Rattle.olk_tree.specs.Answers.{Answers}
 use Rattle.olk_meaning.specs.Conditions.{is_restricted}
-use Rattle.olk_meaning.specs.Plans.{tells_members, claims}
+use Rattle.olk_meaning.specs.Plans.{Planned, head, tells_members, claims}
 use Rattle.olk_meaning.specs.Members.{member_accepts, member_asks, member_report, StandsAlone}
 use Rattle.olk_spec.proofs.Each.{Each}
 use Rattle.olk_make.specs.Holding.{all_malformed, which, ask, find, Covers}
@@ -42,6 +43,21 @@ every-append f (x ∷ xs) ys u = (
 )
 
 module _ {K R N : Type 0} (o : Kit K R) (answers : N → Answers) where
+  -- ---- a member by its name
+
+  pub by_its_name : {ms : Members} {ks : List (KeywordOver K R N)} {m : Name × Data} {n : Name} {L P : Path} → m.0 ≡ n → L ≡ P // m.0
+      → (L ≡ P // n → KeywordMeans o answers ms ks (n, m.1) P) → KeywordMeans o answers ms ks m P
+  by_its_name {ms} {ks} {m} {n} {L} {P} named place means = subst (λ x. KeywordMeans o answers ms ks (x, m.1) P) (sym named) (means (place ∙ ap (λ x. P // x) named))
+
+  -- the keywords mean what the member claims by the plan
+  abbrev pub MeanClaim : Members → Planned → List (KeywordOver K R N) → Name × Data → Path → Type 0
+  MeanClaim ms p ks m P = KeywordsMean o answers ms ks (claims (head p) (listed ms) m) (m ∷ []) P
+
+  pub claim_by_name : {ms : Members} {p q : Planned} {ks : List (KeywordOver K R N)} {m : Name × Data} {n : Name} {L P : Path} → m.0 ≡ n → p ≡ q → L ≡ P // m.0
+      → lookup_name m.0 (listed ms) ≡ Some m.1 → (L ≡ P // n → lookup_name n (listed ms) ≡ Some m.1 → MeanClaim ms q ks (n, m.1) P) → MeanClaim ms p ks m P
+  claim_by_name {ms} {p} {q} {ks} {m} {n} {L} {P} named chosen place there means =
+      subst₂ (λ x k. MeanClaim ms x ks (k, m.1) P) (sym chosen) (sym named) (means (place ∙ ap (λ k. P // k) named) (ap (λ k. lookup_name k (listed ms)) (sym named) ∙ there))
+
   -- ---- keywords
 
   module _ (ms : Members) (P : Path) where
@@ -81,7 +97,7 @@ module _ {K R N : Type 0} (o : Kit K R) (answers : N → Answers) where
       formed = k.formed;
     }
 
-    more_keywords : (ks ls new : List (KeywordOver K R N)) (rows more es fs : List (Name × Data)) → new ≡ ks ++ ls → KeywordsMean o answers ms ks rows es P
+    more_keywords : (ks ls new : List (KeywordOver K R N)) (rows more es fs : Rows) → new ≡ ks ++ ls → KeywordsMean o answers ms ks rows es P
         → KeywordsMean o answers ms ls more fs P → KeywordsMean o answers ms new (rows ++ more) (es ++ fs) P
     more_keywords ks ls new rows more es fs q h k = subst (λ x. KeywordsMean o answers ms x (rows ++ more) (es ++ fs) P) (sym q) record {
       covers = record {
@@ -100,19 +116,19 @@ module _ {K R N : Type 0} (o : Kit K R) (answers : N → Answers) where
     }
 
     -- the same rows in another order
-    covers_permuted : (ks : List (KeywordOver K R N)) (rows others : List (Name × Data)) → IsPermutation rows others → Covers o answers ms ks rows P → Covers o answers ms ks others P
+    covers_permuted : (ks : List (KeywordOver K R N)) (rows others : Rows) → IsPermutation rows others → Covers o answers ms ks rows P → Covers o answers ms ks others P
     covers_permuted ks rows others same h = record {
       verdict = λ u v. h.verdict u v ∙ list_all-permuted (λ m. member_accepts o.world ms m (which o ms m) u v) rows others same;
       asks_within = λ u v. subst (λ n. ask o answers ms ks v u ≤ n) (sym (sum_by-IsPermutation (λ m. member_asks o.world ms m (which o ms m) u v) rows others same)) (h.asks_within u v);
       faults = λ u v Q. like_through (h.faults u v Q) (∼_permuted (λ m. member_report o.world ms m (which o ms m) u v P Q) rows others same);
     }
 
-    pub means_permuted : (ks : List (KeywordOver K R N)) (rows others es : List (Name × Data)) → IsPermutation rows others → KeywordsMean o answers ms ks rows es P
+    pub means_permuted : (ks : List (KeywordOver K R N)) (rows others es : Rows) → IsPermutation rows others → KeywordsMean o answers ms ks rows es P
         → KeywordsMean o answers ms ks others es P
     means_permuted ks rows others es same h = record { covers = covers_permuted ks rows others same h.covers; shows = h.shows; formed = h.formed }
 
     module _ (heads : Name → Name) where
-      pub one_more_keyword : (ks ls new : List (KeywordOver K R N)) (es : List (Name × Data)) (e : Name × Data) → new ≡ ks ++ ls
+      pub one_more_keyword : (ks ls new : List (KeywordOver K R N)) (es : Rows) (e : Name × Data) → new ≡ ks ++ ls
           → KeywordsMean o answers ms ks (flat_map (claims heads (listed ms)) es) es P → KeywordsMean o answers ms ls (claims heads (listed ms) e) (e ∷ []) P
           → KeywordsMean o answers ms new (flat_map (claims heads (listed ms)) (es ++ e ∷ [])) (es ++ e ∷ []) P
       one_more_keyword ks ls new es e q h k = subst (λ rows. KeywordsMean o answers ms new rows (es ++ e ∷ []) P)

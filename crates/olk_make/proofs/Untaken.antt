@@ -1,4 +1,6 @@
 -- What is made of parts in an object where no keyword takes what another holds.
+use Rattle.olk_tree.specs.Maps.{keys_in}
+use Rattle.olk_make.proofs.Entries.{Rows}
 use Rattle.std.specs.Prelude.{◌≡◌, false, ◌||◌, ◌&&◌, List, [], ◌∷◌, ◌++◌, map, Option, Some, None}
 use Rattle.std.specs.List.{flat_map}
 use Rattle.std.proofs.Common.{refl, sym, ◌∙◌, ap, subst}
@@ -25,7 +27,7 @@ use Rattle.olk_make.specs.declared.part.Taken.{Taken}
 use Rattle.olk_make.specs.Standing.{StandAt, PartStands, nothing_taken}
 use Rattle.olk_make.specs.Making.{KeywordsMean, MakesPart, AppendsPart, ObjectIsMade}
 use Rattle.olk_make.proofs.Together.{one_more_keyword, heads_mean_all}
-use Rattle.olk_make.proofs.Makes.{if_fits, restriction_named, part_of_own, leaf_alone, makes_leaf}
+use Rattle.olk_make.proofs.Makes.{if_fits, restriction_named, neighbours, part_of_alone, makes_leaf}
 
 module _ {K R N : Type 0} (o : Kit K R) (answers : N → Answers) where
   abbrev taken_of : Option N → Option N → Option (DeclaredNodes N) → Option (Patterns R N) → Taken R N
@@ -45,12 +47,12 @@ module _ {K R N : Type 0} (o : Kit K R) (answers : N → Answers) where
   appends_leaf l L ns P p old new e = record {
     made = keyword.Leaf L l ∷ [];
     behind = e;
-    makes = part_of_own o answers (shape.Leaf l) (shape.Leaf l) L ns nothing_taken (keyword.Leaf L l ∷ []) P p refl (leaf_alone o answers l) (makes_leaf o answers l L ns);
+    makes = part_of_alone o answers {x = shape.Leaf l} ns nothing_taken refl (λ k d s. ap neighbours s.0) (makes_leaf o answers l L ns);
   }
 
-  module _ (ms : Members) (P : Path) (p : Planned) (chosen : p ≡ plan_of ms) (distinct : has_repeat (map (λ m. m.0) (listed ms)) ≡ false) where
+  module _ (ms : Members) (P : Path) (p : Planned) (chosen : p ≡ plan_of ms) (distinct : has_repeat (keys_in (listed ms)) ≡ false) where
     -- the keywords so far, and those of one more part
-    pub one_more_alone : p.condition ≡ false → p.restricted ≡ false → (ks new : List (KeywordOver K R N)) (done rest : List (Name × Data)) (m : Name × Data) (part : Part K R N)
+    pub one_more_alone : p.condition ≡ false → p.restricted ≡ false → (ks new : List (KeywordOver K R N)) (done rest : Rows) (m : Name × Data) (part : Part K R N)
         → done ++ m ∷ rest ≡ listed ms
         → AppendsPart o answers part.shape part.location part.nodes.items P p ks new → PartStands o answers (known_of ms) part m P
         → KeywordsMean o answers ms ks (flat_map (claims (head p) (listed ms)) done) done P → KeywordsMean o answers ms new (flat_map (claims (head p) (listed ms)) (done ++ m ∷ [])) (done ++ m ∷ []) P

@@ -11,5 +11,5 @@ returns-clause-form g c =
 
 pub returns-clause-makes : goal.returns-clause-makes
 returns-clause-makes g c =
-    IfOk-weaker c.form.result _ _ (λ k. makes_restriction (kit g.K.Leaf g.R.RegexEngine) g.N.BuiltNode.answers k c.args.location c.args.place.now c.args.rest c.args.beside
+    IfOk-weaker c.form.result _ _ (λ k. makes_restriction _ _ k c.args.location c.args.place.now c.args.rest c.args.beside
     (planned c.args.plan)) c.form.ensures

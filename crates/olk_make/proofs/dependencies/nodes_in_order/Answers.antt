@@ -24,7 +24,7 @@ loop-list-preserved-in_ok-append-in-Some-list g c = record {
       one_made (MadeInOrder (kit g.K.Leaf g.R.RegexEngine) g.N.BuiltNode.answers c.args.location.now) (c.args.lists.items, c.args.schemas.items)
       (c.loop-list.list-iterator.rest.items, c.loop-list.schemas.rest.items)
       (c.next.new.self.rest.items, c.loop-list.schemas.rest.items) c.loop-list.nodes.items c.append.new.items.items c.in_ok-node_of_list-in-Some-list.field-0 c.in_ok-append-in-Some-list.ensures.items
-      (λ rest. list_next (kit g.K.Leaf g.R.RegexEngine) g.N.BuiltNode.answers c.args.location.now c.loop-list.list-iterator.rest.items c.next.new.self.rest.items c.loop-list.schemas.rest.items c.loop-list.schemas.rest.items rest c.in-Some-list.names c.in_ok-node_of_list-in-Some-list.field-0 (c.in-Some.ensures.steps.0 ∙ ap (λ l. l ∷ c.next.new.self.rest.items) c.in-Some-list.is) c.in_ok-node_of_list-in-Some-list.ensures) c.loop-list.invariant.made;
+      (λ rest. list_next _ _ c.args.location.now c.loop-list.list-iterator.rest.items c.next.new.self.rest.items c.loop-list.schemas.rest.items c.loop-list.schemas.rest.items rest c.in-Some-list.names c.in_ok-node_of_list-in-Some-list.field-0 (c.in-Some.ensures.steps.0 ∙ ap (λ l. l ∷ c.next.new.self.rest.items) c.in-Some-list.is) c.in_ok-node_of_list-in-Some-list.ensures) c.loop-list.invariant.made;
   schemas = c.loop-list.invariant.schemas;
   count = let e = ap length c.in-Some.ensures.steps.0 in omega (arith, e, c.in-Some.ensures.steps.1, c.loop-list.invariant.count);
   next = tt;
@@ -37,7 +37,7 @@ loop-list-preserved-in_ok-append-in-None-list g c = record {
       one_made (MadeInOrder (kit g.K.Leaf g.R.RegexEngine) g.N.BuiltNode.answers c.args.location.now) (c.args.lists.items, c.args.schemas.items)
       (c.loop-list.list-iterator.rest.items, c.loop-list.schemas.rest.items)
       (c.next.new.self.rest.items, c.next-in-None-list.new.self.rest.items) c.loop-list.nodes.items c.append-in-Some-next.new.items.items c.in-Some-next.node c.in_ok-append-in-None-list.ensures.items
-      (λ rest. schema_next (kit g.K.Leaf g.R.RegexEngine) g.N.BuiltNode.answers c.args.location.now c.loop-list.list-iterator.rest.items c.next.new.self.rest.items c.loop-list.schemas.rest.items c.next-in-None-list.new.self.rest.items rest c.in-Some-next.node (c.in-Some.ensures.steps.0 ∙ ap (λ l. l ∷ c.next.new.self.rest.items) c.in-None-list.is) c.in-Some-next.ensures.items) c.loop-list.invariant.made;
+      (λ rest. schema_next _ _ c.args.location.now c.loop-list.list-iterator.rest.items c.next.new.self.rest.items c.loop-list.schemas.rest.items c.next-in-None-list.new.self.rest.items rest c.in-Some-next.node (c.in-Some.ensures.steps.0 ∙ ap (λ l. l ∷ c.next.new.self.rest.items) c.in-None-list.is) c.in-Some-next.ensures.items) c.loop-list.invariant.made;
   schemas = let e = ap length c.in-Some-next.ensures.cases.0 in omega (arith, e, c.in-Some-next.ensures.cases.1, c.loop-list.invariant.schemas);
   count = let e = ap length c.in-Some.ensures.steps.0 in omega (arith, e, c.in-Some.ensures.steps.1, c.loop-list.invariant.count);
   next = tt;
@@ -52,7 +52,7 @@ loop-list-preserved g c =
       made =
           nothing_made (MadeInOrder (kit g.K.Leaf g.R.RegexEngine) g.N.BuiltNode.answers c.args.location.now) (c.args.lists.items, c.args.schemas.items)
           (c.loop-list.list-iterator.rest.items, c.loop-list.schemas.rest.items) (c.next.new.self.rest.items, c.next-in-None-list.new.self.rest.items) c.loop-list.nodes.items
-          (λ rest. no_schema_next (kit g.K.Leaf g.R.RegexEngine) g.N.BuiltNode.answers c.args.location.now c.loop-list.list-iterator.rest.items c.next.new.self.rest.items c.loop-list.schemas.rest.items c.next-in-None-list.new.self.rest.items rest (c.in-Some.ensures.steps.0 ∙ ap (λ l. l ∷ c.next.new.self.rest.items) c.in-None-list.is) none none_left) c.loop-list.invariant.made;
+          (λ rest. no_schema_next _ _ c.args.location.now c.loop-list.list-iterator.rest.items c.next.new.self.rest.items c.loop-list.schemas.rest.items c.next-in-None-list.new.self.rest.items rest (c.in-Some.ensures.steps.0 ∙ ap (λ l. l ∷ c.next.new.self.rest.items) c.in-None-list.is) none none_left) c.loop-list.invariant.made;
       schemas = ap length none_left ∙ sym c.in_default.ensures.cases.1;
       count = let e = ap length c.in-Some.ensures.steps.0 in omega (arith, e, c.in-Some.ensures.steps.1, c.loop-list.invariant.count);
       next = tt;

@@ -4,7 +4,7 @@ use Rattle.olk_make.proofs.if_.make.Goals as goal
 
 pub returns-clause-makes : goal.returns-clause-makes
 returns-clause-makes g c =
-    makes_if (kit g.K.Leaf g.R.RegexEngine) g.N.BuiltNode.answers c.in_ok-keyword.keyword c.args.location c.args.schema c.args.cases c.in_ok-keyword.ensures.no_then
+    makes_if _ _ c.in_ok-keyword.keyword c.args.location c.args.schema c.args.cases c.in_ok-keyword.ensures.no_then
     c.in_ok-keyword.ensures.no_else c.in_ok-keyword.ensures.form
 
 pub returns-clause-form : goal.returns-clause-form

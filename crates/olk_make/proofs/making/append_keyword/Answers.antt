@@ -10,5 +10,5 @@ pub returns-in-Leaf : goal.returns-in-Leaf
 returns-in-Leaf g c =
     on_ok_weaker c.append.result (λ e. subst (λ x. AppendsPart (kit g.K.Leaf g.R.RegexEngine) g.N.BuiltNode.answers x c.args.part.location c.args.part.nodes.items c.args.place.now
     (planned c.args.plan) c.args.keywords.now.items c.append.new.items.items) (sym c.in-Leaf.is)
-    (appends_leaf (kit g.K.Leaf g.R.RegexEngine) g.N.BuiltNode.answers c.in-Leaf.leaf c.args.part.location c.args.part.nodes.items c.args.place.now
+    (appends_leaf _ _ c.in-Leaf.leaf c.args.part.location c.args.part.nodes.items c.args.place.now
     (planned c.args.plan) c.args.keywords.now.items c.append.new.items.items e)) c.append.ensures.items

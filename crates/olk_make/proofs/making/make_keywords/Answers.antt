@@ -17,12 +17,11 @@ loop-part-init g c =
           let taken = subst (λ p. AreTaken (kit g.K.Leaf g.R.RegexEngine) g.N.BuiltNode.answers p (known_of ms)
           (listed ms) c.args.place.now c.in_ok-taken.taken c.in_ok-taken.parts.items) chosen (c.in_ok-taken.ensures (listed ms) c.args.place.now (known_of ms) (ap
           (λ p. p.condition) (sym chosen)) stand) in
-          none_made (kit g.K.Leaf g.R.RegexEngine) g.N.BuiltNode.answers ms c.args.place.now c.in_ok-keywords.keywords.items c.into_iter-part-iterator.result.rest.items
-          c.in_ok-taken.taken c.in_ok-keywords.ensures.items
+          none_made _ _ ms c.args.place.now c.in_ok-keywords.ensures.items
           (subst (λ l. PartsStand (kit g.K.Leaf g.R.RegexEngine) g.N.BuiltNode.answers (known_of ms) l (untaken (plan_of ms) (listed ms)) c.args.place.now)
           (sym c.into_iter-part-iterator.ensures.into_iter_gives.0) taken.left)
-          (λ read. cases_stand (kit g.K.Leaf g.R.RegexEngine) g.N.BuiltNode.answers ms c.args.place.now c.in_ok-taken.taken c.in_ok-taken.parts.items distinct taken read)
-          (λ restricted. beside_stands (kit g.K.Leaf g.R.RegexEngine) g.N.BuiltNode.answers ms c.args.place.now c.in_ok-taken.taken c.in_ok-taken.parts.items distinct taken restricted);
+          (λ read. cases_stand _ _ ms c.args.place.now c.in_ok-taken.taken c.in_ok-taken.parts.items distinct taken read)
+          (λ restricted. beside_stands _ _ ms c.args.place.now c.in_ok-taken.taken c.in_ok-taken.parts.items distinct taken restricted);
       count = ap length c.into_iter-part-iterator.ensures.into_iter_gives.0 ∙ search rules ∙ sym c.into_iter-part-iterator.ensures.into_iter_gives.1;
       next = tt;
       ends = tt;
@@ -30,9 +29,8 @@ loop-part-init g c =
 
 pub loop-part-preserved-in-Continue-branch-5 : goal.loop-part-preserved-in-Continue-branch-5
 loop-part-preserved-in-Continue-branch-5 g c = record {
-  made = λ ms distinct chosen stand. one_more_made (kit g.K.Leaf g.R.RegexEngine) g.N.BuiltNode.answers ms c.args.place.now
-      (planned c.args.plan) chosen distinct c.loop-part.keywords.items
-      (c.in-Some-2.keyword ∷ []) c.append.new.items.items c.in-Some.part c.next.new.self.rest.items c.loop-part.part-iterator.rest.items c.loop-part.taken c.make_keyword.new.taken
+  made = λ ms distinct chosen stand. one_more_made _ _ ms c.args.place.now
+      (planned c.args.plan) chosen distinct 
       c.in_ok-append.ensures.items c.in-Some.ensures.steps.0 (c.loop-part.invariant.made ms distinct chosen stand)
       (subst (λ x. MakesPart
       (kit g.K.Leaf g.R.RegexEngine) g.N.BuiltNode.answers c.in-Some.part.shape c.in-Some.part.location c.in-Some.part.nodes.items c.loop-part.taken c.args.place.now
@@ -44,9 +42,8 @@ loop-part-preserved-in-Continue-branch-5 g c = record {
 
 pub loop-part-preserved : goal.loop-part-preserved
 loop-part-preserved g c = record {
-  made = λ ms distinct chosen stand. one_more_made (kit g.K.Leaf g.R.RegexEngine) g.N.BuiltNode.answers ms c.args.place.now
-      (planned c.args.plan) chosen distinct c.loop-part.keywords.items [] c.loop-part.keywords.items c.in-Some.part c.next.new.self.rest.items c.loop-part.part-iterator.rest.items
-      c.loop-part.taken c.make_keyword.new.taken (sym (append-nil c.loop-part.keywords.items)) c.in-Some.ensures.steps.0 (c.loop-part.invariant.made ms distinct chosen stand)
+  made = λ ms distinct chosen stand. one_more_made _ _ ms c.args.place.now
+      (planned c.args.plan) chosen distinct (sym (append-nil c.loop-part.keywords.items)) c.in-Some.ensures.steps.0 (c.loop-part.invariant.made ms distinct chosen stand)
       (subst (λ x. MakesPart
       (kit g.K.Leaf g.R.RegexEngine) g.N.BuiltNode.answers c.in-Some.part.shape c.in-Some.part.location c.in-Some.part.nodes.items c.loop-part.taken c.args.place.now
       (planned c.args.plan) (option_to_list x)) c.in_default.is c.in_ok-keyword.ensures.makes) c.in_ok-keyword.ensures.cases c.in_ok-keyword.ensures.beside;
@@ -56,6 +53,6 @@ loop-part-preserved g c = record {
 }
 
 pub returns : goal.returns
-returns g c = λ ms distinct chosen stand. all_made (kit g.K.Leaf g.R.RegexEngine) g.N.BuiltNode.answers ms c.args.place.now
-    (planned c.args.plan) chosen distinct c.loop-part.keywords.items c.loop-part.part-iterator.rest.items c.loop-part.taken (nil_from_length _
+returns g c = λ ms distinct chosen stand. all_made _ _ ms c.args.place.now
+    (planned c.args.plan) chosen distinct (nil_from_length _
     (c.loop-part.invariant.count ∙ c.in-None.ensures.steps.0)) (c.loop-part.invariant.made ms distinct chosen stand)

@@ -8,5 +8,5 @@ returns-clause-form g c = IfOk-weaker c.form.result _ _ (λ k. is_pattern_proper
 
 pub returns-clause-makes : goal.returns-clause-makes
 returns-clause-makes g c = IfOk-weaker c.form.result _ _ (λ k form t.
-    makes_pattern_properties (kit g.K.Leaf g.R.RegexEngine) g.N.BuiltNode.answers k c.args.location c.args.patterns t c.args.nodes.items c.in_ok-entries.entries.items
+    makes_pattern_properties _ _ k c.args.location c.args.patterns t c.args.nodes.items c.in_ok-entries.entries.items
     c.in_ok-entries.ensures form) c.form.ensures

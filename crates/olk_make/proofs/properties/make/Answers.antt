@@ -6,5 +6,5 @@ use Rattle.olk_make.proofs.properties.make.Goals as goal
 
 pub returns-clause-makes : goal.returns-clause-makes
 returns-clause-makes g c =
-    IfOk-weaker c.form.result _ _ (λ k. makes_properties (kit g.K.Leaf g.R.RegexEngine) g.N.BuiltNode.answers k c.args.names c.args.nodes.items c.args.location c.args.place.now
+    IfOk-weaker c.form.result _ _ (λ k. makes_properties _ _ k c.args.names c.args.nodes.items c.args.location c.args.place.now
     (planned c.args.plan)) c.form.ensures

@@ -7,4 +7,4 @@ pub returns-clause-form : goal.returns-clause-form
 returns-clause-form g c = refl
 
 pub returns-clause-makes : goal.returns-clause-makes
-returns-clause-makes g c = makes_property_names (kit g.K.Leaf g.R.RegexEngine) g.N.BuiltNode.answers c.in-Some.node c.args.location c.pop.new.self.items c.args.nodes.items c.in-Some.ensures.items
+returns-clause-makes g c = makes_property_names _ _ c.in-Some.node c.args.location c.pop.new.self.items c.args.nodes.items c.in-Some.ensures.items

@@ -3,4 +3,4 @@ use Rattle.olk_make.proofs.PropertyNames.{makes_no_names}
 use Rattle.olk_make.proofs.property_names.make_false.Goals as goal
 
 pub returns-clause-makes : goal.returns-clause-makes
-returns-clause-makes g c = makes_no_names (kit g.K.Leaf g.R.RegexEngine) g.N.BuiltNode.answers c.args.location
+returns-clause-makes g c = makes_no_names _ _ c.args.location

@@ -5,10 +5,10 @@ use Rattle.olk_make.proofs.Makes.{makes_required_elsewhere, makes_required_insid
 use Rattle.olk_make.proofs.required.make.Goals as goal
 
 pub returns-then-fuses : goal.returns-then-fuses
-returns-then-fuses g c P = makes_required_elsewhere (kit g.K.Leaf g.R.RegexEngine) g.N.BuiltNode.answers c.args.required c.args.location P c.args.nodes.items (planned c.args.plan) (search rules)
+returns-then-fuses g c P = makes_required_elsewhere _ _ c.args.required c.args.location P c.args.nodes.items (planned c.args.plan) (search rules)
 
 pub returns-then-is_some : goal.returns-then-is_some
-returns-then-is_some g c P = makes_required_inside (kit g.K.Leaf g.R.RegexEngine) g.N.BuiltNode.answers c.args.required c.args.location P c.args.nodes.items (planned c.args.plan) (search rules)
+returns-then-is_some g c P = makes_required_inside _ _ c.args.required c.args.location P c.args.nodes.items (planned c.args.plan) (search rules)
 
 pub returns : goal.returns
-returns g c P = makes_required_alone (kit g.K.Leaf g.R.RegexEngine) g.N.BuiltNode.answers c.args.required c.args.location P c.args.nodes.items (planned c.args.plan) (search rules) (search rules)
+returns g c P = makes_required_alone _ _ c.args.required c.args.location P c.args.nodes.items (planned c.args.plan) (search rules) (search rules)
