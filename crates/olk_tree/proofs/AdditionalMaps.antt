@@ -160,7 +160,9 @@ module _ {X Y : Type 0} (h : Y → X) where
 
         asked_first-map : (x : Name × Data) {ns : List X} (ms : List Y) → ns ≡ map h ms → first_or_unexpected x (first_of (λ e. r e u x.1 (Q // x.0)) ns) (is_unexpected answers S u x.0)
             ≡ first_or_unexpected x (first_of (λ e. s e u x.1 (Q // x.0)) ms) (is_unexpected answers T u x.0)
-        asked_first-map x ms e = λ j. first_or_unexpected x ((ap (first_of (λ e. r e u x.1 (Q // x.0))) e ∙ first_of-map _ (λ e. s e u x.1 (Q // x.0)) h (λ y. finds y x.1 (Q // x.0)) ms) j) (is_unexpected-map u x.0 j)
+        asked_first-map x ms e =
+            λ j. first_or_unexpected x ((ap (first_of (λ e. r e u x.1 (Q // x.0))) e ∙ first_of-map _ (λ e. s e u x.1 (Q // x.0)) h (λ y. finds y x.1 (Q // x.0)) ms) j)
+            (is_unexpected-map u x.0 j)
 
         declared_first-map : first_of (λ e. first_of (λ w. r e.1.1 u w (Q // e.0)) (at e.0 v)) S.declared ≡ first_of (λ e. first_of (λ w. s e.1.1 u w (Q // e.0)) (at e.0 v)) T.declared
         declared_first-map = ap (first_of _) same.declared ∙ first_of-map _ _ with_place (λ e i. first_of (λ w. finds e.1.1 w (Q // e.0) i) (at e.0 v)) T.declared

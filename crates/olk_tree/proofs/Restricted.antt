@@ -155,7 +155,8 @@ module _ {K R N : Type 0} {o : Kit K R} {m : _} {r : _} {t : _} {S : Sides R N} 
     shown_by_part : map showing (asked_schemas h x.0 u) ≡ each_shown o.world u fs es P Q d x
     shown_by_part = map-append showing (declared_schemas h x.0 u) _ ∙ ap (λ l. map showing (declared_schemas h x.0 u) ++ l) (map-append showing (matching_schemas h x.0 u) _)
         ∙ sym (append_assoc (map showing (declared_schemas h x.0 u)) (map showing (matching_schemas h x.0 u)) _)
-        ∙ (λ i. map-map showing _ (declared_schema h x.0) (λ s. refl) (declared_at fs x.0) i ++ map-map showing _ (pattern_schema h) (λ e. refl) (matching_at o.world u es x.0) i ++ of_rest (is_object d && is_other o.world u fs es x.0) i)
+        ∙ (λ i. map-map showing _ (declared_schema h x.0) (λ s. refl) (declared_at fs x.0) i ++ map-map showing _ (pattern_schema h) (λ e. refl) (matching_at o.world u es x.0) i
+        ++ of_rest (is_object d && is_other o.world u fs es x.0) i)
       where
         of_rest : (b : Bool) → map showing (put_if b (d, at_rest) []) ≡ put_if b (showing (d, at_rest)) []
         of_rest true = refl
@@ -169,7 +170,8 @@ module _ {K R N : Type 0} {o : Kit K R} {m : _} {r : _} {t : _} {S : Sides R N} 
   restricted_children v Q = λ i. flat_map (λ x. shown_each x Q i) (members v)
 
 -- beside the members of a schema object it shows what is shown of them
-module _ {K R N : Type 0} {o : Kit K R} {m : _} {r : _} {t : _} (ms : Members) {S : Sides R N} {d : Data} {P : Path} (h : SidesStand o m r t S (declared_beside ms) (patterns_beside ms) d P) (u : Bool) (v : Data) (Q : Path) where
+module _ {K R N : Type 0} {o : Kit K R} {m : _} {r : _} {t : _} (ms : Members) {S : Sides R N} {d : Data} {P : Path}
+    (h : SidesStand o m r t S (declared_beside ms) (patterns_beside ms) d P) (u : Bool) (v : Data) (Q : Path) where
   pub restricted_shows : (declares has_patterns : Bool) (A M : Path) (more : List Tree) → declares ≡ declares_beside ms → has_patterns ≡ matches_beside ms
       → A ≡ P // codes "additionalProperties" → M ≡ P // codes "patternProperties" → more ≡ required_child ms v P Q
       → additional_tree o.answers S u v Q declares has_patterns A M (λ n. t n u) more ≡ restriction_shown o.world u ms v d P Q
