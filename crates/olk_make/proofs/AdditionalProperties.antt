@@ -47,11 +47,10 @@ use Rattle.olk_tree.specs.Answers.{Answers}
 use Rattle.olk_tree.specs.Places.{Stands}
 use Rattle.olk_read.specs.Patterns.{ArePatterns}
 use Rattle.olk_read.specs.declared.shape.Shape.TheVariants as shape
-use Rattle.olk_read.specs.declared.shape.ReadPlaces.TheVariants.{Itself}
 use Rattle.olk_make.specs.Forms.{IsMapOf, HasPatterns, IsRequiredName, HasMapFor, IsFormOfAdditionalProperties, IsAdditionalProperties}
 use Rattle.olk_make.specs.Holding.{StandEach, which}
 use Rattle.olk_make.specs.Making.{KeywordsMean, MakesRestriction, MakesPart}
-use Rattle.olk_make.specs.Standing.{StandAt, Fills, DeclaredStand, PatternsStand, RestStands, BesideStands}
+use Rattle.olk_make.specs.Standing.{Fills, DeclaredStand, PatternsStand, RestStands, BesideStands}
 use Rattle.olk_make.specs.declared.part.Beside.{Beside}
 use Rattle.olk_make.specs.declared.part.DeclaredNodes.{DeclaredNodes}
 use Rattle.olk_make.specs.declared.part.Patterns.{Patterns}

@@ -35,9 +35,8 @@ use Rattle.olk_meaning.proofs.Heads.{names_of}
 use Rattle.olk_make.specs.Forms.{IsFormOfIf, IsIf}
 use Rattle.olk_make.specs.Holding.{which, Covers}
 use Rattle.olk_make.specs.Making.{KeywordsMean, MakesCondition, MakesPart}
-use Rattle.olk_make.specs.Standing.{StandAt, Fills, is_taken}
+use Rattle.olk_make.specs.Standing.{Fills, is_taken}
 use Rattle.olk_read.specs.declared.shape.Shape.TheVariants as shape
-use Rattle.olk_read.specs.declared.shape.ReadPlaces.TheVariants.{Itself}
 use Rattle.olk_make.specs.declared.part.Cases.{Cases}
 use Rattle.olk_make.specs.declared.part.Taken.{Taken}
 use Rattle.olk_make.proofs.Held.{question, shown, found}

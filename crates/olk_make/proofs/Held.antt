@@ -15,7 +15,7 @@ use Rattle.std.proofs.Math.Bool.{and-false, and-true, or-false}
 use Rattle.olk_tree.proofs.Answering.{more_within}
 use mathlib.Core.Bool.{true≢false}
 use mathlib.Core.Path.{subst₂}
-use Rattle.serde_json.specs.Data.{Data, object, array, Members, Items}
+use Rattle.serde_json.specs.Data.{Data, object, array, Members}
 use Rattle.serde_json.specs.View.{view}
 use Rattle.serde_json.specs.declared.value.Value.{Value}
 use Rattle.olk_spec.specs.Names.{Name, Path, ◌//◌, lookup_name, first_if_equal, filter_once, put_if, is_empty, is_among}
@@ -64,7 +64,7 @@ use Rattle.olk_meaning.proofs.Heads.{names_of}
 use Rattle.olk_meaning.proofs.Clean.{fused, names_fused}
 use Rattle.olk_meaning.proofs.Children.{shown_at, shown_declared, branches_shown, accepting_branches, any_shown, properties_child, required_child, no_required_child, all_of_child, any_of_child, not_child, leaf_child}
 use Rattle.olk_spec.proofs.Maps.{is_empty-map}
-use Rattle.olk_make.proofs.Formed.{has_form, is_formed, just_one_formed, stand_formed, each_held_formed, each_long, map_formed, properties_formed, required2_formed, all_of_formed, any_of_formed}
+use Rattle.olk_make.proofs.Formed.{has_form, just_one_formed, stand_formed, each_held_formed, each_long, map_formed, properties_formed, required2_formed, all_of_formed, any_of_formed}
 use Rattle.olk_tree.specs.Formed.{is_map_formed}
 use Rattle.olk_spec.specs.declared.TheConstants.{HASHMAP_THRESHOLD}
 
@@ -253,18 +253,18 @@ module _ {K R N : Type 0} (o : Kit K R) (answers : N → Answers) where
   unfolding answers_of
   means_properties m ns L fs d q sized held stand ms P p = subst
       (λ x. KeywordMeans o answers ms (keyword.Properties (record { properties = m; location = L }) ∷ []) (codes "properties", x) P) (sym q) (record {
-    holds = one ms (keyword.Properties (record { properties = m; location = L })) (codes "properties", object fs) properties P
-        (λ u v. ap (λ ds. (every (each_at u v) ds).accepts u) held ∙ members_accept u v _ _ _ stand ∙ sym (fact.properties_accepts o.world ms fs u v))
-        (λ u v. subst₂ (λ ds n. (every (each_at u v) ds).asks u ≤ n) (sym held) (sym (fact.properties_asks o.world ms fs u v)) (members_ask u v _ _ _ stand))
-        (λ u v Q. subst₂ (λ ds l. flat_map (λ e. flat_map (λ x. (answers e.1).report u x (Q // e.0)) (at e.0 v)) ds ∼ l) (sym held)
-        (ap (λ M. flat_map (λ e. flat_map (λ x. report o.world u e.1 x (M // e.0) (Q // e.0)) (at e.0 v)) (listed fs)) p ∙ sym (fact.properties_report o.world ms fs u v P Q))
-        (members_find u v _ Q _ _ stand));
-    shows = λ u h v Q.
-        ap (λ t. t ∷ []) (properties_show m ns L (listed fs) held stand u v Q [] ∙ ap (λ M. shown_declared o.world u v M Q (listed fs) []) p)
-        ∙ ap (λ b. shown_declared o.world u v (P // codes "properties") Q (listed fs) (missing_child o.world u (read_members (meaning_step o.world u) ms) v P Q b) ∷ []) (sym h.2)
-        ∙ sym (properties_child o.world u v ms P Q fs h.0 h.1);
-    formed = just_one_formed o answers (keyword.Properties (record { properties = m; location = L })) (properties_formed o answers m L sized (each_held_formed o answers (mapped m) _ _ _ held _ (schemas_answer o answers _ _ _ stand)));
-  })
+        holds = one ms (keyword.Properties (record { properties = m; location = L })) (codes "properties", object fs) properties P
+            (λ u v. ap (λ ds. (every (each_at u v) ds).accepts u) held ∙ members_accept u v _ _ _ stand ∙ sym (fact.properties_accepts o.world ms fs u v))
+            (λ u v. subst₂ (λ ds n. (every (each_at u v) ds).asks u ≤ n) (sym held) (sym (fact.properties_asks o.world ms fs u v)) (members_ask u v _ _ _ stand))
+            (λ u v Q. subst₂ (λ ds l. flat_map (λ e. flat_map (λ x. (answers e.1).report u x (Q // e.0)) (at e.0 v)) ds ∼ l) (sym held)
+            (ap (λ M. flat_map (λ e. flat_map (λ x. report o.world u e.1 x (M // e.0) (Q // e.0)) (at e.0 v)) (listed fs)) p ∙ sym (fact.properties_report o.world ms fs u v P Q))
+            (members_find u v _ Q _ _ stand));
+        shows = λ u h v Q.
+            ap (λ t. t ∷ []) (properties_show m ns L (listed fs) held stand u v Q [] ∙ ap (λ M. shown_declared o.world u v M Q (listed fs) []) p)
+            ∙ ap (λ b. shown_declared o.world u v (P // codes "properties") Q (listed fs) (missing_child o.world u (read_members (meaning_step o.world u) ms) v P Q b) ∷ []) (sym h.2)
+            ∙ sym (properties_child o.world u v ms P Q fs h.0 h.1);
+        formed = just_one_formed o answers (keyword.Properties (record { properties = m; location = L })) (properties_formed o answers m L sized (each_held_formed o answers (mapped m) _ _ _ held _ (schemas_answer o answers _ _ _ stand)));
+      })
 
   -- ---- properties, with required or alone
 

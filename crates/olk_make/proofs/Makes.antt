@@ -15,8 +15,8 @@ use Rattle.serde_json.specs.declared.value.Value.{Value}
 use Rattle.olk_spec.specs.Names.{Name, Path, ◌//◌, lookup_name, filter_once, put_if, is_among}
 use Rattle.olk_spec.specs.World.{World}
 use Rattle.olk_spec.specs.Vocabulary.{Keyword, properties, pattern_properties, additional_properties, required, if_keyword, then_keyword, else_keyword, keyword_named}
-use Rattle.olk_spec.specs.Schemas.{listed, members, numbered, texts, is_object, is_truth}
-use Rattle.olk_spec.specs.Malformed.{has_repeat, items_of_array}
+use Rattle.olk_spec.specs.Schemas.{listed, members, texts, is_object, is_truth}
+use Rattle.olk_spec.specs.Malformed.{has_repeat}
 use Rattle.olk_spec.specs.Tree.{Tree}
 use Rattle.olk_spec.proofs.Each.{Each, Each-filter_once}
 use Rattle.olk_spec.proofs.Walks.{same_name, bytes_eq-sym, bytes_eq-itself, neither, Distinct, Distinct-from, Each-found}
@@ -34,7 +34,7 @@ use Rattle.olk_meaning.proofs.RestrictionShown.{properties_show_none, patterns_s
 use Rattle.olk_meaning.proofs.Heads.{names_of}
 use Rattle.olk_read.specs.Reading.{reads_of, IsShape, Fits}
 use Rattle.olk_make.specs.Standing.{StandAt, is_taken, untaken, is_if_shape, is_restriction_shape, PartsStand, CasesStand, BesideStands}
-use Rattle.olk_make.specs.Making.{KeywordMeans, KeywordsMean, MakesMember, MakesClaims, MakesPart}
+use Rattle.olk_make.specs.Making.{KeywordsMean, MakesMember, MakesClaims, MakesPart}
 use Rattle.olk_make.specs.declared.part.Taken.{Taken}
 use Rattle.olk_tree.specs.Tables.{Table}
 use Rattle.olk_tree.specs.declared.node.KeywordOver.{KeywordOver}
@@ -43,7 +43,6 @@ use Rattle.olk_make.specs.declared.part.Part.{Part}
 use Rattle.olk_read.specs.declared.shape.Shape.{Shape}
 use Rattle.olk_read.specs.declared.shape.Shape.TheVariants as shape
 use Rattle.olk_read.specs.declared.shape.ReadPlaces.TheVariants.{Nothing}
-use Rattle.olk_read.proofs.Read.{array_of}
 use Rattle.olk_meaning.proofs.Claims.{heads_there, claims_no_case, IsNoCase}
 use Rattle.olk_make.proofs.Together.{by_its_name, MeanClaim, claim_by_name, no_keywords_mean, one_more_keyword, heads_mean_all}
 use Rattle.olk_make.proofs.Held.{unrestricted_if_untaken, means_all_of, means_any_of, means_not, means_form, means_fused, means_fused_one, means_own, means_leaf, means_unread, means_required, means_required_alone}

@@ -1,13 +1,13 @@
 -- What holds `oneOf`.
 use Rattle.olk_make.proofs.Entries.{Rows}
-use Rattle.std.specs.Prelude.{◌≡◌, ◌≤◌, ℕ, ◌+◌, ◌==◌, nat_lt, Bool, true, false, not, cond, List, [], ◌∷◌, map, count_by, codes, None}
-use Rattle.std.proofs.Common.{refl, sym, ◌∙◌, ap, subst, arith}
+use Rattle.std.specs.Prelude.{◌≡◌, ℕ, ◌+◌, ◌==◌, nat_lt, Bool, true, false, not, cond, List, [], ◌∷◌, count_by, codes, None}
+use Rattle.std.proofs.Common.{refl, sym, ◌∙◌, ap, arith}
 use Rattle.std.proofs.lemmas.List.Sums.{sum_by-cons}
 use mathlib.Core.Path.{subst₂}
-use Rattle.serde_json.specs.Data.{Data, array, Members, Items}
+use Rattle.serde_json.specs.Data.{Data, array, Members}
 use Rattle.olk_spec.specs.Names.{Name, Path, ◌//◌, put_if}
 use Rattle.olk_spec.specs.Vocabulary.{one_of}
-use Rattle.olk_spec.specs.Faults.{Fault, Context, context, OneOfNotValid, OneOfMultipleValid, IsLikeContext, like, like_not_valid, like_multiple, ◌∼◌, like_empty, like_next}
+use Rattle.olk_spec.specs.Faults.{Fault, Context, OneOfNotValid, like_not_valid, like_multiple, ◌∼◌}
 use Rattle.olk_spec.specs.Schemas.{numbered, is_array}
 use mathlib.Core.Bool.{true≢false}
 use Rattle.olk_spec.specs.Malformed.{items_list, items_of_array}
@@ -27,7 +27,7 @@ use Rattle.olk_meaning.proofs.OneOf as fact
 use Rattle.olk_make.specs.Forms.{IsFormOfOneOf}
 use Rattle.olk_make.specs.Holding.{StandEach}
 use Rattle.olk_make.specs.Making.{KeywordMeans}
-use Rattle.olk_make.proofs.Held.{Answered, fault_like, question, shown, found, found_in, at_value, accepts_value, any_ask, any_context, branches_show, accepting_show, one, same_within, at_most_through}
+use Rattle.olk_make.proofs.Held.{Answered, fault_like, found_in, at_value, accepts_value, any_ask, any_context, branches_show, accepting_show, one, same_within, at_most_through}
 use Rattle.olk_make.proofs.Formed.{just_one_formed, stand_formed, one_of_formed}
 
 -- one branch is counted where it accepts

@@ -44,7 +44,7 @@ use Rattle.olk_make.specs.Holding.{StandEach}
 use Rattle.olk_make.specs.Forms.{IsFormOfPatternProperties, IsPatternProperties}
 use Rattle.olk_make.specs.Standing.{EntriesStand}
 use Rattle.olk_make.specs.Making.{KeywordMeans, MakesMember}
-use Rattle.olk_make.proofs.Held.{Answered, question, shown, found, one_if_free}
+use Rattle.olk_make.proofs.Held.{Answered, one_if_free}
 use Rattle.olk_make.proofs.Formed.{just_one_formed, entry_formed, patterns_formed}
 
 -- ---- patterns and nodes side by side

@@ -43,8 +43,8 @@ use Rattle.olk_make.specs.Forms.{AreCut, IsPropertyDependencies}
 use Rattle.olk_make.specs.Holding.{StandInner}
 use Rattle.olk_make.specs.Making.{KeywordMeans, MakesMember, MakesPropertyDependencies}
 use Rattle.olk_make.proofs.Entries.{Rows, AnswersFor, AnswerEach, each_count, each_accept, each_ask, each_find, each_show, schema_answers, schemas_answer}
-use Rattle.olk_make.proofs.Held.{question, shown, found, one, same_within}
-use Rattle.olk_make.proofs.Formed.{has_form, is_formed, just_one_formed, each_keys, each_held_formed}
+use Rattle.olk_make.proofs.Held.{one}
+use Rattle.olk_make.proofs.Formed.{has_form, just_one_formed, each_keys, each_held_formed}
 use Rattle.olk_spec.proofs.Truth.{and_from}
 
 -- maps, made of the lists of names and the nodes that are left

@@ -6,9 +6,8 @@ use Rattle.std.specs.List.{list_all, flat_map}
 use Rattle.std.proofs.Common.{refl, sym, ◌∙◌, ap, subst, arith}
 use Rattle.std.proofs.lemmas.List.Sums.{sum_by-cons}
 use Rattle.olk_tree.proofs.Answering.{more_within}
-use mathlib.Core.Path.{subst₂}
 use Rattle.serde_json.specs.Data.{Data, string, Members}
-use Rattle.olk_spec.specs.Names.{Name, Path, ◌//◌, is_empty}
+use Rattle.olk_spec.specs.Names.{Path, ◌//◌, is_empty}
 use Rattle.olk_spec.specs.Vocabulary.{property_names}
 use Rattle.olk_spec.specs.Faults.{FalseSchema, ◌∼◌}
 use Rattle.olk_spec.specs.Schemas.{is_object, is_truth, members}
@@ -25,11 +24,9 @@ use Rattle.olk_tree.specs.declared.node.KeywordOver.TheVariants as keyword
 use Rattle.olk_tree.specs.Answers.{Answers}
 use Rattle.olk_tree.specs.Places.{Stands}
 use Rattle.olk_read.specs.declared.shape.Shape.TheVariants as shape
-use Rattle.olk_read.specs.declared.shape.ReadPlaces.TheVariants.{Itself}
-use Rattle.olk_make.specs.Standing.{StandAt}
 use Rattle.olk_make.specs.Making.{KeywordMeans, MakesMember}
-use Rattle.olk_make.proofs.Held.{question, shown, found, one, same_within}
-use Rattle.olk_make.proofs.Formed.{has_form, is_formed, just_one_formed}
+use Rattle.olk_make.proofs.Held.{found, one, same_within}
+use Rattle.olk_make.proofs.Formed.{just_one_formed}
 
 module _ {K R N : Type 0} (o : Kit K R) (answers : N → Answers) where
   -- ---- a schema for each name

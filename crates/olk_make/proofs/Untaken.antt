@@ -1,7 +1,7 @@
 -- What is made of parts in an object where no keyword takes what another holds.
 use Rattle.olk_tree.specs.Maps.{keys_in}
 use Rattle.olk_make.proofs.Entries.{Rows}
-use Rattle.std.specs.Prelude.{◌≡◌, false, ◌||◌, ◌&&◌, List, [], ◌∷◌, ◌++◌, map, Option, Some, None}
+use Rattle.std.specs.Prelude.{◌≡◌, false, ◌||◌, ◌&&◌, List, [], ◌∷◌, ◌++◌, Option, Some, None}
 use Rattle.std.specs.List.{flat_map}
 use Rattle.std.proofs.Common.{refl, sym, ◌∙◌, ap, subst}
 use mathlib.Core.Bool.{true≢false}

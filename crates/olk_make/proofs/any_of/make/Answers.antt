@@ -1,4 +1,3 @@
-use Rattle.olk_base.specs.Kit.{kit}
 use Rattle.olk_make.proofs.Makes.{makes_any_of}
 use Rattle.olk_make.proofs.any_of.make.Goals as goal
 

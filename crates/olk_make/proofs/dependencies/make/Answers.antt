@@ -1,5 +1,4 @@
 use Rattle.std.proofs.lemmas.Result.{IfOk-weaker}
-use Rattle.olk_base.specs.Kit.{kit}
 use Rattle.olk_make.proofs.DependencyKeywords.{makes_dependencies, keys_of_dependencies}
 use Rattle.olk_make.proofs.dependencies.make.Goals as goal
 

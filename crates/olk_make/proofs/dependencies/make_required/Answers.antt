@@ -1,5 +1,4 @@
 use Rattle.std.proofs.lemmas.Result.{IfOk-weaker}
-use Rattle.olk_base.specs.Kit.{kit}
 use Rattle.olk_make.proofs.DependencyKeywords.{makes_dependent_required, keys_of_dependent_required}
 use Rattle.olk_make.proofs.dependencies.make_required.Goals as goal
 

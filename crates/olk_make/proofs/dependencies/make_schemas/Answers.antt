@@ -1,5 +1,4 @@
 use Rattle.std.proofs.lemmas.Result.{IfOk-weaker}
-use Rattle.olk_base.specs.Kit.{kit}
 use Rattle.olk_make.proofs.DependencyKeywords.{makes_dependent_schemas, keys_of_dependent_schemas}
 use Rattle.olk_make.proofs.dependencies.make_schemas.Goals as goal
 

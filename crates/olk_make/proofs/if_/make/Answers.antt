@@ -1,4 +1,3 @@
-use Rattle.olk_base.specs.Kit.{kit}
 use Rattle.olk_make.proofs.Conditions.{makes_if, if_of_form}
 use Rattle.olk_make.proofs.if_.make.Goals as goal
 

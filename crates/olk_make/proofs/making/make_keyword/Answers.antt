@@ -36,22 +36,22 @@ returns-in-Unread-clause-makes g c =
     (makes_unread _ _ c.args.part.location c.args.part.nodes.items)
 
 pub returns-in-Required-clause-makes : goal.returns-in-Required-clause-makes
-returns-in-Required-clause-makes g c = 
+returns-in-Required-clause-makes g c =
     part_of_claims _ _ c.args.part.shape c.args.part.nodes.items c.args.taken.now (subst (λ x. MakesClaims (kit g.K.Leaf g.R.RegexEngine) g.N.BuiltNode.answers x c.args.part.location c.args.part.nodes.items c.args.place.now (planned c.args.plan) (option_to_list c.make-in-Required.result))
     (sym c.in-Required.is) (c.make-in-Required.ensures c.args.place.now))
 
 pub returns-in_ok-make-in-Some-pop-clause-makes : goal.returns-in_ok-make-in-Some-pop-clause-makes
-returns-in_ok-make-in-Some-pop-clause-makes g c = 
+returns-in_ok-make-in-Some-pop-clause-makes g c =
     part_of_shape _ _ c.args.part.nodes.items c.args.taken.now c.in-If.is (part_of_if _ _ c.pop-in-If.new.self.items c.args.part.nodes.items c.args.taken.now c.in-Some-pop.ensures.items
     (subst (λ t. MakesCondition (kit g.K.Leaf g.R.RegexEngine) g.N.BuiltNode.answers c.args.part.location c.in-Some-pop.schema t (option_to_list c.in_ok-make-in-Some-pop.field-0)) c.take-in-Some-pop.ensures.taken c.in_ok-make-in-Some-pop.ensures.makes))
 
 pub returns-in_ok-make-in-Some-clause-makes : goal.returns-in_ok-make-in-Some-clause-makes
-returns-in_ok-make-in-Some-clause-makes g c = 
+returns-in_ok-make-in-Some-clause-makes g c =
     part_of_shape _ _ c.args.part.nodes.items c.args.taken.now c.in-AdditionalProperties.is (part_of_rest _ _ c.args.part.nodes.items c.args.taken.now c.pop.new.self.items c.in-Some.ensures.items
     (subst (λ b. MakesRestriction (kit g.K.Leaf g.R.RegexEngine) g.N.BuiltNode.answers c.args.part.location (Some c.in-Some.rest) b c.args.place.now (planned c.args.plan) (c.in_ok-make-in-Some.field-0 ∷ [])) c.take.ensures.taken c.in_ok-make-in-Some.ensures.makes))
 
 pub returns-in_ok-make-in-NoOthers-clause-makes : goal.returns-in_ok-make-in-NoOthers-clause-makes
-returns-in_ok-make-in-NoOthers-clause-makes g c = 
+returns-in_ok-make-in-NoOthers-clause-makes g c =
     part_of_shape _ _ c.args.part.nodes.items c.args.taken.now c.in-NoOthers.is (part_of_no_others _ _ c.args.part.nodes.items c.args.taken.now
     (subst (λ b. MakesRestriction (kit g.K.Leaf g.R.RegexEngine) g.N.BuiltNode.answers c.args.part.location None b c.args.place.now (planned c.args.plan) (c.in_ok-make-in-NoOthers.field-0 ∷ [])) c.take-in-NoOthers.ensures.taken c.in_ok-make-in-NoOthers.ensures.makes))
 
@@ -100,6 +100,6 @@ returns-in_ok-make-in-PropertyDependencies-clause-makes g c =
     part_of_own _ _ c.args.part.nodes.items c.args.taken.now c.in-PropertyDependencies.is (λ k d s. s.0) refl c.in_ok-make-in-PropertyDependencies.ensures.makes
 
 pub returns-in_ok-make-in-PatternProperties-clause-makes : goal.returns-in_ok-make-in-PatternProperties-clause-makes
-returns-in_ok-make-in-PatternProperties-clause-makes g c = 
+returns-in_ok-make-in-PatternProperties-clause-makes g c =
     part_of_claims _ _ c.args.part.shape c.args.part.nodes.items c.args.taken.now
     (patterns_claim_own _ _ c.args.part.nodes.items c.in-PatternProperties.is (c.in_ok-make-in-PatternProperties.ensures.makes c.in-PatternProperties._table))

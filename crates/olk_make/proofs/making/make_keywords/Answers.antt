@@ -1,5 +1,5 @@
 use Rattle.olk_base.specs.Kit.{kit}
-use Rattle.std.proofs.Common.{[], ◌∷◌, length, sym, ◌∙◌, ap, subst, option_to_list, arith, rules}
+use Rattle.std.proofs.Common.{length, sym, ◌∙◌, ap, subst, option_to_list, arith, rules}
 use Rattle.std.proofs.lemmas.List.{append-nil, nil_from_length}
 use Rattle.olk_spec.specs.Schemas.{listed}
 use Rattle.olk_meaning.specs.Conditions.{known_of}
@@ -30,7 +30,7 @@ loop-part-init g c =
 pub loop-part-preserved-in-Continue-branch-5 : goal.loop-part-preserved-in-Continue-branch-5
 loop-part-preserved-in-Continue-branch-5 g c = record {
   made = λ ms distinct chosen stand. one_more_made _ _ ms c.args.place.now
-      (planned c.args.plan) chosen distinct 
+      (planned c.args.plan) chosen distinct
       c.in_ok-append.ensures.items c.in-Some.ensures.steps.0 (c.loop-part.invariant.made ms distinct chosen stand)
       (subst (λ x. MakesPart
       (kit g.K.Leaf g.R.RegexEngine) g.N.BuiltNode.answers c.in-Some.part.shape c.in-Some.part.location c.in-Some.part.nodes.items c.loop-part.taken c.args.place.now

@@ -1,4 +1,3 @@
-use Rattle.olk_base.specs.Kit.{kit}
 use Rattle.olk_make.proofs.Makes.{makes_not}
 use Rattle.olk_make.proofs.not.make.Goals as goal
 

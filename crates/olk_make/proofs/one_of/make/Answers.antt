@@ -1,4 +1,3 @@
-use Rattle.olk_base.specs.Kit.{kit}
 use Rattle.olk_make.proofs.Makes.{makes_one_of}
 use Rattle.olk_make.proofs.one_of.make.Goals as goal
 

@@ -1,5 +1,4 @@
 use Rattle.std.proofs.lemmas.Result.{IfOk-weaker}
-use Rattle.olk_base.specs.Kit.{kit}
 use Rattle.olk_make.proofs.PatternProperties.{is_pattern_properties, makes_pattern_properties}
 use Rattle.olk_make.proofs.pattern_properties.make.Goals as goal
 

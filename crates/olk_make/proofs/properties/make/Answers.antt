@@ -1,5 +1,4 @@
 use Rattle.std.proofs.lemmas.Result.{IfOk-weaker}
-use Rattle.olk_base.specs.Kit.{kit}
 use Rattle.olk_meaning.specs.Plans.{planned}
 use Rattle.olk_make.proofs.Makes.{makes_properties}
 use Rattle.olk_make.proofs.properties.make.Goals as goal

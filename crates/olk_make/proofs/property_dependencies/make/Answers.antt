@@ -1,4 +1,3 @@
-use Rattle.olk_base.specs.Kit.{kit}
 use Rattle.olk_make.proofs.PropertyDependencies.{makes_property_dependencies, keys_of_property_dependencies}
 use Rattle.olk_make.proofs.property_dependencies.make.Goals as goal
 

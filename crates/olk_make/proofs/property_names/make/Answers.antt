@@ -1,5 +1,4 @@
 use Rattle.std.proofs.Common.{refl}
-use Rattle.olk_base.specs.Kit.{kit}
 use Rattle.olk_make.proofs.PropertyNames.{makes_property_names}
 use Rattle.olk_make.proofs.property_names.make.Goals as goal
 

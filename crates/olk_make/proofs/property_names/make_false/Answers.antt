@@ -1,4 +1,3 @@
-use Rattle.olk_base.specs.Kit.{kit}
 use Rattle.olk_make.proofs.PropertyNames.{makes_no_names}
 use Rattle.olk_make.proofs.property_names.make_false.Goals as goal
 

@@ -1,4 +1,3 @@
-use Rattle.olk_base.specs.Kit.{kit}
 use Rattle.std.proofs.Common.{rules}
 use Rattle.olk_meaning.specs.Plans.{planned}
 use Rattle.olk_make.proofs.Makes.{makes_required_elsewhere, makes_required_inside, makes_required_alone}
