@@ -115,7 +115,8 @@ module _ (a b : List ℕ) (p : IsBytes a) (q : IsBytes b) (e : head_of a ≡ hea
     ends =
         let l = same_len in
         let r = sym (head_is a refl) ∙ e ∙ head_is b (sym l) in
-        let first : take k a ≡ take k b = low_first-injective (take k a) (take k b) (grind (arith, common_steps)) (grind (arith, common_steps)) (IsBytes-take k a p) (IsBytes-take k b q) (ap (λ r. r.first) r) in
+        let first : take k a ≡ take k b = low_first-injective (take k a) (take k b) (grind (arith, common_steps)) (grind (arith, common_steps))
+        (IsBytes-take k a p) (IsBytes-take k b q) (ap (λ r. r.first) r) in
         let last : drop (length a - k) a ≡ drop (length b - k) b =
         low_first-injective (drop (length a - k) a) (drop (length b - k) b) (grind (arith, common_steps)) (grind (arith, common_steps))
         (IsBytes-drop (length a - k) a p) (IsBytes-drop (length b - k) b q) (ap (λ r. r.last) r) in

@@ -249,7 +249,8 @@ module _ {old : ErrorSink} (e : ValidationError) where
   takes_more {fs = fs} is more = record {
     so = record {
       same = sym (ap is_first is);
-      took = subst (λ b. Took b (held old) fs.items (one_error (fault_of e))) (sym (ap is_first is)) (appends_one e (more ∙ ap (λ l. l ++ e ∷ []) (sym (ap errors_in is))) refl);
+      took = subst (λ b. Took b (held old) fs.items (one_error (fault_of e))) (sym (ap is_first is))
+          (appends_one e (more ∙ ap (λ l. l ++ e ∷ []) (sym (ap errors_in is))) refl);
     };
   }
 

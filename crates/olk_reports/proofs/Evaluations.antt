@@ -5,7 +5,7 @@ use Rattle.std.specs.declared.alloc.Global.{Global}
 use Rattle.std.proofs.lemmas.List.Folds.{list_all-map}
 use Rattle.std.proofs.lemmas.List.{map-append}
 use Rattle.olk_spec.specs.Names.{Name, Path}
-use Rattle.olk_spec.specs.Tree.{Tree, Described, trees_from, result_node, is_valid}
+use Rattle.olk_spec.specs.Tree.{Tree, Described, trees_from, is_valid}
 use Rattle.olk_reports.specs.Evaluations.{Shown, shown, shown_of, tree_of, node_at, errored, with_children, called_invalid, result_of, with_result, described_of, node_step, result_step, trees_in, tree_schema_path, tree_instance_path, tree_errors, tree_children}
 use Rattle.olk_reports.specs.declared.evaluation.ErrorDescription.{ErrorDescription}
 use Rattle.olk_reports.specs.declared.evaluation.EvaluationNode.{EvaluationNode, out-EvaluationNode, roll-EvaluationNode, out-roll-EvaluationNode}

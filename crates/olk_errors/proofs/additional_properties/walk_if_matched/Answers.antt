@@ -11,22 +11,19 @@ use Rattle.olk_errors.specs.Outcomes.{of_node}
 use Rattle.olk_errors.proofs.additional_properties.walk_if_matched.Goals as goal
 
 pub returns-then-not-matches_unless_known-clause-walk : goal.returns-then-not-matches_unless_known-clause-walk
-returns-then-not-matches_unless_known-clause-walk g c = past_none g.N.Means.means g.N.Reports.first g.N.Reports.report c.args.ctx.now.answer _
-    _ c.if-not-matches_unless_known.ensures.only
+returns-then-not-matches_unless_known-clause-walk g c = past_none g.N.Means.means g.N.Reports.first g.N.Reports.report c.args.ctx.now.answer _ _ c.if-not-matches_unless_known.ensures.only
     (if_matched_is c.args.ctx.now.answer (pattern_costs g.R.RegexEngine.costs c.args.entry.now.0) (known_says c.args.known)
     (pattern_answers g.R.RegexEngine.answers c.args.entry.now.0 c.args.name.now) c.args.entry.now.1 c.if-not-matches_unless_known.ensures.verdict)
 
 pub returns-in_err-walk_below-clause-walk : goal.returns-in_err-walk_below-clause-walk
-returns-in_err-walk_below-clause-walk g c = walks_same (one_alone g.N.Means.means g.N.Reports.first g.N.Reports.report _
-    _ refl
+returns-in_err-walk_below-clause-walk g c = walks_same (one_alone g.N.Means.means g.N.Reports.first g.N.Reports.report _ _ refl
     (if_matched_is c.args.ctx.now.answer (pattern_costs g.R.RegexEngine.costs c.args.entry.now.0) (known_says c.args.known)
     (pattern_answers g.R.RegexEngine.answers c.args.entry.now.0 c.args.name.now) c.args.entry.now.1 c.if-not-matches_unless_known.ensures.verdict))
     (walks_left c.from_residual.ensures.0 (walks_asked (λ u. of_node g.N.Means.means g.N.Reports.first g.N.Reports.report u c.args.entry.now.1 (view c.args.value.now)
     (path_at c.args.trail.now // c.args.name.now)) c.if-not-matches_unless_known.ensures.only c.in_err-walk_below.ensures))
 
 pub returns-clause-walk : goal.returns-clause-walk
-returns-clause-walk g c = walks_same (one_alone g.N.Means.means g.N.Reports.first g.N.Reports.report _
-    _ refl
+returns-clause-walk g c = walks_same (one_alone g.N.Means.means g.N.Reports.first g.N.Reports.report _ _ refl
     (if_matched_is c.args.ctx.now.answer (pattern_costs g.R.RegexEngine.costs c.args.entry.now.0) (known_says c.args.known)
     (pattern_answers g.R.RegexEngine.answers c.args.entry.now.0 c.args.name.now) c.args.entry.now.1 c.if-not-matches_unless_known.ensures.verdict))
     (walks_on (walks_asked (λ u. of_node g.N.Means.means g.N.Reports.first g.N.Reports.report u c.args.entry.now.1 (view c.args.value.now)

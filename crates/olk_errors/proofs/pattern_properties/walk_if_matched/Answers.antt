@@ -13,8 +13,7 @@ returns-then-not-matches g c = walks_past c.if-not-matches.ensures.only
     c.args.pattern.now c.args.subschema.now c.args.name.now _ c.if-not-matches.ensures.verdict)
 
 pub returns : goal.returns
-returns g c = walks_same (matched_as_node g.R.RegexEngine.answers g.R.RegexEngine.costs g.N.Means.means g.N.Reports.first g.N.Reports.report c.args.ctx.now.answer
-    _
+returns g c = walks_same (matched_as_node g.R.RegexEngine.answers g.R.RegexEngine.costs g.N.Means.means g.N.Reports.first g.N.Reports.report c.args.ctx.now.answer _
     c.args.pattern.now c.args.subschema.now c.args.name.now _ refl c.if-not-matches.ensures.verdict)
     (walks_asked (λ u. of_node g.N.Means.means g.N.Reports.first g.N.Reports.report u c.args.subschema.now (view c.args.value.now) (path_at c.args.trail.now // c.args.name.now))
     c.if-not-matches.ensures.only c.walk_below.ensures)

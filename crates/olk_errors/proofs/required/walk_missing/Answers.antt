@@ -18,8 +18,7 @@ loop-name-preserved c = walked_turn c.loop-name.invariant (c.name-item.result �
 
 pub returns-in_err-report_if_missing : goal.returns-in_err-report_if_missing
 returns-in_err-report_if_missing c = ends_same (names_together (data_of c.args.node) c.args.location.now (path_at c.args.trail.now) c.args.names.now.items)
-    (ends_left c.from_residual.ensures.0 (walked_turn c.loop-name.invariant (c.name-item.result ∷ []) _
-    (next_at c.deref-name-items.ensures.value c.name-item.is c.loop-name-test.true)
+    (ends_left c.from_residual.ensures.0 (walked_turn c.loop-name.invariant (c.name-item.result ∷ []) _ (next_at c.deref-name-items.ensures.value c.name-item.is c.loop-name-test.true)
     (ends_same (ap (λ n. of_names (n ∷ []) (data_of c.args.node) c.args.location.now (path_at c.args.trail.now)) c.as_str.ensures.value ∙ sym
     (names_together (data_of c.args.node) c.args.location.now (path_at c.args.trail.now) (c.name-item.result ∷ []))) c.in_err-report_if_missing.ensures)).so)
 

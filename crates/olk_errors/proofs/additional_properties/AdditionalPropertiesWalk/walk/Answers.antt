@@ -20,6 +20,4 @@ returns-in_ok-walk_members-in-Some g c = walks_same (same_keyword g.R.RegexEngin
 
 pub returns-in-None : goal.returns-in-None
 returns-in-None g c = walks_past (only_same c.args.ctx.now)
-    (other_unasked g.R.RegexEngine.answers g.R.RegexEngine.costs g.N.Means.means g.N.Reports.first g.N.Reports.report c.args.self.now _
-    _
-    c.args.ctx.now.answer c.in-None.ensures)
+    (other_unasked g.R.RegexEngine.answers g.R.RegexEngine.costs g.N.Means.means g.N.Reports.first g.N.Reports.report c.args.self.now _ _ c.args.ctx.now.answer c.in-None.ensures)

@@ -11,8 +11,7 @@ use Rattle.olk_errors.proofs.one_of.SingleOneOfWalk.walk.Goals as goal
 
 pub returns-then-is_valid : goal.returns-then-is_valid
 returns-then-is_valid g c = let accepted = sym c.if-is_valid.ensures.verdict in
-    own_past _
-    _ c.args.self.now.location _ c.if-is_valid.ensures.only accepted (ap not accepted)
+    own_past _ _ c.args.self.now.location _ c.if-is_valid.ensures.only accepted (ap not accepted)
 
 pub returns-in_err-context : goal.returns-in_err-context
 returns-in_err-context g c = walks_nowhere c.from_residual.ensures.0 (only_then c.if-is_valid.ensures.only c.one_context.ensures.context)

@@ -5,5 +5,4 @@ use Rattle.olk_errors.proofs.pattern_properties.PatternPropertiesWalk.walk.Goals
 
 pub returns-in-None : goal.returns-in-None
 returns-in-None g c = walks_past (only_same c.args.ctx.now)
-    (other_patterns g.R.RegexEngine.answers g.R.RegexEngine.costs g.N.Means.means g.N.Reports.first g.N.Reports.report c.args.ctx.now.answer _
-    _ c.in-None.ensures c.args.self.now.patterns.items)
+    (other_patterns g.R.RegexEngine.answers g.R.RegexEngine.costs g.N.Means.means g.N.Reports.first g.N.Reports.report c.args.ctx.now.answer _ _ c.in-None.ensures c.args.self.now.patterns.items)

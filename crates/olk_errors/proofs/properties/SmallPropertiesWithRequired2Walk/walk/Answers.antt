@@ -42,5 +42,4 @@ returns-in_ok-report_if_missing-in-Some-2 g c =
 pub returns-in-None : goal.returns-in-None
 returns-in-None g c = walks_past (only_same c.args.ctx.now) (λ i. after
     (other_lacks_nothing (two_texts c.args.self.now.first c.args.self.now.second) _ c.args.self.now.required_location (path_at c.args.trail.now) c.in-None.ensures i)
-    (other_unasked g.N.Means.means g.N.Reports.first g.N.Reports.report c.args.ctx.now.answer (named c.args.self.now.properties) (path_at c.args.trail.now)
-    _ c.in-None.ensures i))
+    (other_unasked g.N.Means.means g.N.Reports.first g.N.Reports.report c.args.ctx.now.answer (named c.args.self.now.properties) (path_at c.args.trail.now) _ c.in-None.ensures i))
