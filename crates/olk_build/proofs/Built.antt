@@ -1,7 +1,7 @@
 -- What is built so far, and one more.
 use Rattle.std.specs.Prelude.{◌≡◌, ◌<◌, ◌≤◌, ◌+◌, ℕ, Bool, true, false, List, [], ◌∷◌, ◌++◌, map, drop, length, decimal, slice_index_or as get_or, Vec, String, string_bytes}
-use Rattle.std.specs.List.{flat_map, enumerate_from}
-use Rattle.std.proofs.Common.{refl, sym, ◌∙◌, ap, subst, arith, true≢false}
+use Rattle.std.specs.List.{enumerate_from}
+use Rattle.std.proofs.Common.{refl, sym, ◌∙◌, ap, arith, true≢false}
 use Rattle.std.proofs.lemmas.List.{append-nil, append_assoc, drop_more, drop_all}
 use Rattle.serde_json.specs.Data.{Data, boolean, object, Members}
 use Rattle.serde_json.specs.View.{view, members_view}
@@ -9,30 +9,26 @@ use Rattle.serde_json.specs.declared.value.Value.{Value}
 use Rattle.olk_spec.specs.Names.{Name, Path, ◌//◌, put_if}
 use Rattle.olk_spec.specs.Faults.{Fault, fault, MultipleTypes, like_through}
 use Rattle.olk_spec.specs.Schemas.{listed, members}
-use Rattle.olk_spec.specs.Vocabulary.{keyword_named}
 use Rattle.olk_spec.specs.Malformed.{malformations_at}
 use Rattle.olk_spec.specs.Meaning.{meaning}
-use Rattle.olk_spec.specs.Costs.{Cost, cost, total_cost, one_place}
+use Rattle.olk_spec.specs.Costs.{Cost, cost, one_place}
 use Rattle.olk_spec.specs.Tree.{plain}
 use Rattle.olk_spec.proofs.Order.{∼_same}
 use Rattle.olk_base.specs.Count.{Counts, count_compiled}
 use Rattle.olk_reports.specs.declared.error.BuildError.{BuildError}
 use Rattle.olk_reports.specs.declared.error.BuildError.TheVariants.{Memory}
 use Rattle.std.specs.declared.alloc.AllocError.{AllocError}
-use mathlib.Core.Path.{subst₂}
 use Rattle.olk_base.specs.Kit.{Kit}
 use Rattle.olk_tree.specs.Answers.{Answers}
 use Rattle.olk_tree.specs.Places.{AnswersBy, Stands}
-use Rattle.olk_meaning.specs.Members.{member_malformations, member_cost}
 use Rattle.std.specs.declared.alloc.Global.{Global}
 use Rattle.olk_spec.specs.World.{World}
-use Rattle.olk_read.specs.Refusing.{Spends, TellsOneOf, Refuses}
-use Rattle.olk_make.specs.Holding.{all_malformed, StandEach, StandInner}
-use Rattle.olk_build.specs.Building.{IsBuilt, ObjectIsBuilt, RefusesObject, AreBuilt, InnerAreBuilt, RefusesSchema, RefusesEach, RefusesInner, no_lists, entries_read, is_read, each_malformed, each_cost, all_cost}
+use Rattle.olk_read.specs.Refusing.{TellsOneOf, Refuses}
+use Rattle.olk_make.specs.Holding.{StandEach, StandInner}
+use Rattle.olk_build.specs.Building.{IsBuilt, ObjectIsBuilt, RefusesObject, AreBuilt, InnerAreBuilt, RefusesSchema, RefusesEach, RefusesInner, no_lists, entries_read, is_read, each_malformed, each_cost}
 use Rattle.olk_build.specs.Placing.{PlacesAreBuilt, RefusesPlaces}
 use Rattle.olk_read.proofs.SoFar.{SoFar, none_so_far, all_so_far, memory_so_far, refused_so_far, one_more_so_far, memory_past}
 use Rattle.olk_read.specs.declared.shape.ReadPlaces.TheVariants.{Entries}
-use Rattle.olk_make.specs.Making.{KeywordsMean}
 use Rattle.olk_tree.specs.declared.node.KeywordOver.{KeywordOver}
 use Rattle.olk_tree.specs.declared.node.Body.{Body}
 use Rattle.olk_tree.specs.declared.node.Body.TheVariants.{True, False, Keywords}

@@ -19,7 +19,6 @@ use Rattle.olk_tree.specs.declared.node.KeywordOver.{KeywordOver}
 use Rattle.olk_meaning.specs.Conditions.{Known, known_of, IsKnown}
 use Rattle.olk_meaning.specs.Members.{member_malformations, member_cost}
 use Rattle.olk_meaning.specs.Plans.{Planned, head, claims}
-use Rattle.olk_read.specs.Refusing.{Refuses}
 use Rattle.olk_read.proofs.Spending.{refuses_among, memory_among}
 use Rattle.olk_make.specs.Making.{KeywordsMean, AppendsPart}
 use Rattle.olk_make.specs.declared.part.Part.{Part}

@@ -1,19 +1,17 @@
 -- The parts of a schema object: each is built, or why there is none.
-use Rattle.std.specs.Prelude.{◌≡◌, Bool, true, false, List, [], ◌∷◌, ◌++◌, map, codes, Vec}
+use Rattle.std.specs.Prelude.{◌≡◌, Bool, true, false, List, [], ◌∷◌, ◌++◌, map}
 use Rattle.std.specs.List.{flat_map}
-use Rattle.std.specs.declared.alloc.Global.{Global}
 use Rattle.std.proofs.Common.{refl, sym, ◌∙◌, ap, subst}
 use mathlib.Core.Bool.{true≢false}
 use Rattle.std.proofs.lemmas.List.{append-nil}
 use Rattle.std.proofs.lemmas.Grind.{flat_map-append}
-use mathlib.Core.Path.{subst₂}
 use Rattle.serde_json.specs.Data.{Data, boolean, Members}
 use Rattle.olk_spec.specs.Names.{Name, Path, ◌//◌, down}
 use Rattle.olk_spec.specs.Vocabulary.{Keyword, pattern_properties, additional_properties, keyword_named}
 use Rattle.olk_spec.specs.Faults.{Fault}
-use Rattle.olk_spec.specs.Schemas.{Schema, Sub, read, read_members, listed, members, numbered, branches, is_object, is_truth}
+use Rattle.olk_spec.specs.Schemas.{Schema, Sub, read, read_members, members, numbered, branches, is_object, is_truth}
 use Rattle.olk_spec.specs.Malformed.{each, itself, places_where, read_places, malformations_at, malformations_step, items_of_array}
-use Rattle.olk_spec.specs.Costs.{Cost, cost, cost_step, no_cost, own_cost, total_cost, ◌⊕◌}
+use Rattle.olk_spec.specs.Costs.{Cost, cost, cost_step, own_cost, total_cost, ◌⊕◌}
 use Rattle.olk_spec.proofs.Reading.{entry, place, whole_read, entries_read, branches_read}
 use Rattle.olk_base.specs.Count.{Counts}
 use Rattle.olk_reports.specs.declared.error.BuildError.{BuildError}
@@ -22,8 +20,8 @@ use Rattle.std.specs.declared.alloc.AllocError.{AllocError}
 use Rattle.olk_base.specs.Kit.{Kit}
 use Rattle.olk_meaning.specs.Dependencies.{schema_entries}
 use Rattle.olk_meaning.specs.Members.{member_malformations, member_cost}
-use Rattle.olk_read.specs.Refusing.{Spends, Refuses}
-use Rattle.olk_build.specs.Building.{RefusesPart, all_cost}
+use Rattle.olk_read.specs.Refusing.{Spends}
+use Rattle.olk_build.specs.Building.{RefusesPart}
 use Rattle.olk_read.specs.Reading.{reads_of, own_faults, own_cost_of, IsShape, Fits, IsRead, RefusesKeyword}
 use Rattle.olk_meaning.specs.Conditions.{Known, known_of, is_conditional_name, IsKnown}
 use Rattle.olk_meaning.specs.PatternProperties.{matchers_made, names_asked}
@@ -33,7 +31,6 @@ use Rattle.olk_read.specs.declared.shape.ReadPlaces.TheVariants.{Nothing, Itself
 use Rattle.olk_spec.proofs.Named.{Named, named as is_named}
 use Rattle.olk_meaning.proofs.Conditions.{places_by_condition}
 use Rattle.olk_meaning.proofs.PatternProperties.{pattern_properties_known_cost}
-use Rattle.olk_meaning.proofs.Claims.{present_each}
 use Rattle.olk_build.specs.Placing.{places_malformed, places_cost, PlacesAreBuilt, RefusesPlaces, PartsAreBuilt, IsPart}
 use Rattle.olk_make.specs.Standing.{StandAt, PartStands, PartsStand}
 use Rattle.olk_tree.specs.Answers.{Answers}

@@ -1,31 +1,24 @@
 -- What is built of the places that are read in a value: of the value itself, and of entries and branches, of which there may be none.
-use Rattle.std.specs.Prelude.{◌≡◌, ⊤, List, [], ◌∷◌, Vec, String, Result, IfOk}
+use Rattle.std.specs.Prelude.{◌≡◌, ⊤, [], ◌∷◌, Vec, String}
 use Rattle.std.specs.declared.alloc.Global.{Global}
-use Rattle.std.specs.declared.alloc.AllocError.{AllocError}
 use Rattle.std.specs.BTreeMap.{BTreeMap}
-use Rattle.std.proofs.Common.{refl, sym, ap, subst, rules}
-use Rattle.std.proofs.lemmas.Result.{IfOk-weaker}
+use Rattle.std.proofs.Common.{refl, sym, subst, rules}
 use Rattle.olk_read.proofs.Shapes.{rolled}
-use mathlib.Core.Path.{subst₂}
 use Rattle.serde_json.specs.Data.{Data}
 use Rattle.serde_json.specs.View.{view}
 use Rattle.serde_json.specs.declared.value.Value.{Value, Array, Object, out-Value, roll-Value, the_lemmas}
 use Rattle.serde_json.specs.declared.value.Value.TheOpen.{Value-F}
 use Rattle.serde_json.specs.declared.value.Value.TheVariants.{rolls-Array, rolls-Object}
-use Rattle.olk_spec.specs.Names.{Name, Path}
-use Rattle.olk_spec.specs.Schemas.{members, numbered}
+use Rattle.olk_spec.specs.Names.{Path}
+use Rattle.olk_spec.specs.Schemas.{members}
 use Rattle.olk_spec.specs.Malformed.{items_of_array}
 use Rattle.olk_base.specs.Count.{Counts}
-use Rattle.olk_reports.specs.declared.error.BuildError.{BuildError}
-use Rattle.olk_reports.specs.declared.error.BuildError.TheVariants.{Memory}
 use Rattle.olk_base.specs.Kit.{Kit}
 use Rattle.olk_tree.specs.Answers.{Answers}
-use Rattle.olk_read.specs.Refusing.{Spends}
 use Rattle.olk_read.specs.declared.shape.ReadPlaces.{ReadPlaces}
 use Rattle.olk_read.specs.declared.shape.ReadPlaces.TheVariants.{Nothing, Itself, Entries, SchemaEntries, InnerEntries, Branches}
-use Rattle.olk_read.proofs.Spending.{spends_nothing, spends_same, refuses_memory, within_exactly}
-use Rattle.olk_make.specs.Holding.{StandEach, StandInner}
-use Rattle.olk_build.specs.Building.{IsBuilt, AreBuilt, InnerAreBuilt, RefusesSchema, no_lists, each_malformed, each_cost, inner_malformed, inner_cost}
+use Rattle.olk_read.proofs.Spending.{spends_nothing, spends_same}
+use Rattle.olk_build.specs.Building.{IsBuilt}
 use Rattle.olk_build.specs.Placing.{PlacesAreBuilt, places_malformed, places_cost}
 use Rattle.olk_make.specs.Standing.{StandAt}
 use Rattle.olk_spec.specs.Costs.{no_cost}

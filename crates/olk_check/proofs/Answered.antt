@@ -1,5 +1,5 @@
 -- Answers to questions that are asked together.
-use Rattle.std.proofs.Common.{◌≡◌, ◌<◌, Bool, true, false, List, [], ◌∷◌, length, drop, get_or, refl, sym, ap, subst, ◌∙◌, arith}
+use Rattle.std.proofs.Common.{◌≡◌, ◌<◌, Bool, true, false, List, [], ◌∷◌, length, drop, get_or, refl, sym, ap, ◌∙◌, arith}
 use Rattle.std.proofs.lemmas.List.{drop_all}
 use Rattle.olk_base.specs.Lawful.{Asking}
 use Rattle.olk_tree.specs.Questions.{Question, always, every}
@@ -19,7 +19,7 @@ module _ {a b : Asking} where
     one_said false h = h
 
     pub answered_one : {r : Bool} {s : Accepted} → s ≡ one_if r → Asks a b q r → AsksOne a b q s
-    answered_one {r} e h = subst (AsksOne a b q) (sym e) (one_said r h)
+    answered_one e h = rw e (one_said _ h)
 
 -- the first of a list
 module _ {X : Type 0} (f : X → Question) (a b : Asking) where
@@ -29,38 +29,38 @@ module _ {X : Type 0} (f : X → Question) (a b : Asking) where
   one_first x xs Two h = absurd h
 
   two_first : (x y : X) (xs : List X) (s : Accepted) → AsksTwo a b (f x) (f y) s → AsksFirst a b f (x ∷ y ∷ xs) s
-  two_first x y xs None h = subst (λ q. Asks a b q false) (both_around (f x) (f y) (every f xs)) (both_stop (every f xs) h)
+  two_first x y xs None h = rw (← both_around (f x) (f y) (every f xs)) (both_stop (every f xs) h)
   two_first x y xs One h = absurd h
   two_first x y xs Two h = h
 
   pub first_one : {x y : X} {xs ys : List X} (s : Accepted) → ys ≡ x ∷ xs → x ≡ y → AsksOne a b (f y) s → AsksFirst a b f ys s
-  first_one {x} {y} {xs} s e is h = subst (λ l. AsksFirst a b f l s) (sym e) (one_first x xs s (subst (λ k. AsksOne a b (f k) s) (sym is) h))
+  first_one {x} {y} {xs} s e is h = rw e (one_first x xs s (rw is h))
 
   pub first_two : {x y : X} {xs ys : List X} (s : Accepted) → ys ≡ x ∷ y ∷ xs → AsksTwo a b (f x) (f y) s → AsksFirst a b f ys s
-  first_two {x} {y} {xs} s e h = subst (λ l. AsksFirst a b f l s) (sym e) (two_first x y xs s h)
+  first_two {x} {y} {xs} s e h = rw e (two_first x y xs s h)
 
 -- a condition that was found out
 pub said : (a : Asking) {p r : Bool} → r ≡ p → Asks a a (always p) r
-said a {p} e = subst (λ r. Asks a a (always p) r) (sym e) (unasked a p)
+said a e = rw e (unasked a _)
 
 -- a walk over a list, whose first one or two are asked together
 module _ {X : Type 0} {f : X → Question} {all : List X} {a b c : Asking} where
   pub refused_left : {rest : List X} {s : Accepted} → AllLeft f all rest a b → s ≡ None → AsksFirst b c f rest s → Asks a c (every f all) false
-  refused_left {rest} h is k = h.goes_on c false (subst (AsksFirst b c f rest) is k)
+  refused_left h is k = h.goes_on c false (rw is at k)
 
   one_left : (rest : List X) → AllLeft f all rest a b → AsksFirst b c f rest One → AllLeft f all (drop 1 rest) a c
   one_left [] h k = absurd k
   one_left (x ∷ xs) h k = all_go_on h refl k
 
   two_left : (rest : List X) → AllLeft f all rest a b → AsksFirst b c f rest Two → AllLeft f all (drop 1 (drop 1 rest)) a c
-  two_left (x ∷ y ∷ xs) h k = record { goes_on = λ d r l. h.goes_on d r (subst (λ q. Asks b d q r) (both_around (f x) (f y) (every f xs)) (both_go_on k l)) }
+  two_left (x ∷ y ∷ xs) h k = record { goes_on = λ d r l. h.goes_on d r (rw (← both_around (f x) (f y) (every f xs)) (both_go_on k l)) }
   two_left _ h k = absurd k
 
   pub go_on_behind_one : {rest : List X} {s : Accepted} → AllLeft f all rest a b → s ≡ One → AsksFirst b c f rest s → AllLeft f all (drop 1 rest) a c
-  go_on_behind_one {rest} h is k = one_left rest h (subst (AsksFirst b c f rest) is k)
+  go_on_behind_one h is k = one_left _ h (rw is at k)
 
   pub go_on_behind_two : {rest : List X} {s : Accepted} → AllLeft f all rest a b → s ≡ Two → AsksFirst b c f rest s → AllLeft f all (drop 1 (drop 1 rest)) a c
-  go_on_behind_two {rest} h is k = two_left rest h (subst (AsksFirst b c f rest) is k)
+  go_on_behind_two h is k = two_left _ h (rw is at k)
 
 module _ {X : Type 0} (f : X → Question) (b c : Asking) where
   two_there : (rest : List X) → AsksFirst b c f rest Two → 1 < length rest
@@ -68,7 +68,7 @@ module _ {X : Type 0} (f : X → Question) (b c : Asking) where
   two_there _ k = absurd k
 
   pub two_are_left : (rest : List X) {s : Accepted} → s ≡ Two → AsksFirst b c f rest s → 1 < length rest
-  two_are_left rest is k = two_there rest (subst (AsksFirst b c f rest) is k)
+  two_are_left rest is k = two_there rest (rw is at k)
 
 -- what a list is, by its first, and by its first two
 module _ {X : Type 0} {xs : List X} {x : X} where

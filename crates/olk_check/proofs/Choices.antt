@@ -43,7 +43,7 @@ module _ {R N : Type 0} (w : Spoken R N) where
         ∙ ap (conditional (always false) (both (w.means e.1 w.value) more)) (none_left (i + 1) es)
 
     pub nothing_matches : {a : Asking} {spoken : Bool} → spoken ≡ true → Asks a a (patterns_from spoken 0 w.sides.patterns) true
-    nothing_matches {a} {spoken} e = subst (λ b. Asks a a (patterns_from b 0 w.sides.patterns) true) (sym e) (subst (λ q. Asks a a q true) (sym (none_left 0 w.sides.patterns)) (unasked a true))
+    nothing_matches {a} e = rw (e, none_left 0 w.sides.patterns) (unasked a true)
 
 -- the patterns from an index on decide about all
 pub record Leaves {R N : Type 0} (w : Spoken R N) (all : Question) (spoken : Bool) (i : ℕ) (a b : Asking) : Type 0 where
@@ -58,10 +58,10 @@ module _ {R N : Type 0} {w : Spoken R N} {all : Question} {spoken : Bool} {i : �
     match_is_asked = known_or_asked known (match_question w.answers w.costs e.0 w.name)
 
     asked : {c : Asking} {r : Bool} → Asks b c match_is_asked r → Asks b c (match_asked w.answers w.costs w.means w.sides w.declared w.name i e.0) r
-    asked {c} {r} k = subst (λ s. Asks b c (known_or_asked s (match_question w.answers w.costs e.0 w.name)) r) is k
+    asked k = rw (← is) k
 
     at_this : {end : Asking} {r : Bool} → Asks b end (conditional (match_asked w.answers w.costs w.means w.sides w.declared w.name i e.0) matched (patterns_left w spoken (i + 1))) r → Asks a end all r
-    at_this {end} {r} k = h.goes_on end r (subst (λ l. Asks b end (patterns_from w spoken i l) r) (sym here) k)
+    at_this {end} {r} k = h.goes_on end r (rw here k)
 
     pub unmatched_goes_on : {c : Asking} → Asks b c match_is_asked false → Leaves w all spoken (i + 1) a c
     unmatched_goes_on k = record { goes_on = λ end r l. at_this (refused_then matched (patterns_left w spoken (i + 1)) (asked k) l) }
@@ -75,10 +75,10 @@ module _ {R N : Type 0} {w : Spoken R N} {all : Question} {spoken : Bool} {i : �
 
   module _ (none : drop i w.sides.patterns ≡ []) where
     at_end : {end : Asking} {r : Bool} → Asks b end (rest_left w spoken) r → Asks a end all r
-    at_end {end} {r} k = h.goes_on end r (subst (λ l. Asks b end (patterns_from w spoken i l) r) (sym none) k)
+    at_end {end} {r} k = h.goes_on end r (rw none k)
 
     pub spoken_ends : spoken ≡ true → Asks a b all spoken
-    spoken_ends e = subst (λ r. Asks a b all r) (sym e) (at_end (subst (λ z. Asks b b (rest_left w z) true) (sym e) (unasked b true)))
+    spoken_ends e = rw e (at_end (rw e (unasked b true)))
 
     pub rest_ends : {c : Asking} {r : Bool} → spoken ≡ false → Asks b c (rest_means w.means w.value w.sides.rest) r → Asks a c all r
-    rest_ends {c} {r} e k = at_end (subst (λ z. Asks b c (rest_left w z) r) (sym e) k)
+    rest_ends e k = at_end (rw e k)

@@ -53,7 +53,7 @@ module _ {X : Type 0} {f : X → Question} {all : List X} where
   module _ {rest : List X} {found : Bool} {a b : Asking} (so_far : OneLeft f all rest found a b) where
     module _ {r : Bool} (is : found ≡ r) (none : rest ≡ []) where
       pub one_end : Asks a b (exactly_one f all) r
-      one_end = so_far.goes_on b r (subst (λ g. Asks b b (one_with f g rest) r) (sym is) (subst (λ l. Asks b b (one_with f r l) r) (sym none) (none_next f b r)))
+      one_end = so_far.goes_on b r (rw (is, none) (none_next f b r))
 
       pub count_end : how_many f a.answer all ≡ with_found r 0
       count_end = so_far.count ∙ ap (λ g. with_found g (how_many f a.answer rest)) is ∙ ap (λ l. with_found r (how_many f a.answer l)) none
@@ -64,20 +64,20 @@ module _ {X : Type 0} {f : X → Question} {all : List X} where
 
       pub one_refused : Asks b c (f x) false → OneLeft f all more found a c
       one_refused k = record {
-        goes_on = λ d r l. so_far.goes_on d r (subst (λ ys. Asks b d (one_with f found ys) r) (sym next) (refused_next f x more found k l));
+        goes_on = λ d r l. so_far.goes_on d r (rw next (refused_next f x more found k l));
         count = count_on false k;
         answer = k.only.answer ∙ so_far.answer;
       }
 
       pub one_found : found ≡ false → Asks b c (f x) true → OneLeft f all more true a c
       one_found new k = record {
-        goes_on = λ d r l. so_far.goes_on d r (subst (λ g. Asks b d (one_with f g rest) r) (sym new) (subst (λ ys. Asks b d (one_with f false ys) r) (sym next) (accepted_next f x more k l)));
+        goes_on = λ d r l. so_far.goes_on d r (rw (new, next) (accepted_next f x more k l));
         count = count_on true k ∙ ap (λ g. with_found g (suc (how_many f a.answer more))) new;
         answer = k.only.answer ∙ so_far.answer;
       }
 
       pub second_found : found ≡ true → Asks b c (f x) true → Asks a c (exactly_one f all) false
-      second_found old k = so_far.goes_on c false (subst (λ g. Asks b c (one_with f g rest) false) (sym old) (subst (λ ys. Asks b c (one_with f true ys) false) (sym next) (accepted_twice f x more k)))
+      second_found old k = so_far.goes_on c false (rw (old, next) (accepted_twice f x more k))
 
       pub count_several : found ≡ true → Asks b c (f x) true → 1 < how_many f a.answer all
       count_several old k = let n = count_on true k ∙ ap (λ g. with_found g (suc (how_many f a.answer more))) old in omega arith

@@ -35,17 +35,17 @@ module _ {Y X : Type 0} {f : Y → Question} {h : X → Question} {all : List Y}
         (λ u e. not ∙ sym (and-false ((every f left).accepts u && (every h held).accepts u)) ∙ ap (λ z. ((every f left).accepts u && (every h held).accepts u) && z) (sym not ∙ same)) (λ u e. omega arith))
 
     pub held_end : {xs : List X} {c : Asking} {r p : Bool} → left ≡ [] → xs ≡ held → Asks b c (every h xs) r → p ≡ true → Asks a c (both (every f all) (always p)) r
-    held_end {xs} {c} {r} {p} none same l is = w.goes_on (always p) c r (subst (λ ys. Asks b c (both (both (every f ys) (every h held)) (always p)) r) (sym none)
-        (both_where (settles (both (always true) (every h held)) r (subst (λ ys. Asks b c (every h ys) r) same l) (λ u e. e) (λ u e. omega arith)) is))
+    held_end {xs} {c} {r} {p} none same l is = w.goes_on (always p) c r (rw none
+        (both_where (settles (both (always true) (every h held)) r (rw same at l) (λ u e. e) (λ u e. omega arith)) is))
 
     module _ {y : Y} {rest : List Y} (next : left ≡ y ∷ rest) where
       at_next : (t : Question) {c : Asking} {r : Bool} → Asks b c (both (both (every f (y ∷ rest)) (every h held)) t) r → Asks a c (both (every f all) t) r
-      at_next t {c} {r} l = w.goes_on t c r (subst (λ ys. Asks b c (both (both (every f ys) (every h held)) t) r) (sym next) l)
+      at_next t {c} {r} l = w.goes_on t c r (rw next l)
 
       -- a question is put off
       pub held_more : {now : List X} (x : X) → h x ≡ f y → now ≡ held ++ x ∷ [] → LeftAndHeld f h all rest now a b
       held_more {now} x same is = record {
-        goes_on = λ t c r l. at_next t (settles (both (both (every f (y ∷ rest)) (every h held)) t) r (subst (λ xs. Asks b c (both (both (every f rest) (every h xs)) t) r) is l)
+        goes_on = λ t c r l. at_next t (settles (both (both (every f (y ∷ rest)) (every h held)) t) r (rw is at l)
             (λ u e. e ∙ ap (λ z. z && t.accepts u) (ap (λ z. R u && z) (pushed_accepts h x held u) ∙ and_around (R u) ((h x).accepts u) (H u)
             ∙ ap (λ z. z && H u) (and_comm (R u) ((h x).accepts u)) ∙ ap (λ q. (q.accepts u && R u) && H u) same))
             (λ u e. let p = pushed_asks h x held u in let s = ap (λ q. q.asks u) same in omega arith));

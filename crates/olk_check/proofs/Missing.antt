@@ -1,7 +1,7 @@
 -- Names that an object lacks.
 use Rattle.std.proofs.Common.{◌≡◌, ℕ, ◌+◌, ◌<◌, ◌≤◌, Bool, true, false, not, ◌&&◌, List, [], ◌∷◌, length, get_or, drop, None, String, Global, string_bytes, refl, sym, ap, subst, ◌∙◌}
 use Rattle.std.proofs.lemmas.List.{at_drop_more, drop_all}
-use Rattle.serde_json.specs.Data.{Data, null, boolean, number, string, array, object, Members}
+use Rattle.serde_json.specs.Data.{Data, object, Members}
 use Rattle.serde_json.specs.Find.{as_object}
 use Rattle.olk_spec.specs.Names.{Name, put_if, is_empty}
 use Rattle.olk_spec.specs.Schemas.{has}
@@ -13,7 +13,7 @@ pub record Lacks (names : List (String Global)) (i : ℕ) (ms : Members) : Type 
   pub as_left : is_empty (missing (texts_of names) (object ms)) ≡ is_empty (missing (texts_of (drop i names)) (object ms))
 
 left_at : {names : List (String Global)} {i : ℕ} {x : String Global} {ys : List (String Global)} → ys ≡ names → x ≡ get_or ys i x → i < length ys → drop i names ≡ x ∷ drop (i + 1) names
-left_at {names} {i} {x} {ys} same is lt = at_drop_more (λ l. l) names i x (subst (λ l. i < length l) same lt) ∙ ap (λ y. y ∷ drop (i + 1) names) (sym (is ∙ ap (λ l. get_or l i x) same))
+left_at {names} {i} {x} {ys} same is lt = at_drop_more (λ l. l) names i x (rw same at lt) ∙ ap (λ y. y ∷ drop (i + 1) names) (sym (is ∙ ap (λ l. get_or l i x) same))
 
 module _ {names : List (String Global)} {ms : Members} where
   pub lacks_start : Lacks names 0 ms
@@ -55,11 +55,7 @@ both_met {p} {q} m n e f = (λ i. e i && f i) ∙ both_there p q m n
 -- what is no object lacks nothing
 pub lacks_nothing : (ns : List Name) (v : Data) → None ≡ as_object v → is_empty (missing ns v) ≡ true
 lacks_nothing [] v e = refl
-lacks_nothing (n ∷ ns) null e = lacks_nothing ns null e
-lacks_nothing (n ∷ ns) (boolean b) e = lacks_nothing ns (boolean b) e
-lacks_nothing (n ∷ ns) (number x) e = lacks_nothing ns (number x) e
-lacks_nothing (n ∷ ns) (string s) e = lacks_nothing ns (string s) e
-lacks_nothing (n ∷ ns) (array ds) e = lacks_nothing ns (array ds) e
 lacks_nothing (n ∷ ns) (object ms) e = cc
+lacks_nothing (n ∷ ns) v e = lacks_nothing ns v e
 
 pub ruleset lacking = (lacks_start, lacks_end)

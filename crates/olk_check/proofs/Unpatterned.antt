@@ -31,17 +31,9 @@ module _ {N : Type 0} (m : N → Data → Question) where
   -- where nothing else is expected and members are more than declared names
   pub crowded : (rest : Option N) → None ≡ rest → (es : List (Name × N)) (ms : List (Name × Data)) → Rising es → Rising ms → length es < length ms
       → (a : Asking) → Asks a a (every (λ x. declared_or_rest m rest x.1 (lookup_name x.0 es)) ms) false
-  crowded rest none es ms r s l a = subst (λ o. Asks a a (every (λ x. declared_or_rest m o x.1 (lookup_name x.0 es)) ms) false) none
+  crowded rest none es ms r s l a = rw (← none)
       (settles (every (λ x. declared_or_rest m None x.1 (lookup_name x.0 es)) ms) false (unasked a false)
       (λ u e. sym (one_too_many (λ o x. declared_or_rest m None x o) u (λ x. refl) es ms r s l)) (λ u e. omega arith))
-
-  module _ (rest : Option N) (x : Data) {o : Option N} {a b : Asking} {r : Bool} where
-    -- the question about a name that was found, and about one that was not
-    pub found_asks : {n : N} → Some n ≡ o → Asks a b (m n x) r → Asks a b (declared_or_rest m rest x o) r
-    found_asks e q = subst (λ z. Asks a b (declared_or_rest m rest x z) r) e q
-
-    pub rest_asks : None ≡ o → Asks a b (rest_means m x rest) r → Asks a b (declared_or_rest m rest x o) r
-    rest_asks e q = subst (λ z. Asks a b (declared_or_rest m rest x z) r) e q
 
   module _ {R : Type 0} (answers : R → Name → Says) (costs : R → Bool) (known : ℕ → ℕ → Says) where
     without_places : (i : ℕ) (ns : List N) → map (λ f. f.1) (enumerate_from i ns) ≡ ns

@@ -59,23 +59,23 @@ module _ {X : Type 0} {f : X → Question} {all : List X} where
 
   module _ {rest : List X} {a b : Asking} where
     pub all_end : AllLeft f all rest a b → rest ≡ [] → Asks a b (every f all) true
-    all_end h none = h.goes_on b true (subst (λ l. Asks b b (every f l) true) (sym none) (unasked b true))
+    all_end h none = h.goes_on b true (rw none (unasked b true))
 
     pub any_end : AnyLeft f all rest a b → rest ≡ [] → Asks a b (some f all) false
-    any_end h none = h.goes_on b false (subst (λ l. Asks b b (some f l) false) (sym none) (unasked b false))
+    any_end h none = h.goes_on b false (rw none (unasked b false))
 
     module _ {x : X} {more : List X} {c : Asking} where
       pub all_go_on : AllLeft f all rest a b → rest ≡ x ∷ more → Asks b c (f x) true → AllLeft f all more a c
-      all_go_on h next k = record { goes_on = λ d r l. h.goes_on d r (subst (λ ys. Asks b d (every f ys) r) (sym next) (both_go_on k l)) }
+      all_go_on h next k = record { goes_on = λ d r l. h.goes_on d r (rw next (both_go_on k l)) }
 
       pub all_stop : AllLeft f all rest a b → rest ≡ x ∷ more → Asks b c (f x) false → Asks a c (every f all) false
-      all_stop h next k = h.goes_on c false (subst (λ ys. Asks b c (every f ys) false) (sym next) (both_stop (every f more) k))
+      all_stop h next k = h.goes_on c false (rw next (both_stop (every f more) k))
 
       pub any_go_on : AnyLeft f all rest a b → rest ≡ x ∷ more → Asks b c (f x) false → AnyLeft f all more a c
-      any_go_on h next k = record { goes_on = λ d r l. h.goes_on d r (subst (λ ys. Asks b d (some f ys) r) (sym next) (either_goes_on k l)) }
+      any_go_on h next k = record { goes_on = λ d r l. h.goes_on d r (rw next (either_goes_on k l)) }
 
       pub any_stop : AnyLeft f all rest a b → rest ≡ x ∷ more → Asks b c (f x) true → Asks a c (some f all) true
-      any_stop h next k = h.goes_on c true (subst (λ ys. Asks b c (some f ys) true) (sym next) (either_stops (some f more) k))
+      any_stop h next k = h.goes_on c true (rw next (either_stops (some f more) k))
 
 pub ruleset list_walks = (all_start, any_start)
 
@@ -84,4 +84,4 @@ pub ruleset conditional_answers = (accepted_then, refused_then, accepted_alone, 
 -- the keywords of a body, as what reads them hands them over
 pub keywords_asked : {W : Type 0} (q : W → Data → Question) (v : Data) {body : Body W} {ks : Vec W Global} {l : List W} {a b : Asking} {r : Bool} → body ≡ Keywords ks
     → l ≡ ks.items → Asks a b (every (λ k. q k v) l) r → Asks a b (body_means q body v) r
-keywords_asked q v {a = a} {b} {r} is same h = subst (λ x. Asks a b (body_means q x v) r) (sym is) (subst (λ x. Asks a b (every (λ k. q k v) x) r) same h)
+keywords_asked q v is same h = rw (is, ← same) h

@@ -1,28 +1,21 @@
 use borrow.Author.Count.{falls}
-use Rattle.std.proofs.lemmas.Result.{IfOk-from_err, IfOk-weaker}
+use Rattle.std.proofs.lemmas.Result.{IfOk-weaker}
 use Rattle.olk_build.proofs.Places.{no_object_no_members, no_array_no_items, none_are_built, itself_is_built}
 use Rattle.olk_read.specs.declared.shape.ReadPlaces.TheVariants.{Nothing, Entries, SchemaEntries, InnerEntries, Branches}
-use Rattle.std.proofs.Common.{arith, IfErr, rules, true, false, inl, inr, ◌++◌, [], ◌∷◌, map, string_bytes, refl, sym, ap, subst, ◌∙◌}
+use Rattle.std.proofs.Common.{arith, rules, true, false, inl, inr, ◌++◌, [], ◌∷◌, map, refl, sym, ap, ◌∙◌}
 use Rattle.olk_meaning.specs.Conditions.{known}
-use mathlib.Core.Path.{subst₂}
 use Rattle.std.proofs.lemmas.List.{append_assoc}
 use Rattle.serde_json.specs.View.{view, members_view}
 use Rattle.serde_json.proofs.Views.{view-Object, view-Array}
 use Rattle.serde_json.specs.declared.value.Value.{the_lemmas as value_lemmas}
-use Rattle.olk_spec.specs.Names.{◌//◌}
-use Rattle.olk_spec.specs.Vocabulary.{keyword_named}
-use Rattle.olk_spec.specs.Malformed.{items_of_array}
-use Rattle.olk_spec.specs.Schemas.{members, listed, numbered}
-use Rattle.olk_spec.specs.Faults.{fault}
+use Rattle.olk_spec.specs.Schemas.{listed, numbered}
 use Rattle.olk_reports.proofs.Errors.{kind_of_multiple_types}
-use Rattle.olk_base.specs.Kit.{kit, world}
-use Rattle.olk_build.specs.Building.{AreBuilt, RefusesEach, RefusesObject, entries_read}
-use Rattle.olk_read.specs.Refusing.{Refuses, TellsOneOf}
-use Rattle.olk_read.specs.Reading.{own_faults, own_cost_of}
-use Rattle.olk_build.specs.Placing.{RefusesPlaces, places_malformed, places_cost, PlacesAreBuilt}
+use Rattle.olk_base.specs.Kit.{kit}
+use Rattle.olk_build.specs.Building.{entries_read}
+use Rattle.olk_build.specs.Placing.{PlacesAreBuilt}
 use Rattle.olk_read.proofs.Spending.{exit, exit_with, refuses_memory, within_nothing, within_exactly}
 use Rattle.olk_spec.proofs.Maps.{items_list-view}
-use Rattle.olk_build.proofs.Built.{below, listed_alike, EntriesSoFar, next_branch, no_branch, no_entries, entries_built, entries_memory, entry_refused, entry_memory, one_more_entry, no_inner, inner_built, inner_memory, inner_refused, more_inner_memory, one_more_inner, at_an_entry, past_an_entry, none_is_read, built_truth, built_object, refuses_object, refuses_no_schema}
+use Rattle.olk_build.proofs.Built.{below, listed_alike, next_branch, no_branch, no_entries, entries_built, entries_memory, entry_refused, entry_memory, one_more_entry, no_inner, inner_built, inner_memory, inner_refused, more_inner_memory, one_more_inner, at_an_entry, past_an_entry, none_is_read, built_truth, built_object, refuses_object, refuses_no_schema}
 use Rattle.olk_meaning.proofs.Objects.{no_schema_is}
 use Rattle.olk_build.proofs.Parts.{refuses_part_own, refuses_part_inside, part_is_built}
 use Rattle.serde_json.proofs.value.Value.TheLaws.{the_size}

@@ -1,4 +1,4 @@
-use Rattle.std.proofs.Common.{◌≡◌, ◌++◌, List, map, String, Global}
+use Rattle.std.proofs.Common.{◌≡◌, ◌++◌, List, String, Global}
 use Rattle.serde_json.specs.declared.value.Value.{Value}
 use Rattle.serde_json.specs.View.{items_view, members_view}
 use Rattle.olk_spec.specs.Schemas.{listed, numbered}

@@ -1,10 +1,4 @@
-use Rattle.std.proofs.Common.{sym}
-use mathlib.Core.Path.{subst₂}
 use Rattle.std.proofs.lemmas.Result.{err_from_is_err_and}
-use Rattle.serde_json.specs.View.{view}
-use Rattle.olk_spec.specs.Malformed.{malformations_at}
-use Rattle.olk_base.specs.Kit.{world}
-use Rattle.olk_read.specs.Refusing.{TellsOneOf}
 use Rattle.olk_read.proofs.Spending.{exit_with, within_nothing}
 use Rattle.olk_build.proofs.build.compile.Goals as goal
 

@@ -1,8 +1,3 @@
-use Rattle.std.proofs.Common.{sym, subst}
-use Rattle.serde_json.specs.View.{members_view}
-use Rattle.olk_spec.specs.Schemas.{listed}
-use Rattle.olk_base.specs.Kit.{kit}
-use Rattle.olk_build.specs.Building.{RefusesEach}
 use Rattle.olk_read.proofs.Spending.{exit, exit_with, refuses_memory, within_nothing}
 use Rattle.olk_build.proofs.build.compile_declared.Goals as goal
 

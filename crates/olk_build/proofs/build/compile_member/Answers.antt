@@ -1,9 +1,7 @@
-use Rattle.std.proofs.Common.{sym, subst}
 use mathlib.Core.Path.{subst₂}
 use Rattle.serde_json.specs.View.{view}
 use Rattle.olk_spec.specs.Names.{◌//◌}
 use Rattle.olk_base.specs.Kit.{kit}
-use Rattle.olk_meaning.specs.Conditions.{known}
 use Rattle.olk_build.specs.Building.{RefusesPart}
 use Rattle.olk_build.specs.Placing.{IsPart}
 use Rattle.olk_read.proofs.Spending.{exit}

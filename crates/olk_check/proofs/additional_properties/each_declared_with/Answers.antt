@@ -10,32 +10,30 @@ use Rattle.olk_check.proofs.Asked.{unasked}
 use Rattle.olk_check.proofs.Deferred.{held_more, held_go_on, held_stop, held_end, held_refused}
 use Rattle.olk_check.proofs.Missing.{one_met}
 use Rattle.olk_check.proofs.Present.{sought_on, sought_end}
-use Rattle.olk_check.proofs.Unpatterned.{found_asks, rest_asks}
 use Rattle.olk_check.proofs.additional_properties.each_declared_with.Goals as goal
 
 pub returns-in_default : goal.returns-in_default
 returns-in_default g c =
     held_stop c.loop-name.invariant.0 (name_next c.in-Some.ensures.steps c.as_str-name.ensures.value) (always (is_empty (missing (c.args.required.now ∷ []) (object_of c.args.members.now.entries))))
-    (rest_asks g.N.Means.means None (view c.in-Some.value.now) (sym (ap option_copied c.in_default.is) ∙ (c.node_among-next.ensures ∙ ap (lookup_name c.as_str-name.result.now) c.as_slice-entries.ensures.entries)) (unasked c.loop-name.ctx false))
+    (rw (← c.as_slice-entries.ensures.entries, ← c.node_among-next.ensures, c.in_default.is) (unasked c.loop-name.ctx false))
 
 pub loop-name-preserved-then-not-is_full : goal.loop-name-preserved-then-not-is_full
 loop-name-preserved-then-not-is_full g c =
     let next = name_next c.in-Some.ensures.steps c.as_str-name.ensures.value in (
       held_more c.loop-name.invariant.0 next (Some (c.in-Some-declared.subschema, c.in-Some.value))
-          (ap (declared_or_rest g.N.Means.means None (view c.in-Some.value.now)) (sym (ap option_copied c.in-Some-declared.is) ∙ (c.node_among-next.ensures ∙ ap (lookup_name c.as_str-name.result.now) c.as_slice-entries.ensures.entries))) c.push.ensures.items,
+          (rw (← c.as_slice-entries.ensures.entries, ← c.node_among-next.ensures, c.in-Some-declared.is)) c.push.ensures.items,
       sought_on _ c.loop-name.invariant.1 next c.is_met-met.ensures,
     )
 
 pub returns-then-not-is_valid : goal.returns-then-not-is_valid
 returns-then-not-is_valid g c =
     held_stop c.loop-name.invariant.0 (name_next c.in-Some.ensures.steps c.as_str-name.ensures.value) (always (is_empty (missing (c.args.required.now ∷ []) (object_of c.args.members.now.entries))))
-    (found_asks g.N.Means.means None (view c.in-Some.value.now) (sym (ap option_copied c.in-Some-declared.is) ∙ (c.node_among-next.ensures ∙ ap (lookup_name c.as_str-name.result.now) c.as_slice-entries.ensures.entries)) c.if-not-is_valid.ensures)
+    (rw (← c.as_slice-entries.ensures.entries, ← c.node_among-next.ensures, c.in-Some-declared.is) c.if-not-is_valid.ensures)
 
 pub loop-name-preserved : goal.loop-name-preserved
 loop-name-preserved g c =
     let next = name_next c.in-Some.ensures.steps c.as_str-name.ensures.value in (
-      held_go_on c.loop-name.invariant.0 next (found_asks g.N.Means.means None (view c.in-Some.value.now)
-          (sym (ap option_copied c.in-Some-declared.is) ∙ (c.node_among-next.ensures ∙ ap (lookup_name c.as_str-name.result.now) c.as_slice-entries.ensures.entries)) c.if-not-is_valid.ensures),
+      held_go_on c.loop-name.invariant.0 next (rw (← c.as_slice-entries.ensures.entries, ← c.node_among-next.ensures, c.in-Some-declared.is) c.if-not-is_valid.ensures),
       sought_on _ c.loop-name.invariant.1 next c.is_met-met.ensures,
     )
 
