@@ -1,5 +1,5 @@
 -- Walks that put some questions off.
-use Rattle.std.proofs.Common.{◌≡◌, ◌+◌, Bool, true, false, ◌&&◌, List, [], ◌∷◌, ◌++◌, refl, sym, ap, subst, ◌∙◌, arith}
+use Rattle.std.proofs.Common.{◌≡◌, ◌+◌, Bool, true, false, ◌&&◌, List, [], ◌∷◌, ◌++◌, refl, sym, ap, ◌∙◌, arith}
 use Rattle.std.proofs.Math.Bool.{and_comm, and-false}
 use Rattle.olk_base.specs.Lawful.{Asking}
 use Rattle.olk_tree.specs.Questions.{Question, always, both, every}

@@ -1,5 +1,5 @@
 -- A matcher that is asked of a name answers a question.
-use Rattle.std.proofs.Common.{◌≡◌, Bool, true, false, cond, refl, sym, subst, arith}
+use Rattle.std.proofs.Common.{◌≡◌, Bool, true, false, cond, refl, arith}
 use Rattle.olk_spec.specs.World.{Says, matched, unmatched, unfinished, reads_as}
 use Rattle.olk_base.specs.Lawful.{Asking, asked_of}
 use Rattle.olk_tree.specs.Questions.{said_to}

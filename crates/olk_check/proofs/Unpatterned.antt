@@ -1,5 +1,5 @@
 -- Members that declared names and the rest speak of, and no patterns.
-use Rattle.std.proofs.Common.{◌≡◌, ℕ, ◌+◌, ◌<◌, length, Bool, false, List, [], ◌∷◌, map, Option, Some, None, option_map, refl, sym, ap, subst, ◌∙◌, is_some, arith}
+use Rattle.std.proofs.Common.{◌≡◌, ℕ, ◌+◌, ◌<◌, length, Bool, false, List, [], ◌∷◌, map, Option, Some, None, option_map, refl, sym, ap, ◌∙◌, is_some, arith}
 use Rattle.std.specs.List.{enumerate_from, zip}
 use denote.Ref.{Bor}
 use mathlib.Core.Bool.{true≢false}

@@ -1,9 +1,4 @@
-use Rattle.std.proofs.Common.{true, false, option_copied, subst, ap, ◌∙◌}
-use Rattle.serde_json.specs.View.{view}
-use Rattle.olk_spec.specs.Names.{lookup_name}
 use Rattle.olk_tree.proofs.Due.{name_next, no_name_next}
-use Rattle.olk_check.specs.Asks.{Asks}
-use Rattle.olk_check.specs.Unpatterned.{declared_or_rest}
 use Rattle.olk_check.proofs.Walks.{all_go_on, all_stop, all_end}
 use Rattle.olk_check.proofs.additional_properties.each_declared_or_rest.Goals as goal
 

@@ -1,11 +1,9 @@
-use Rattle.std.proofs.Common.{Some, None, false, [], ◌∷◌, option_copied, sym, ap, ◌∙◌}
-use Rattle.serde_json.specs.View.{view}
-use Rattle.olk_spec.specs.Names.{is_empty, lookup_name}
+use Rattle.std.proofs.Common.{Some, false, [], ◌∷◌, sym, ◌∙◌}
+use Rattle.olk_spec.specs.Names.{is_empty}
 use Rattle.olk_spec.specs.Accepts.{missing}
 use Rattle.olk_tree.specs.Questions.{always}
 use Rattle.olk_tree.specs.Visited.{object_of}
 use Rattle.olk_tree.proofs.Due.{name_next, no_name_next}
-use Rattle.olk_check.specs.Unpatterned.{declared_or_rest}
 use Rattle.olk_check.proofs.Asked.{unasked}
 use Rattle.olk_check.proofs.Deferred.{held_more, held_go_on, held_stop, held_end, held_refused}
 use Rattle.olk_check.proofs.Missing.{one_met}

@@ -1,9 +1,8 @@
 use Rattle.olk_check.proofs.Asked.{asks_as}
-use Rattle.std.proofs.Common.{ap, sym, subst, ◌∙◌}
+use Rattle.std.proofs.Common.{ap, sym, ◌∙◌}
 use Rattle.olk_tree.specs.Additional.{means_in_turn, sides_of}
 use Rattle.olk_tree.specs.Tables.{table_says}
 use Rattle.olk_tree.specs.Visited.{object_of}
-use Rattle.olk_check.specs.Asks.{Asks}
 use Rattle.olk_check.proofs.Answered.{answered_one}
 use Rattle.olk_check.proofs.Together.{each_is_all, both_where}
 use Rattle.olk_check.proofs.Unpatterned.{alone_means}

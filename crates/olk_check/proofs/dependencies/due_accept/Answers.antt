@@ -1,10 +1,8 @@
 use Rattle.olk_check.proofs.Asked.{asks_as}
-use Rattle.std.proofs.Common.{true, false, subst}
 use Rattle.serde_json.specs.View.{members_view}
 use Rattle.olk_base.specs.Nodes.{data_of}
 use Rattle.olk_tree.specs.Maps.{named}
 use Rattle.olk_tree.proofs.Due.{every_due}
-use Rattle.olk_check.specs.Asks.{Asks}
 use Rattle.olk_check.proofs.Walks.{all_go_on, all_stop, all_end}
 use Rattle.olk_check.proofs.dependencies.due_accept.Goals as goal
 

@@ -1,10 +1,10 @@
-use Rattle.std.proofs.Common.{length, drop, refl, sym, ap, subst, ◌∙◌, length-drop, arith}
+use Rattle.std.proofs.Common.{length, drop, refl, ap, ◌∙◌, length-drop, arith}
 use Rattle.olk_base.specs.Kit.{kit}
 use Rattle.olk_base.specs.Nodes.{data_of}
 use Rattle.olk_tree.specs.Validators.{validator_means}
 use Rattle.olk_tree.proofs.Lists.{past_end}
 use Rattle.olk_check.proofs.Answered.{refused_left, go_on_behind_one, go_on_behind_two, two_are_left}
-use Rattle.olk_check.proofs.Walks.{AllLeft, all_end}
+use Rattle.olk_check.proofs.Walks.{all_end}
 use Rattle.olk_check.proofs.node.keywords_accept.Goals.{in-One, in-Two}
 use Rattle.olk_check.proofs.node.keywords_accept.Goals as goal
 

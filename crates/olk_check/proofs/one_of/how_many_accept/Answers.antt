@@ -1,7 +1,5 @@
-use Rattle.std.proofs.Common.{◌+◌, drop, sym, subst}
-use Rattle.olk_base.specs.Nodes.{data_of}
 use Rattle.olk_tree.proofs.Lists.{next_at, past_end}
-use Rattle.olk_check.proofs.Counting.{OneLeft, one_start, one_end, count_end, one_refused, one_found, second_found, count_several}
+use Rattle.olk_check.proofs.Counting.{one_start, one_end, count_end, one_refused, one_found, second_found, count_several}
 use Rattle.olk_check.proofs.one_of.how_many_accept.Goals as goal
 
 pub loop-schema-init : goal.loop-schema-init

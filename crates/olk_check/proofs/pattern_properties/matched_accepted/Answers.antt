@@ -1,12 +1,11 @@
 use Rattle.olk_check.proofs.Asked.{asks_as}
-use Rattle.std.proofs.Common.{sym, ap, subst, ◌∙◌}
+use Rattle.std.proofs.Common.{sym, ap, ◌∙◌}
 use Rattle.serde_json.specs.View.{members_view}
 use Rattle.olk_spec.specs.Schemas.{at}
 use Rattle.olk_tree.specs.Questions.{every}
 use Rattle.olk_tree.specs.PatternProperties.{matched_mean}
 use Rattle.olk_tree.specs.Visited.{object_of}
 use Rattle.olk_tree.proofs.Literals.{exact_mean}
-use Rattle.olk_check.specs.Asks.{Asks}
 use Rattle.olk_check.proofs.pattern_properties.matched_accepted.Goals as goal
 
 pub returns-in-Exact : goal.returns-in-Exact

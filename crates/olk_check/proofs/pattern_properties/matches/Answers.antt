@@ -1,7 +1,5 @@
-use Rattle.std.proofs.Common.{bytes_eq, string_bytes, sym, ap, subst, ◌∙◌}
+use Rattle.std.proofs.Common.{bytes_eq, string_bytes, ap, ◌∙◌}
 use Rattle.olk_base.specs.Compiled.{pattern_answers, pattern_costs}
-use Rattle.olk_tree.specs.Matched.{match_question}
-use Rattle.olk_check.specs.Asks.{Asks}
 use Rattle.olk_check.proofs.Matchers.{match_answers, test_answers}
 use Rattle.olk_check.proofs.pattern_properties.matches.Goals as goal
 

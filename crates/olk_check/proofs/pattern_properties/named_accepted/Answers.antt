@@ -1,8 +1,7 @@
-use Rattle.std.proofs.Common.{true, option_map, option_to_list, sym, ap, subst, ◌∙◌}
+use Rattle.std.proofs.Common.{true, option_map, option_to_list, sym, ap, ◌∙◌}
 use Rattle.serde_json.specs.View.{view}
 use Rattle.olk_tree.specs.Questions.{every}
 use Rattle.olk_tree.proofs.Questions.{both_last}
-use Rattle.olk_check.specs.Asks.{Asks}
 use Rattle.olk_check.proofs.Asked.{asks_as, unasked}
 use Rattle.olk_check.proofs.pattern_properties.named_accepted.Goals as goal
 

@@ -1,9 +1,7 @@
 use Rattle.olk_check.proofs.Asked.{asks_as}
-use Rattle.std.proofs.Common.{subst}
 use Rattle.serde_json.specs.View.{members_view}
 use Rattle.olk_tree.proofs.Members_met.{means_of_members}
 use Rattle.olk_tree.proofs.Walked.{walks_agree}
-use Rattle.olk_check.specs.Asks.{Asks}
 use Rattle.olk_check.proofs.properties.all_accepted.Goals as goal
 
 pub returns-then-len : goal.returns-then-len

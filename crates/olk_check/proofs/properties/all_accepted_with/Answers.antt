@@ -1,13 +1,9 @@
-use Rattle.std.proofs.Common.{[], ◌∷◌, sym, subst, ◌∙◌}
+use Rattle.std.proofs.Common.{sym, ◌∙◌}
 use Rattle.serde_json.specs.View.{members_view}
-use Rattle.olk_spec.specs.Names.{is_empty}
-use Rattle.olk_spec.specs.Accepts.{missing}
 use Rattle.olk_tree.specs.Properties.{properties_mean}
-use Rattle.olk_tree.specs.Questions.{always, both}
 use Rattle.olk_tree.specs.Visited.{object_of}
 use Rattle.olk_tree.proofs.Members_met.{means_of_members}
 use Rattle.olk_tree.proofs.Walked.{walks_agree}
-use Rattle.olk_check.specs.Asks.{Asks}
 use Rattle.olk_check.proofs.Missing.{one_met}
 use Rattle.olk_check.proofs.Together.{both_where, refused_where}
 use Rattle.olk_check.proofs.properties.all_accepted_with.Goals as goal

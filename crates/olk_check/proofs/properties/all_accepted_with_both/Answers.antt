@@ -1,12 +1,6 @@
-use Rattle.std.proofs.Common.{[], ◌∷◌, subst}
 use Rattle.serde_json.specs.View.{members_view}
-use Rattle.olk_spec.specs.Names.{is_empty}
-use Rattle.olk_spec.specs.Accepts.{missing}
-use Rattle.olk_tree.specs.Questions.{always, both}
-use Rattle.olk_tree.specs.Visited.{object_of}
 use Rattle.olk_tree.proofs.Members_met.{means_of_members}
 use Rattle.olk_tree.proofs.Walked.{walks_agree}
-use Rattle.olk_check.specs.Asks.{Asks}
 use Rattle.olk_check.proofs.properties.all_accepted_with_both.Goals as goal
 
 pub returns-then-len : goal.returns-then-len

@@ -1,9 +1,4 @@
-use Rattle.std.proofs.Common.{true, false, option_to_list, subst, ap, ◌∙◌}
-use Rattle.serde_json.specs.View.{view}
-use Rattle.olk_spec.specs.Names.{lookup_name}
-use Rattle.olk_tree.specs.Questions.{every}
 use Rattle.olk_tree.proofs.Due.{name_next, no_name_next}
-use Rattle.olk_check.specs.Asks.{Asks}
 use Rattle.olk_check.proofs.Walks.{all_go_on, all_stop, all_end}
 use Rattle.olk_check.proofs.properties.each_member_accepted.Goals as goal
 

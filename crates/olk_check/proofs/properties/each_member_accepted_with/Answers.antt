@@ -1,6 +1,5 @@
-use Rattle.std.proofs.Common.{[], ◌∷◌, ap, ◌∙◌}
-use Rattle.serde_json.specs.View.{view}
-use Rattle.olk_spec.specs.Names.{is_empty, lookup_name}
+use Rattle.std.proofs.Common.{[], ◌∷◌}
+use Rattle.olk_spec.specs.Names.{is_empty}
 use Rattle.olk_spec.specs.Accepts.{missing}
 use Rattle.olk_tree.specs.Questions.{always}
 use Rattle.olk_tree.specs.Visited.{object_of}

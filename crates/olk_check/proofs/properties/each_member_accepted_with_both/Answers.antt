@@ -1,6 +1,5 @@
 use Rattle.std.proofs.Common.{◌&&◌, [], ◌∷◌, sym, ap, ◌∙◌}
-use Rattle.serde_json.specs.View.{view}
-use Rattle.olk_spec.specs.Names.{is_empty, lookup_name}
+use Rattle.olk_spec.specs.Names.{is_empty}
 use Rattle.olk_spec.specs.Accepts.{missing}
 use Rattle.olk_tree.specs.Visited.{object_of}
 use Rattle.olk_tree.proofs.Due.{name_next, no_name_next}

@@ -1,12 +1,8 @@
-use Rattle.std.proofs.Common.{◌+◌, ◌≡◌, [], true, false, drop, option_to_list, refl, ap, subst}
-use Rattle.olk_spec.specs.Schemas.{at}
+use Rattle.std.proofs.Common.{◌+◌, ◌≡◌, [], drop, refl, ap}
 use Rattle.olk_tree.specs.Entries.{entries_are}
-use Rattle.olk_tree.specs.Questions.{every}
-use Rattle.olk_tree.specs.Visited.{object_of}
 use Rattle.std.proofs.lemmas.List.{drop_all}
 use Rattle.olk_tree.proofs.Lists.{next_at}
 use Rattle.olk_tree.proofs.Walked.{entries_more}
-use Rattle.olk_check.specs.Asks.{Asks}
 use Rattle.olk_check.proofs.Walks.{all_go_on, all_stop, all_end}
 use Rattle.olk_check.proofs.properties.each_name_accepted.Goals as goal
 

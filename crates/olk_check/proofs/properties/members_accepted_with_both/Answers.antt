@@ -1,12 +1,11 @@
 use Rattle.olk_check.proofs.Asked.{asks_as}
-use Rattle.std.proofs.Common.{[], ◌∷◌, subst}
+use Rattle.std.proofs.Common.{[], ◌∷◌}
 use Rattle.olk_spec.specs.Names.{is_empty}
 use Rattle.olk_spec.specs.Accepts.{missing}
 use Rattle.olk_tree.specs.Maps.{named}
 use Rattle.olk_tree.specs.Properties.{properties_mean}
 use Rattle.olk_tree.specs.Questions.{always, both}
 use Rattle.olk_tree.specs.Visited.{object_of}
-use Rattle.olk_check.specs.Asks.{Asks}
 use Rattle.olk_check.proofs.Answered.{answered_one}
 use Rattle.olk_check.proofs.properties.members_accepted_with_both.Goals as goal
 

@@ -1,8 +1,7 @@
-use Rattle.std.proofs.Common.{true, sym, subst}
+use Rattle.std.proofs.Common.{true, sym}
 use Rattle.olk_base.specs.Nodes.{data_of}
 use Rattle.olk_tree.specs.Maps.{mapped}
 use Rattle.olk_tree.proofs.Members_met.{means_nothing}
-use Rattle.olk_check.specs.Asks.{Asks}
 use Rattle.olk_check.proofs.Asked.{asks_as, unasked}
 use Rattle.olk_check.proofs.properties.properties_accept.Goals as goal
 

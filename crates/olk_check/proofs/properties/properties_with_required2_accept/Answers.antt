@@ -8,7 +8,6 @@ use Rattle.olk_tree.specs.Maps.{named, two_texts}
 use Rattle.olk_tree.specs.Properties.{properties_mean}
 use Rattle.olk_tree.proofs.Questions.{both_last}
 use Rattle.olk_tree.proofs.Members_met.{means_nothing, object_is}
-use Rattle.olk_check.specs.Asks.{Asks}
 use Rattle.olk_check.specs.Together.{AsksOne}
 use Rattle.olk_check.proofs.Asked.{asks_as, unasked}
 use Rattle.olk_check.proofs.Missing.{lacks_nothing}

@@ -1,10 +1,9 @@
-use Rattle.std.proofs.Common.{true, [], ◌∷◌, sym, subst, ◌∙◌}
+use Rattle.std.proofs.Common.{true, [], ◌∷◌, sym, ◌∙◌}
 use Rattle.olk_base.specs.Nodes.{data_of}
 use Rattle.olk_tree.specs.Maps.{mapped}
 use Rattle.olk_tree.specs.Questions.{always, both}
 use Rattle.olk_tree.proofs.Questions.{both_last}
 use Rattle.olk_tree.proofs.Members_met.{means_nothing}
-use Rattle.olk_check.specs.Asks.{Asks}
 use Rattle.olk_check.proofs.Asked.{asks_as, unasked}
 use Rattle.olk_check.proofs.Missing.{lacks_nothing}
 use Rattle.olk_check.proofs.properties.properties_with_required_accept.Goals as goal

@@ -1,10 +1,9 @@
-use Rattle.std.proofs.Common.{true, sym, ap, subst, ◌∙◌}
+use Rattle.std.proofs.Common.{true, sym, ap, ◌∙◌}
 use Rattle.std.specs.Prelude.{option_to_list}
 use Rattle.std.specs.Option.{option_copied}
 use Rattle.olk_base.specs.Nodes.{data_of}
 use Rattle.olk_tree.specs.Questions.{every}
 use Rattle.olk_tree.proofs.Questions.{both_last}
-use Rattle.olk_check.specs.Asks.{Asks}
 use Rattle.olk_check.proofs.Asked.{asks_as, unasked}
 use Rattle.olk_check.proofs.property_dependencies.choice_accepts.Goals as goal
 

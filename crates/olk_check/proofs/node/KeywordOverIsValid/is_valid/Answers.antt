@@ -1,8 +1,4 @@
-use Rattle.std.proofs.Common.{sym, subst}
-use Rattle.olk_base.specs.Kit.{kit}
-use Rattle.olk_base.specs.Nodes.{data_of}
-use Rattle.olk_tree.specs.Validators.{answers_of, validator_means}
-use Rattle.olk_check.specs.Asks.{Asks}
+use Rattle.olk_tree.specs.Validators.{answers_of}
 use Rattle.olk_check.proofs.Answered.{said}
 use Rattle.olk_check.proofs.node.KeywordOverIsValid.is_valid.Goals as goal
 

@@ -1,7 +1,6 @@
-use Rattle.std.proofs.Common.{true, sym, subst}
+use Rattle.std.proofs.Common.{true, sym}
 use Rattle.olk_base.specs.Nodes.{data_of}
 use Rattle.olk_tree.proofs.Patterns.{patterns_nothing}
-use Rattle.olk_check.specs.Asks.{Asks}
 use Rattle.olk_check.proofs.Asked.{asks_as, unasked}
 use Rattle.olk_check.proofs.pattern_properties.PatternPropertiesIsValid.is_valid.Goals as goal
 

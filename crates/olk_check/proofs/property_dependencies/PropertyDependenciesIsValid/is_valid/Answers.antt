@@ -1,9 +1,8 @@
-use Rattle.std.proofs.Common.{true, sym, ap, subst}
+use Rattle.std.proofs.Common.{true, sym, ap}
 use Rattle.olk_base.specs.Nodes.{data_of}
 use Rattle.olk_tree.specs.Questions.{every}
 use Rattle.olk_tree.specs.Maps.{named}
 use Rattle.olk_tree.proofs.Due.{none_chosen}
-use Rattle.olk_check.specs.Asks.{Asks}
 use Rattle.olk_check.proofs.Asked.{asks_as, unasked}
 use Rattle.olk_check.proofs.property_dependencies.PropertyDependenciesIsValid.is_valid.Goals as goal
 

@@ -1,10 +1,7 @@
-use Rattle.std.proofs.Common.{true, sym, ap, subst}
+use Rattle.std.proofs.Common.{true}
 use Rattle.olk_base.specs.Nodes.{data_of}
-use Rattle.olk_spec.specs.Names.{is_empty}
-use Rattle.olk_tree.specs.Questions.{always}
 use Rattle.olk_tree.proofs.Members_met.{no_members}
 use Rattle.olk_tree.proofs.Due.{has_none}
-use Rattle.olk_check.specs.Asks.{Asks}
 use Rattle.olk_check.proofs.Answered.{said}
 use Rattle.olk_check.proofs.Asked.{unasked}
 use Rattle.olk_check.proofs.property_names.PropertyNamesFalseIsValid.is_valid.Goals as goal

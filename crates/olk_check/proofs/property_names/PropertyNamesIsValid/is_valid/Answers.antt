@@ -1,9 +1,8 @@
-use Rattle.std.proofs.Common.{true, sym, ap, subst, rules}
+use Rattle.std.proofs.Common.{true, sym, ap, rules}
 use Rattle.serde_json.specs.Data.{string}
 use Rattle.olk_base.specs.Nodes.{data_of}
 use Rattle.olk_tree.specs.Questions.{every}
 use Rattle.olk_tree.proofs.Members_met.{no_members}
-use Rattle.olk_check.specs.Asks.{Asks}
 use Rattle.olk_check.proofs.Asked.{asks_as, unasked}
 use Rattle.olk_check.proofs.property_names.PropertyNamesIsValid.is_valid.Goals as goal
 

@@ -1,10 +1,7 @@
 use Rattle.olk_check.proofs.Answered.{said}
-use Rattle.std.proofs.Common.{true, sym, subst}
+use Rattle.std.proofs.Common.{sym}
 use Rattle.olk_base.specs.Nodes.{data_of}
-use Rattle.olk_tree.specs.Questions.{always}
 use Rattle.olk_tree.specs.Maps.{texts_of}
-use Rattle.olk_check.specs.Asks.{Asks}
-use Rattle.olk_check.proofs.Asked.{unasked}
 use Rattle.olk_check.proofs.Missing.{lacks_nothing}
 use Rattle.olk_check.proofs.required.RequiredValidatorIsValid.is_valid.Goals as goal
 
