@@ -35,13 +35,6 @@ use Rattle.olk_tree.specs.declared.node.Body.TheVariants.{True, False, Keywords}
 use Rattle.olk_read.proofs.Spending.{spends_append, spends_same, spends_place, within_after, within_same, within_exactly, tells_same}
 use Rattle.olk_meaning.proofs.Objects.{IsNoSchema, no_schema_malformed, no_schema_cost, object_accepts, object_asks, object_report, object_tree, object_malformed, object_cost}
 
--- a place below another, under a name
-pub below : (P : Path) {L : Path} {m n : Name} → L ≡ P // m → m ≡ n → L ≡ P // n
-below P e f = e ∙ ap (λ k. P // k) f
-
-pub listed_alike : {xs ys : List (String Global × Value)} → xs ≡ ys → listed (members_view xs) ≡ listed (members_view ys)
-listed_alike e = ap (λ l. listed (members_view l)) e
-
 abbrev pub truth_body : {W : Type 0} → Bool → Body W
 truth_body true = True
 truth_body false = False

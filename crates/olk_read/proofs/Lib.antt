@@ -3,7 +3,7 @@ pub mod SoFar
 pub mod KeywordNames
 pub mod Read
 pub mod Shapes
-mod Entries
+pub mod Entries
 mod Texts
 mod NameLists
 mod PatternsSoFar

@@ -15,7 +15,8 @@ use Rattle.olk_build.specs.Building.{entries_read}
 use Rattle.olk_build.specs.Placing.{PlacesAreBuilt}
 use Rattle.olk_read.proofs.Spending.{exit, exit_with, refuses_memory, within_nothing, within_exactly}
 use Rattle.olk_spec.proofs.Maps.{items_list-view}
-use Rattle.olk_build.proofs.Built.{below, listed_alike, next_branch, no_branch, no_entries, entries_built, entries_memory, entry_refused, entry_memory, one_more_entry, no_inner, inner_built, inner_memory, inner_refused, more_inner_memory, one_more_inner, at_an_entry, past_an_entry, none_is_read, built_truth, built_object, refuses_object, refuses_no_schema}
+use Rattle.olk_read.proofs.Entries.{below, listed_alike}
+use Rattle.olk_build.proofs.Built.{next_branch, no_branch, no_entries, entries_built, entries_memory, entry_refused, entry_memory, one_more_entry, no_inner, inner_built, inner_memory, inner_refused, more_inner_memory, one_more_inner, at_an_entry, past_an_entry, none_is_read, built_truth, built_object, refuses_object, refuses_no_schema}
 use Rattle.olk_meaning.proofs.Objects.{no_schema_is}
 use Rattle.olk_build.proofs.Parts.{refuses_part_own, refuses_part_inside, part_is_built}
 use Rattle.serde_json.proofs.value.Value.TheLaws.{the_size}
