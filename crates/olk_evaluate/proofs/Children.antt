@@ -11,7 +11,7 @@ use Rattle.std.proofs.Math.Seq.{set-append_seam, get_or-append_seam}
 use Rattle.olk_spec.proofs.Refused_trees.{same_validity}
 use Rattle.olk_spec.specs.Names.{Name, Path, filter_once, put_if, is_empty}
 use Rattle.olk_spec.specs.Tree.{Tree, Trees, trees_from, IsLikeTree, AreLikeTrees, AreTold, Described, is_valid, result_node, result, plain}
-use Rattle.olk_reports.specs.Evaluations.{Shown, shown, nothing_shown, with_children, called_invalid, node_at, tree_of, with_result}
+use Rattle.olk_reports.specs.Evaluations.{AddsEmptyAt, Shown, shown, shown_of, nothing_shown, with_children, called_invalid, node_at, result_of, tree_of, with_result}
 use Rattle.olk_reports.specs.declared.evaluation.EvaluationNode.{EvaluationNode}
 use Rattle.olk_reports.specs.declared.evaluation.EvaluationResult.{EvaluationResult}
 use Rattle.serde_json.specs.Data.{Data, string}
@@ -140,21 +140,23 @@ module _ {X : Type 0} {each : Bool → Path → X → Wanted} {all left : List X
 pub those_next : {X : Type 0} (f : X → Bool) {left rest : List X} {x : X} {b : Bool} → left ≡ x ∷ rest → b ≡ f x → filter_once f left ≡ put_if b x (filter_once f rest)
 those_next f {rest = rest} {x} next e = ap (filter_once f) next ∙ ap (λ b. put_if b x (filter_once f rest)) (sym e)
 
--- a node that is put behind the others, and its result written then
-module _ (xs ys : List EvaluationNode) (i : ℕ) (made at : EvaluationNode) (more : ys ≡ xs ++ made ∷ []) (last : i ≡ length xs) (there : at ≡ get_or ys i at) where
-  pub last_is : at ≡ made
-  last_is = there ∙ (λ j. get_or (more j) (last j) at) ∙ get_or-append_seam xs made [] at
-
-  pub shows_last : {w : Wanted} (r : EvaluationResult) → IsShown w (tree_of (with_result made r)) → ShowsMore w xs (set ys i (with_result at r))
-  shows_last r is = record {
-    child = with_result made r;
-    added = (λ j. set (more j) (last j) (with_result (last_is j) r)) ∙ set-append_seam xs made [] (with_result made r);
-    shown = is;
-  }
-
 -- what stands at its places
 pub shown_there : {w : Wanted} {P R Q S : Path} (s : Shown) {t : Tree} → t ≡ node_at P Q s → P ≡ R → Q ≡ S → IsShown w (node_at R S s) → IsShown w t
 shown_there {w} s e p q h = subst (IsShown w) (sym (e ∙ (λ i. node_at (p i) (q i) s))) h
+
+-- a node that is put behind the others, and its result written then
+module _ {P Q : Path} {xs ys : List EvaluationNode} (h : AddsEmptyAt P Q xs ys) (i : ℕ) (at : EvaluationNode) (last : i ≡ length xs) (there : at ≡ get_or ys i at) where
+  last_is : at ≡ h.node
+  last_is = there ∙ (λ j. get_or (h.added j) (last j) at) ∙ get_or-append_seam xs h.node [] at
+
+  pub empty_last : shown_of (result_of at) ≡ nothing_shown
+  empty_last = ap (λ n. shown_of (result_of n)) last_is ∙ h.stands.empty
+
+  pub written_last : (r : EvaluationResult) → set ys i (with_result at r) ≡ xs ++ with_result h.node r ∷ []
+  written_last r = (λ j. set (h.added j) (last j) (with_result (last_is j) r)) ∙ set-append_seam xs h.node [] (with_result h.node r)
+
+  pub shows_last : {w : Wanted} {R S : Path} (r : EvaluationResult) → P ≡ R → Q ≡ S → IsShown w (node_at R S (shown_of r)) → ShowsMore w xs (set ys i (with_result at r))
+  shows_last r p q is = record { child = with_result h.node r; added = written_last r; shown = shown_there (shown_of r) (h.stands.places r) p q is }
 
 pub one_shown : {w : Wanted} {xs ys : List EvaluationNode} → xs ≡ [] → (h : ShowsMore w xs ys) → trees_of ys ≡ tree_of h.child ∷ []
 one_shown none h = ap trees_of (h.added ∙ ap (λ l. l ++ h.child ∷ []) none)

@@ -19,8 +19,8 @@ use Rattle.olk_spec.specs.Schemas.{has, listed, members}
 use Rattle.olk_spec.specs.Accepts.{missing}
 use Rattle.olk_tree.specs.Maps.{texts_of}
 use Rattle.olk_tree.specs.OwnFaults.{fault_if_agrees, unless}
-use Rattle.olk_reports.specs.Evaluations.{Shown, shown, errored, node_at, IsDescribedBy}
-use Rattle.olk_evaluate.specs.Wanted.{Wanted, IsShown, AreShown, refused, lacking_trees, errored_by, AddsErrors, HasTexts}
+use Rattle.olk_reports.specs.Evaluations.{Shown, shown, errored, errored_by, AddsErrors, node_at}
+use Rattle.olk_evaluate.specs.Wanted.{Wanted, IsShown, AreShown, refused, lacking_trees, HasTexts}
 use Rattle.olk_evaluate.specs.Additional.{annotated_if, named_faults, names_of}
 use Rattle.olk_evaluate.proofs.Children.{emptiness_of, trees_wanted, all_wanted, shown_as, result_shown, valid_shown}
 
@@ -28,9 +28,6 @@ use Rattle.olk_evaluate.proofs.Children.{emptiness_of, trees_wanted, all_wanted,
 
 pub adds_none : (s : Shown) → AddsErrors [] s s
 adds_none s = record { own = []; told = tt; is = refl }
-
-pub adds_one : {f : Fault} {d : Described} {s r : Shown} → IsDescribedBy f d → r ≡ errored d s → AddsErrors (f ∷ []) s r
-adds_one {d = d} t is = record { own = d ∷ []; told = (t.keyword, t.text, tt); is = is }
 
 -- the same of another kind
 pub adds_as : {j k : Kind} {v : Data} {P Q : Path} {s r : Shown} → j ≡ k → AddsErrors (fault j v Q P ∷ []) s r → AddsErrors (fault k v Q P ∷ []) s r
@@ -107,15 +104,15 @@ members_shown v P Q b e none h = shown_as (refusal_shown FalseSchema v P Q (not 
 -- ---- members that are not expected
 
 -- told by name
-pub names_told : (ns : List (Bor (List ℕ))) (v : Data) (P Q : Path) {n : ℕ} {d : Described} {s r : Shown} → n ≡ length ns → false ≡ (n == 0)
-    → IsDescribedBy (fault (AdditionalProperties (names_of ns)) v Q P) d → r ≡ errored d s → AddsErrors (named_faults (names_of ns) v P Q) s r
-names_told ns v P Q {s = s} {r} len some t is =
-    subst (λ b. AddsErrors (put_if (not b) (fault (AdditionalProperties (names_of ns)) v Q P) []) s r) (emptiness_of (λ n. n.now) ns len some) (adds_one t is)
+pub names_told : (ns : List (Bor (List ℕ))) (v : Data) (P Q : Path) {n : ℕ} {s r : Shown} → n ≡ length ns → false ≡ (n == 0)
+    → AddsErrors (fault (AdditionalProperties (names_of ns)) v Q P ∷ []) s r → AddsErrors (named_faults (names_of ns) v P Q) s r
+names_told ns v P Q {s = s} {r} len some =
+    subst (λ b. AddsErrors (put_if (not b) (fault (AdditionalProperties (names_of ns)) v Q P) []) s r) (emptiness_of (λ n. n.now) ns len some)
 
 -- the first of them
-pub first_told : (v : Data) (P Q : Path) {all left rest : List (String Global × Value)} {k : String Global} {w : Value} {d : Described} {s r : Shown} → left ≡ (k, w) ∷ rest → left ≡ all
-    → IsDescribedBy (fault FalseSchema (view w) Q P) d → r ≡ errored d s → AddsErrors (unexpected_faults false (listed (members_view all)) v P Q) s r
-first_told v P Q {s = s} {r} first whole t is = subst (λ es. AddsErrors (unexpected_faults false (listed (members_view es)) v P Q) s r) (sym first ∙ whole) (adds_one t is)
+pub first_told : (v : Data) (P Q : Path) {all left rest : List (String Global × Value)} {k : String Global} {w : Value} {s r : Shown} → left ≡ (k, w) ∷ rest → left ≡ all
+    → AddsErrors (fault FalseSchema (view w) Q P ∷ []) s r → AddsErrors (unexpected_faults false (listed (members_view all)) v P Q) s r
+first_told v P Q {s = s} {r} first whole = subst (λ es. AddsErrors (unexpected_faults false (listed (members_view es)) v P Q) s r) (sym first ∙ whole)
 
 -- ---- names that an object lacks
 

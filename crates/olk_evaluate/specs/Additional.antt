@@ -8,12 +8,12 @@ use Rattle.olk_spec.specs.World.{Says}
 use Rattle.olk_spec.specs.Faults.{Fault, fault, AdditionalProperties}
 use Rattle.olk_spec.specs.Reports.{unexpected_faults}
 use Rattle.olk_spec.specs.Tree.{Tree, node, no_tree}
-use Rattle.olk_reports.specs.Evaluations.{Shown, annotated}
+use Rattle.olk_reports.specs.Evaluations.{AddsErrors, Shown, annotated}
 use Rattle.olk_tree.specs.Questions.{Question}
 use Rattle.olk_tree.specs.Additional.{matching_from, at_name, sides_of, has_neighbours, required_text, required_place}
 use Rattle.olk_tree.specs.declared.additional_properties.AdditionalProperties as validator
 use Rattle.olk_reports.specs.declared.evaluation.EvaluationNode.{EvaluationNode}
-use Rattle.olk_evaluate.specs.Wanted.{Wanted, AreShown, wanted, refused, lacking_trees, trees_of, AddsErrors}
+use Rattle.olk_evaluate.specs.Wanted.{Wanted, AreShown, wanted, refused, lacking_trees, trees_of}
 use Rattle.olk_evaluate.specs.declared.additional_members.Collected.{Collected}
 
 abbrev pub names_of : List (Bor (List ℕ)) → List Name

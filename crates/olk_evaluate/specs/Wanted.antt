@@ -53,16 +53,6 @@ pub record ShowsOne (w : Wanted) (s : Shown) : Type 0 where
   pub is : s ≡ shown (is_valid child) None [] (child ∷ [])
   pub shown : IsShown w child
 
-abbrev pub errored_by : List Described → Shown → Shown
-errored_by [] s = s
-errored_by (d ∷ ds) s = errored_by ds (errored d s)
-
--- own errors more, which show faults
-pub record AddsErrors (fs : List Fault) (old new : Shown) : Type 0 where
-  pub own : List Described
-  pub told : AreTold (described fs) own
-  pub is : new ≡ errored_by own old
-
 module _ {N : Type 0} (t : N → Bool → Data → Path → Tree) (m : N → Data → Question) (u : Bool) where
   -- what a node is to show of a value at a path
   abbrev pub wanted : N → Data → Path → Wanted

@@ -6,23 +6,22 @@ ghost use Rattle.olk_base.specs.Nodes.{data_of};
 ghost use Rattle.olk_spec.specs.Names.{Path};
 ghost use Rattle.olk_spec.specs.Reports.{unexpected_faults};
 ghost use Rattle.olk_spec.specs.Schemas.{listed};
-ghost use Rattle.olk_reports.specs.Evaluations.{shown_of};
+ghost use Rattle.olk_reports.specs.Evaluations.{AddsErrors, shown_of};
 ghost use Rattle.olk_tree.specs.Additional.{has_neighbours, required_text, required_place};
 ghost use Rattle.olk_tree.specs.Visited.{object_of};
 ghost use Rattle.olk_evaluate.specs.Additional.{matches_shown, names_of, annotated_if, rest_annotation, named_faults, faults_without_rest, Completes, HasPlaces};
-ghost use Rattle.olk_evaluate.specs.Wanted.{AddsErrors, AddsShown, AddsTrees, refused, lacking_trees};
+ghost use Rattle.olk_evaluate.specs.Wanted.{AddsShown, AddsTrees, refused, lacking_trees};
 
 use crate::additional_members::collect;
-use crate::own::own_error;
 use crate::required::add_missing_name;
 use crate::{Located, Show};
 use olk_base::{Node, RegexEngine, ValidationContext};
 use olk_meaning::law_of_names;
-use olk_paths::{InstancePath, PathText};
+use olk_paths::InstancePath;
 use olk_reports::{EvaluationNode, EvaluationResult, ValidationErrorKind};
 use olk_tree::additional_properties::{AdditionalProperties, RequiredName};
 use serde_json::{Map, Value};
-use std::alloc::{AllocError, Global};
+use std::alloc::AllocError;
 
 /// A child for each node that is asked of a member: what is declared at its name, the patterns that
 /// match it, or else the rest, whose names are annotated (JSON Schema 2020-12 Core, 10.3.2.3);
@@ -42,7 +41,6 @@ impl<'a, R: RegexEngine, N: Located<'a>> Show<'a> for AdditionalProperties<R, N>
     #[inline(never)]
     fn show(
         &'a self,
-        alloc: Global,
         node: Node<'a>,
         path: &mut InstancePath,
         ctx: &mut ValidationContext,
@@ -51,12 +49,12 @@ impl<'a, R: RegexEngine, N: Located<'a>> Show<'a> for AdditionalProperties<R, N>
         match node.as_object() {
             Some(members) => {
                 law_of_names(members);
-                let collected = collect(alloc, self, members, path, ctx)?;
+                let collected = collect(outcome.allocator(), self, members, path, ctx)?;
                 let mut children = collected.children;
                 let matched = collected.matched;
-                add_places(alloc, self, matched, members, node, path, &mut children)?;
+                add_places(self, matched, members, node, path, &mut children)?;
                 outcome.take_children(children);
-                complete(alloc, self, outcome, collected.additional, members, node)
+                complete(self, outcome, collected.additional, members, node)
             }
             None => Ok(()),
         }
@@ -66,7 +64,6 @@ impl<'a, R: RegexEngine, N: Located<'a>> Show<'a> for AdditionalProperties<R, N>
 /// Behind the children one at the place of `patternProperties` and one at that of `required`, if
 /// they are there.
 fn add_places<'a, R, N>(
-    alloc: Global,
     keyword: &'a AdditionalProperties<R, N>,
     matched: Vec<&'a str>,
     members: &Map<String, Value>,
@@ -79,13 +76,12 @@ fn add_places<'a, R, N>(
         children.old.items children.new.items) }
 {
     let at_patterns = keyword.patterns_location.as_str();
-    add_matches(alloc, matched, at_patterns, path, children)?;
-    add_missing_required(alloc, &keyword.required, members, node, path, children)
+    add_matches(matched, at_patterns, path, children)?;
+    add_missing_required(&keyword.required, members, node, path, children)
 }
 
 /// A child more at the place of `patternProperties` with these names, if there are some.
 fn add_matches<'a>(
-    alloc: Global,
     matched: Vec<&'a str>,
     location: &'a str,
     path: &InstancePath,
@@ -98,16 +94,14 @@ fn add_matches<'a>(
     if matched.is_empty() {
         return Ok(());
     }
-    let text = PathText::from_str(alloc, path.as_str())?;
-    let mut child: EvaluationNode<'a> = EvaluationNode::at(alloc, location, text);
-    child.result.annotate(matched);
-    children.push(child)?;
+    let last = children.len();
+    EvaluationNode::push_at(children, location, path.as_str())?;
+    children[last].result.annotate(matched);
     Ok(())
 }
 
 /// A child more at the place of `required`, where a name is required that is no member.
 fn add_missing_required<'a>(
-    alloc: Global,
     required: &'a Option<RequiredName>,
     members: &Map<String, Value>,
     node: Node<'a>,
@@ -120,14 +114,13 @@ fn add_missing_required<'a>(
         children.old.items children.new.items) }
 {
     match required {
-        Some(required) => add_missing_name(alloc, required, members, node, path, children),
+        Some(required) => add_missing_name(required, members, node, path, children),
         None => Ok(()),
     }
 }
 
 /// Adds the annotation of the rest; where there is no rest, an error if members are not expected.
 fn complete<'a, R, N>(
-    alloc: Global,
     keyword: &AdditionalProperties<R, N>,
     outcome: &mut EvaluationResult<'a>,
     additional: Vec<&'a str>,
@@ -143,7 +136,7 @@ fn complete<'a, R, N>(
             annotate_rest(keyword, outcome, additional);
             Ok(())
         }
-        None => add_unexpected(alloc, keyword, outcome, additional, members, node),
+        None => add_unexpected(keyword, outcome, additional, members, node),
     }
 }
 
@@ -175,7 +168,6 @@ fn stands_beside_one<R, N>(keyword: &AdditionalProperties<R, N>) -> bool
 /// Adds an error if members are not expected: told by name where the keyword has a neighbour, else
 /// as a false schema over the first.
 fn add_unexpected<'a, R, N>(
-    alloc: Global,
     keyword: &AdditionalProperties<R, N>,
     outcome: &mut EvaluationResult<'a>,
     unexpected: Vec<&'a str>,
@@ -188,15 +180,14 @@ fn add_unexpected<'a, R, N>(
         (shown_of outcome.old) (shown_of outcome.new)) }
 {
     if keyword.has_neighbours() {
-        add_named(alloc, outcome, unexpected, node)
+        add_named(outcome, unexpected, node)
     } else {
-        add_first(alloc, outcome, members)
+        add_first(outcome, members)
     }
 }
 
 /// Adds an error that has these names, if there are some.
 fn add_named<'a>(
-    alloc: Global,
     outcome: &mut EvaluationResult<'a>,
     unexpected: Vec<&'a str>,
     node: Node<'a>,
@@ -209,12 +200,11 @@ fn add_named<'a>(
         return Ok(());
     }
     let kind: ValidationErrorKind<'a> = ValidationErrorKind::AdditionalProperties { unexpected };
-    outcome.mark_errored(own_error(alloc, kind, node)?)
+    outcome.mark_errored_by(kind, node)
 }
 
 /// Adds the error of a false schema over the first member's value, if there is one.
 fn add_first<'a>(
-    alloc: Global,
     outcome: &mut EvaluationResult<'a>,
     members: &'a Map<String, Value>,
 ) -> Result<(), AllocError>
@@ -225,7 +215,7 @@ fn add_first<'a>(
     match members.iter().next() {
         Some((_, value)) => {
             let kind: ValidationErrorKind<'a> = ValidationErrorKind::FalseSchema;
-            outcome.mark_errored(own_error(alloc, kind, Node::Value(value))?)
+            outcome.mark_errored_by(kind, Node::Value(value))
         }
         None => Ok(()),
     }

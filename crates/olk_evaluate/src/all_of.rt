@@ -5,7 +5,7 @@ use olk_base::{Node, ValidationContext};
 use olk_paths::InstancePath;
 use olk_reports::EvaluationResult;
 use olk_tree::all_of::{AllOf, SingleValueAllOf};
-use std::alloc::{AllocError, Global};
+use std::alloc::AllocError;
 
 /// A child for each branch (JSON Schema 2020-12 Core, 10.2.1.1).
 impl<'a, N: Located<'a>> Show<'a> for AllOf<N> {
@@ -18,13 +18,12 @@ impl<'a, N: Located<'a>> Show<'a> for AllOf<N> {
     #[inline(never)]
     fn show(
         &'a self,
-        alloc: Global,
         node: Node<'a>,
         path: &mut InstancePath,
         ctx: &mut ValidationContext,
         outcome: &mut EvaluationResult<'a>,
     ) -> Result<(), AllocError> {
-        show_each(alloc, &self.schemas, node, path, ctx, outcome)
+        show_each(&self.schemas, node, path, ctx, outcome)
     }
 }
 
@@ -39,12 +38,11 @@ impl<'a, N: Located<'a>> Show<'a> for SingleValueAllOf<N> {
     #[inline(never)]
     fn show(
         &'a self,
-        alloc: Global,
         node: Node<'a>,
         path: &mut InstancePath,
         ctx: &mut ValidationContext,
         outcome: &mut EvaluationResult<'a>,
     ) -> Result<(), AllocError> {
-        show_one(alloc, &self.node, node, path, ctx, outcome)
+        show_one(&self.node, node, path, ctx, outcome)
     }
 }

@@ -25,15 +25,14 @@ impl<'a, N: Located<'a>> Show<'a> for AnyOf<N> {
     #[inline(never)]
     fn show(
         &'a self,
-        alloc: Global,
         node: Node<'a>,
         path: &mut InstancePath,
         ctx: &mut ValidationContext,
         outcome: &mut EvaluationResult<'a>,
     ) -> Result<(), AllocError> {
-        let accepting = accepting_children(alloc, &self.schemas, node, path, ctx)?;
+        let accepting = accepting_children(outcome.allocator(), &self.schemas, node, path, ctx)?;
         if accepting.is_empty() {
-            let children = each_child(alloc, &self.schemas, node, path, ctx)?;
+            let children = each_child(outcome.allocator(), &self.schemas, node, path, ctx)?;
             outcome.take_children(children);
             outcome.mark_invalid();
             return Ok(());
@@ -54,13 +53,12 @@ impl<'a, N: Located<'a>> Show<'a> for SingleAnyOf<N> {
     #[inline(never)]
     fn show(
         &'a self,
-        alloc: Global,
         node: Node<'a>,
         path: &mut InstancePath,
         ctx: &mut ValidationContext,
         outcome: &mut EvaluationResult<'a>,
     ) -> Result<(), AllocError> {
-        show_one(alloc, &self.node, node, path, ctx, outcome)
+        show_one(&self.node, node, path, ctx, outcome)
     }
 }
 

@@ -29,7 +29,6 @@ impl<'a, N: Located<'a>> Show<'a> for Dependencies<N> {
     #[inline(never)]
     fn show(
         &'a self,
-        alloc: Global,
         node: Node<'a>,
         path: &mut InstancePath,
         ctx: &mut ValidationContext,
@@ -37,7 +36,14 @@ impl<'a, N: Located<'a>> Show<'a> for Dependencies<N> {
     ) -> Result<(), AllocError> {
         match node.as_object() {
             Some(members) => {
-                let children = due_children(alloc, &self.dependencies, members, node, path, ctx)?;
+                let children = due_children(
+                    outcome.allocator(),
+                    &self.dependencies,
+                    members,
+                    node,
+                    path,
+                    ctx,
+                )?;
                 outcome.take_children(children);
                 Ok(())
             }

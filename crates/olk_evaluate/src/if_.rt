@@ -12,7 +12,7 @@ use olk_check::IsValid;
 use olk_paths::InstancePath;
 use olk_reports::{EvaluationNode, EvaluationResult};
 use olk_tree::if_::{IfElse, IfThen, IfThenElse};
-use std::alloc::{AllocError, Global};
+use std::alloc::AllocError;
 
 /// Where `if` accepts, a child for it and one for `then` (JSON Schema 2020-12 Core, 10.2.2).
 impl<'a, N: Located<'a>> Show<'a> for IfThen<N> {
@@ -25,7 +25,6 @@ impl<'a, N: Located<'a>> Show<'a> for IfThen<N> {
     #[inline(never)]
     fn show(
         &'a self,
-        alloc: Global,
         node: Node<'a>,
         path: &mut InstancePath,
         ctx: &mut ValidationContext,
@@ -34,15 +33,7 @@ impl<'a, N: Located<'a>> Show<'a> for IfThen<N> {
         if !self.schema.is_valid(node, ctx) {
             return Ok(());
         }
-        show_both(
-            alloc,
-            &self.schema,
-            &self.then_schema,
-            node,
-            path,
-            ctx,
-            outcome,
-        )
+        show_both(&self.schema, &self.then_schema, node, path, ctx, outcome)
     }
 }
 
@@ -57,16 +48,15 @@ impl<'a, N: Located<'a>> Show<'a> for IfElse<N> {
     #[inline(never)]
     fn show(
         &'a self,
-        alloc: Global,
         node: Node<'a>,
         path: &mut InstancePath,
         ctx: &mut ValidationContext,
         outcome: &mut EvaluationResult<'a>,
     ) -> Result<(), AllocError> {
         if self.schema.is_valid(node, ctx) {
-            show_one(alloc, &self.schema, node, path, ctx, outcome)
+            show_one(&self.schema, node, path, ctx, outcome)
         } else {
-            show_one(alloc, &self.else_schema, node, path, ctx, outcome)
+            show_one(&self.else_schema, node, path, ctx, outcome)
         }
     }
 }
@@ -83,31 +73,21 @@ impl<'a, N: Located<'a>> Show<'a> for IfThenElse<N> {
     #[inline(never)]
     fn show(
         &'a self,
-        alloc: Global,
         node: Node<'a>,
         path: &mut InstancePath,
         ctx: &mut ValidationContext,
         outcome: &mut EvaluationResult<'a>,
     ) -> Result<(), AllocError> {
         if self.schema.is_valid(node, ctx) {
-            show_both(
-                alloc,
-                &self.schema,
-                &self.then_schema,
-                node,
-                path,
-                ctx,
-                outcome,
-            )
+            show_both(&self.schema, &self.then_schema, node, path, ctx, outcome)
         } else {
-            show_one(alloc, &self.else_schema, node, path, ctx, outcome)
+            show_one(&self.else_schema, node, path, ctx, outcome)
         }
     }
 }
 
 /// What the two subschemas show.
 fn show_both<'a, N: Located<'a>>(
-    alloc: Global,
     first: &'a N,
     second: &'a N,
     node: Node<'a>,
@@ -120,7 +100,7 @@ fn show_both<'a, N: Located<'a>>(
         N.tree N.means ctx.old.answer
         (first.now ∷ second.now ∷ []) (data_of node.entry) path.old (shown_of outcome.new)) }
 {
-    let mut children: Vec<EvaluationNode<'a>> = Vec::with_capacity(alloc, 2)?;
+    let mut children: Vec<EvaluationNode<'a>> = Vec::with_capacity(outcome.allocator(), 2)?;
     add_child(first, node, path, ctx, &mut children)?;
     add_child(second, node, path, ctx, &mut children)?;
     outcome.take_children(children);

@@ -39,7 +39,6 @@ pub trait Show<'a>: IsValid {
     /// Out of memory. The result then shows no more than a part.
     fn show(
         &'a self,
-        alloc: Global,
         node: Node<'a>,
         path: &mut InstancePath,
         ctx: &mut ValidationContext,
@@ -103,7 +102,7 @@ impl<'a, S: Show<'a>> Evaluate<'a> for S {
         ctx: &mut ValidationContext,
     ) -> Result<EvaluationResult<'a>, AllocError> {
         let mut outcome: EvaluationResult<'a> = EvaluationResult::valid_empty(alloc);
-        self.show(alloc, node, path, ctx, &mut outcome)?;
+        self.show(node, path, ctx, &mut outcome)?;
         Ok(outcome)
     }
 }
@@ -117,7 +116,6 @@ mod if_;
 mod node;
 mod not;
 mod one_of;
-mod own;
 mod pattern_properties;
 mod properties;
 mod property_dependencies;

@@ -5,7 +5,6 @@ ghost use Rattle.olk_reports.specs.Evaluations.{nothing_shown, shown_of};
 ghost use Rattle.olk_evaluate.specs.Shows.{Shows};
 ghost use Rattle.olk_evaluate.specs.Wanted.{HasTexts, ShowsBody};
 
-use crate::own::add_own_error;
 use crate::required::add_missing;
 use crate::walk::show_each;
 use crate::{Located, Show};
@@ -13,7 +12,7 @@ use olk_base::{Leaf, Node, RegexEngine, ValidationContext};
 use olk_paths::InstancePath;
 use olk_reports::{ErrorDescription, EvaluationResult, ValidationErrorKind};
 use olk_tree::node::{Body, KeywordOver};
-use std::alloc::{AllocError, Global};
+use std::alloc::AllocError;
 
 // `show` of a validator is never inlined here, so that a leaf doesn't pay for its frame.
 impl<'a, K: Leaf, R: RegexEngine, N: Located<'a>> Show<'a> for KeywordOver<K, R, N> {
@@ -26,82 +25,49 @@ impl<'a, K: Leaf, R: RegexEngine, N: Located<'a>> Show<'a> for KeywordOver<K, R,
 
     fn show(
         &'a self,
-        alloc: Global,
         node: Node<'a>,
         path: &mut InstancePath,
         ctx: &mut ValidationContext,
         outcome: &mut EvaluationResult<'a>,
     ) -> Result<(), AllocError> {
         match self {
-            KeywordOver::Properties(keyword) => keyword.show(alloc, node, path, ctx, outcome),
+            KeywordOver::Properties(keyword) => keyword.show(node, path, ctx, outcome),
             KeywordOver::PropertiesWithRequired2(keyword) => {
-                keyword.show(alloc, node, path, ctx, outcome)
+                keyword.show(node, path, ctx, outcome)
             }
-            KeywordOver::Required(keyword) => keyword.show(alloc, node, path, ctx, outcome),
-            KeywordOver::AllOf(keyword) => keyword.show(alloc, node, path, ctx, outcome),
-            KeywordOver::SingleValueAllOf(keyword) => keyword.show(alloc, node, path, ctx, outcome),
-            KeywordOver::AnyOf(keyword) => keyword.show(alloc, node, path, ctx, outcome),
-            KeywordOver::SingleAnyOf(keyword) => keyword.show(alloc, node, path, ctx, outcome),
-            KeywordOver::OneOf(keyword) => keyword.show(alloc, node, path, ctx, outcome),
-            KeywordOver::SingleOneOf(keyword) => keyword.show(alloc, node, path, ctx, outcome),
-            KeywordOver::Not(keyword) => keyword.show(alloc, node, path, ctx, outcome),
-            KeywordOver::IfThen(keyword) => keyword.show(alloc, node, path, ctx, outcome),
-            KeywordOver::IfElse(keyword) => keyword.show(alloc, node, path, ctx, outcome),
-            KeywordOver::IfThenElse(keyword) => keyword.show(alloc, node, path, ctx, outcome),
-            KeywordOver::Dependencies(keyword) => keyword.show(alloc, node, path, ctx, outcome),
-            KeywordOver::PropertyNames(keyword) => keyword.show(alloc, node, path, ctx, outcome),
-            KeywordOver::PropertyNamesFalse(keyword) => keyword.show(
-                alloc, node, path, ctx, outcome,
-            ),
-            KeywordOver::PropertyDependencies(keyword) => keyword.show(
-                alloc, node, path, ctx, outcome,
-            ),
-            KeywordOver::PatternProperties(keyword) => keyword.show(
-                alloc, node, path, ctx, outcome,
-            ),
+            KeywordOver::Required(keyword) => keyword.show(node, path, ctx, outcome),
+            KeywordOver::AllOf(keyword) => keyword.show(node, path, ctx, outcome),
+            KeywordOver::SingleValueAllOf(keyword) => keyword.show(node, path, ctx, outcome),
+            KeywordOver::AnyOf(keyword) => keyword.show(node, path, ctx, outcome),
+            KeywordOver::SingleAnyOf(keyword) => keyword.show(node, path, ctx, outcome),
+            KeywordOver::OneOf(keyword) => keyword.show(node, path, ctx, outcome),
+            KeywordOver::SingleOneOf(keyword) => keyword.show(node, path, ctx, outcome),
+            KeywordOver::Not(keyword) => keyword.show(node, path, ctx, outcome),
+            KeywordOver::IfThen(keyword) => keyword.show(node, path, ctx, outcome),
+            KeywordOver::IfElse(keyword) => keyword.show(node, path, ctx, outcome),
+            KeywordOver::IfThenElse(keyword) => keyword.show(node, path, ctx, outcome),
+            KeywordOver::Dependencies(keyword) => keyword.show(node, path, ctx, outcome),
+            KeywordOver::PropertyNames(keyword) => keyword.show(node, path, ctx, outcome),
+            KeywordOver::PropertyNamesFalse(keyword) => keyword.show(node, path, ctx, outcome),
+            KeywordOver::PropertyDependencies(keyword) => keyword.show(node, path, ctx, outcome),
+            KeywordOver::PatternProperties(keyword) => keyword.show(node, path, ctx, outcome),
             KeywordOver::SingleValuePatternProperties(keyword) => {
-                keyword.show(alloc, node, path, ctx, outcome)
+                keyword.show(node, path, ctx, outcome)
             }
-            KeywordOver::AdditionalProperties(keyword) => keyword.show(
-                alloc, node, path, ctx, outcome,
-            ),
-            KeywordOver::Leaf(_, leaf) => show_leaf(alloc, leaf, node, outcome),
+            KeywordOver::AdditionalProperties(keyword) => keyword.show(node, path, ctx, outcome),
+            KeywordOver::Leaf(_, leaf) => show_leaf(leaf, node, outcome),
         }
     }
 }
 
 impl<'a, K: Leaf, R: RegexEngine, N: Located<'a>> Located<'a> for KeywordOver<K, R, N> {
-    #[tactic(auto, unfolding(olk_tree::specs::Validators::answers_of))]
     fn location(&self) -> &str {
-        match self {
-            KeywordOver::Properties(keyword) => keyword.location.as_str(),
-            KeywordOver::PropertiesWithRequired2(keyword) => keyword.location.as_str(),
-            KeywordOver::Required(keyword) => keyword.location.as_str(),
-            KeywordOver::AllOf(keyword) => keyword.location.as_str(),
-            KeywordOver::SingleValueAllOf(keyword) => keyword.location.as_str(),
-            KeywordOver::AnyOf(keyword) => keyword.location.as_str(),
-            KeywordOver::SingleAnyOf(keyword) => keyword.location.as_str(),
-            KeywordOver::OneOf(keyword) => keyword.location.as_str(),
-            KeywordOver::SingleOneOf(keyword) => keyword.location.as_str(),
-            KeywordOver::Not(keyword) => keyword.location.as_str(),
-            KeywordOver::IfThen(keyword) => keyword.location.as_str(),
-            KeywordOver::IfElse(keyword) => keyword.location.as_str(),
-            KeywordOver::IfThenElse(keyword) => keyword.location.as_str(),
-            KeywordOver::Dependencies(keyword) => keyword.location.as_str(),
-            KeywordOver::PropertyNames(keyword) => keyword.location.as_str(),
-            KeywordOver::PropertyNamesFalse(keyword) => keyword.location.as_str(),
-            KeywordOver::PropertyDependencies(keyword) => keyword.location.as_str(),
-            KeywordOver::PatternProperties(keyword) => keyword.location.as_str(),
-            KeywordOver::SingleValuePatternProperties(keyword) => keyword.location.as_str(),
-            KeywordOver::AdditionalProperties(keyword) => keyword.location.as_str(),
-            KeywordOver::Leaf(location, _) => location.as_str(),
-        }
+        KeywordOver::location(self)
     }
 }
 
 /// The texts of a leaf as errors.
 fn show_leaf<'a, K: Leaf>(
-    alloc: Global,
     leaf: &'a K,
     node: Node<'a>,
     outcome: &mut EvaluationResult<'a>,
@@ -113,13 +79,12 @@ fn show_leaf<'a, K: Leaf>(
     if leaf.is_valid(node) {
         return Ok(());
     }
-    add_texts(alloc, leaf, node, outcome)
+    add_texts(leaf, node, outcome)
 }
 
 /// The texts of a leaf that refuses, as errors.
 #[inline(never)]
 fn add_texts<'a, K: Leaf>(
-    alloc: Global,
     leaf: &'a K,
     node: Node<'a>,
     outcome: &mut EvaluationResult<'a>,
@@ -128,7 +93,7 @@ fn add_texts<'a, K: Leaf>(
     ensures { OnOk result (HasTexts
         (K.keyword_of leaf.now) (K.finds leaf.now (data_of node.entry)) (shown_of outcome.new)) }
 {
-    for text in leaf.evaluate(alloc, node)? {
+    for text in leaf.evaluate(outcome.allocator(), node)? {
         outcome.mark_errored(ErrorDescription::new(leaf.keyword(), text))?;
     }
     Ok(())
@@ -142,7 +107,6 @@ fn add_texts<'a, K: Leaf>(
 ///
 /// Out of memory.
 pub fn show_body<'a, W: Located<'a>>(
-    alloc: Global,
     body: &'a Body<W>,
     node: Node<'a>,
     path: &mut InstancePath,
@@ -158,9 +122,9 @@ pub fn show_body<'a, W: Located<'a>>(
         Body::True => Ok(()),
         Body::False => {
             let kind: ValidationErrorKind<'a> = ValidationErrorKind::FalseSchema;
-            add_own_error(alloc, outcome, kind, node)
+            outcome.mark_errored_by(kind, node)
         }
-        Body::Keywords(keywords) => show_each(alloc, keywords, node, path, ctx, outcome),
-        Body::RequiredNames(required) => add_missing(alloc, outcome, required, node),
+        Body::Keywords(keywords) => show_each(keywords, node, path, ctx, outcome),
+        Body::RequiredNames(required) => add_missing(outcome, required, node),
     }
 }

@@ -1,12 +1,11 @@
 //! `not`: what it shows.
-use crate::own::add_own_error;
 use crate::{Located, Show};
 use olk_base::{Node, ValidationContext};
 use olk_check::IsValid;
 use olk_paths::InstancePath;
 use olk_reports::{EvaluationResult, ValidationErrorKind};
 use olk_tree::not::Not;
-use std::alloc::{AllocError, Global};
+use std::alloc::AllocError;
 
 /// An error of its own where the subschema accepts; what the subschema shows is left out (JSON
 /// Schema 2020-12 Core, 10.2.1.4).
@@ -20,7 +19,6 @@ impl<'a, N: Located<'a>> Show<'a> for Not<N> {
     #[inline(never)]
     fn show(
         &'a self,
-        alloc: Global,
         node: Node<'a>,
         _path: &mut InstancePath,
         ctx: &mut ValidationContext,
@@ -32,6 +30,6 @@ impl<'a, N: Located<'a>> Show<'a> for Not<N> {
         let kind: ValidationErrorKind<'a> = ValidationErrorKind::Not {
             schema: &self.original,
         };
-        add_own_error(alloc, outcome, kind, node)
+        outcome.mark_errored_by(kind, node)
     }
 }

@@ -11,7 +11,7 @@ use olk_base::{Node, ValidationContext};
 use olk_paths::InstancePath;
 use olk_reports::{ErrorDescription, EvaluationNode, EvaluationResult};
 use olk_tree::one_of::{OneOf, SingleOneOf};
-use std::alloc::{AllocError, Global};
+use std::alloc::AllocError;
 
 /// A child for each branch that accepts, and an error of its own where they are several; where
 /// there is none, a child for each branch (JSON Schema 2020-12 Core, 10.2.1.3).
@@ -25,21 +25,20 @@ impl<'a, N: Located<'a>> Show<'a> for OneOf<N> {
     #[inline(never)]
     fn show(
         &'a self,
-        alloc: Global,
         node: Node<'a>,
         path: &mut InstancePath,
         ctx: &mut ValidationContext,
         outcome: &mut EvaluationResult<'a>,
     ) -> Result<(), AllocError> {
-        let accepting = accepting_children(alloc, &self.schemas, node, path, ctx)?;
+        let accepting = accepting_children(outcome.allocator(), &self.schemas, node, path, ctx)?;
         if accepting.is_empty() {
-            let children = each_child(alloc, &self.schemas, node, path, ctx)?;
+            let children = each_child(outcome.allocator(), &self.schemas, node, path, ctx)?;
             outcome.take_children(children);
             outcome.mark_invalid();
             return Ok(());
         }
         if accepting.len() > 1 {
-            return show_several(alloc, accepting, outcome);
+            return show_several(accepting, outcome);
         }
         outcome.take_children(accepting);
         Ok(())
@@ -48,7 +47,6 @@ impl<'a, N: Located<'a>> Show<'a> for OneOf<N> {
 
 /// What several branches show that accept, and the error that there are several.
 fn show_several<'a>(
-    alloc: Global,
     accepting: Vec<EvaluationNode<'a>>,
     outcome: &mut EvaluationResult<'a>,
 ) -> Result<(), AllocError>
@@ -56,7 +54,7 @@ fn show_several<'a>(
     ensures { OnOk result (shown_of outcome.new
         ≡ shown false None (several_accept ∷ []) (trees_of accepting.entry.items)) }
 {
-    let message = String::from_str(alloc, "more than one subschema succeeded")?;
+    let message = String::from_str(outcome.allocator(), "more than one subschema succeeded")?;
     outcome.take_children(accepting);
     let error: ErrorDescription<'a> = ErrorDescription::new("oneOf", message);
     outcome.mark_errored(error)
@@ -73,12 +71,11 @@ impl<'a, N: Located<'a>> Show<'a> for SingleOneOf<N> {
     #[inline(never)]
     fn show(
         &'a self,
-        alloc: Global,
         node: Node<'a>,
         path: &mut InstancePath,
         ctx: &mut ValidationContext,
         outcome: &mut EvaluationResult<'a>,
     ) -> Result<(), AllocError> {
-        show_one(alloc, &self.node, node, path, ctx, outcome)
+        show_one(&self.node, node, path, ctx, outcome)
     }
 }

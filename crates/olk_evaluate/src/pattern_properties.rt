@@ -13,7 +13,7 @@ use olk_paths::InstancePath;
 use olk_reports::EvaluationResult;
 use olk_tree::pattern_properties::{PatternProperties, SingleValuePatternProperties};
 use serde_json::{Map, Value};
-use std::alloc::{AllocError, Global};
+use std::alloc::AllocError;
 
 /// A child for each match, pattern by pattern; where the value is an object, a name for each match
 /// is annotated (JSON Schema 2020-12 Core, 10.3.2.2).
@@ -27,7 +27,6 @@ impl<'a, R: RegexEngine, N: Located<'a>> Show<'a> for PatternProperties<R, N> {
     #[inline(never)]
     fn show(
         &'a self,
-        alloc: Global,
         node: Node<'a>,
         path: &mut InstancePath,
         ctx: &mut ValidationContext,
@@ -35,7 +34,7 @@ impl<'a, R: RegexEngine, N: Located<'a>> Show<'a> for PatternProperties<R, N> {
     ) -> Result<(), AllocError> {
         match node.as_object() {
             Some(members) => {
-                let mut met: Met<'a> = Met::with_capacity(alloc, members.len())?;
+                let mut met: Met<'a> = Met::with_capacity(outcome.allocator(), members.len())?;
                 meet_patterns(&self.patterns, members, path, ctx, &mut met)?;
                 met.show(outcome);
                 Ok(())
@@ -58,7 +57,6 @@ impl<'a, R: RegexEngine, N: Located<'a>> Show<'a> for SingleValuePatternProperti
     #[inline(never)]
     fn show(
         &'a self,
-        alloc: Global,
         node: Node<'a>,
         path: &mut InstancePath,
         ctx: &mut ValidationContext,
@@ -66,7 +64,7 @@ impl<'a, R: RegexEngine, N: Located<'a>> Show<'a> for SingleValuePatternProperti
     ) -> Result<(), AllocError> {
         match node.as_object() {
             Some(members) => {
-                let mut met: Met<'a> = Met::with_capacity(alloc, members.len())?;
+                let mut met: Met<'a> = Met::with_capacity(outcome.allocator(), members.len())?;
                 meet_matched(&self.regex, &self.node, members, path, ctx, &mut met)?;
                 met.show(outcome);
                 Ok(())

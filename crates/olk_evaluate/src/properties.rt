@@ -36,7 +36,6 @@ impl<'a, N: Located<'a>> Show<'a> for Properties<N> {
     #[inline(never)]
     fn show(
         &'a self,
-        alloc: Global,
         node: Node<'a>,
         path: &mut InstancePath,
         ctx: &mut ValidationContext,
@@ -44,7 +43,13 @@ impl<'a, N: Located<'a>> Show<'a> for Properties<N> {
     ) -> Result<(), AllocError> {
         match node.as_object() {
             Some(members) => {
-                let met = meet(alloc, self.properties.entries(), members, path, ctx)?;
+                let met = meet(
+                    outcome.allocator(),
+                    self.properties.entries(),
+                    members,
+                    path,
+                    ctx,
+                )?;
                 met.show(outcome);
                 Ok(())
             }
@@ -65,7 +70,6 @@ impl<'a, N: Located<'a>> Show<'a> for SmallPropertiesWithRequired2<N> {
     #[inline(never)]
     fn show(
         &'a self,
-        alloc: Global,
         node: Node<'a>,
         path: &mut InstancePath,
         ctx: &mut ValidationContext,
@@ -73,8 +77,14 @@ impl<'a, N: Located<'a>> Show<'a> for SmallPropertiesWithRequired2<N> {
     ) -> Result<(), AllocError> {
         match node.as_object() {
             Some(members) => {
-                let mut met = meet(alloc, &self.properties.entries, members, path, ctx)?;
-                add_missing_child(alloc, self, members, node, path, &mut met.children)?;
+                let mut met = meet(
+                    outcome.allocator(),
+                    &self.properties.entries,
+                    members,
+                    path,
+                    ctx,
+                )?;
+                add_missing_child(self, members, node, path, &mut met.children)?;
                 met.show(outcome);
                 Ok(())
             }

@@ -30,7 +30,6 @@ impl<'a, N: Located<'a>> Show<'a> for PropertyDependencies<N> {
     #[inline(never)]
     fn show(
         &'a self,
-        alloc: Global,
         node: Node<'a>,
         path: &mut InstancePath,
         ctx: &mut ValidationContext,
@@ -39,7 +38,7 @@ impl<'a, N: Located<'a>> Show<'a> for PropertyDependencies<N> {
         match node.as_object() {
             Some(members) => {
                 let children = chosen_children(
-                    alloc,
+                    outcome.allocator(),
                     &self.dependencies,
                     members,
                     node,

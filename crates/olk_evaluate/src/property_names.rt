@@ -4,7 +4,6 @@ ghost use Rattle.olk_spec.specs.Schemas.{listed};
 ghost use Rattle.olk_evaluate.specs.Shows.{Shows};
 ghost use Rattle.olk_evaluate.specs.Wanted.{AreShown, names_wanted, trees_of};
 
-use crate::own::add_own_error;
 use crate::walk::add_child;
 use crate::{Located, Show};
 use olk_base::{Node, ValidationContext};
@@ -25,7 +24,6 @@ impl<'a, N: Located<'a>> Show<'a> for PropertyNames<N> {
     #[inline(never)]
     fn show(
         &'a self,
-        alloc: Global,
         node: Node<'a>,
         path: &mut InstancePath,
         ctx: &mut ValidationContext,
@@ -33,7 +31,7 @@ impl<'a, N: Located<'a>> Show<'a> for PropertyNames<N> {
     ) -> Result<(), AllocError> {
         match node.as_object() {
             Some(members) => {
-                let children = name_children(alloc, &self.node, members, path, ctx)?;
+                let children = name_children(outcome.allocator(), &self.node, members, path, ctx)?;
                 outcome.take_children(children);
                 Ok(())
             }
@@ -53,7 +51,6 @@ impl<'a> Show<'a> for PropertyNamesFalse {
     #[inline(never)]
     fn show(
         &'a self,
-        alloc: Global,
         node: Node<'a>,
         _path: &mut InstancePath,
         _ctx: &mut ValidationContext,
@@ -65,7 +62,7 @@ impl<'a> Show<'a> for PropertyNamesFalse {
                     return Ok(());
                 }
                 let kind: ValidationErrorKind<'a> = ValidationErrorKind::FalseSchema;
-                add_own_error(alloc, outcome, kind, node)
+                outcome.mark_errored_by(kind, node)
             }
             None => Ok(()),
         }

@@ -6,22 +6,21 @@ ghost use Rattle.olk_spec.specs.Faults.{fault, Required};
 ghost use Rattle.olk_spec.specs.Schemas.{has};
 ghost use Rattle.olk_spec.specs.Accepts.{missing};
 ghost use Rattle.olk_spec.specs.Reports.{fault_if, required_faults};
-ghost use Rattle.olk_reports.specs.Evaluations.{shown_of};
+ghost use Rattle.olk_reports.specs.Evaluations.{AddsErrors, shown_of};
 ghost use Rattle.olk_tree.specs.Maps.{texts_of, two_texts};
 ghost use Rattle.olk_tree.specs.Visited.{object_of};
-ghost use Rattle.olk_evaluate.specs.Wanted.{AddsErrors, AddsShown, refused, lacking_trees};
+ghost use Rattle.olk_evaluate.specs.Wanted.{AddsShown, refused, lacking_trees};
 
 use crate::Show;
-use crate::own::add_own_error;
 use olk_base::{Node, ValidationContext};
 use olk_meaning::has_member;
-use olk_paths::{InstancePath, PathText};
+use olk_paths::InstancePath;
 use olk_reports::{EvaluationNode, EvaluationResult, ValidationErrorKind};
 use olk_tree::additional_properties::RequiredName;
 use olk_tree::properties::SmallPropertiesWithRequired2;
 use olk_tree::required::RequiredValidator;
 use serde_json::{Map, Value};
-use std::alloc::{AllocError, Global};
+use std::alloc::AllocError;
 
 /// An error of its own for each listed name that an object lacks (JSON Schema 2020-12 Validation,
 /// 6.5.3).
@@ -35,19 +34,17 @@ impl<'a> Show<'a> for RequiredValidator {
     #[inline(never)]
     fn show(
         &'a self,
-        alloc: Global,
         node: Node<'a>,
         _path: &mut InstancePath,
         _ctx: &mut ValidationContext,
         outcome: &mut EvaluationResult<'a>,
     ) -> Result<(), AllocError> {
-        add_missing(alloc, outcome, self, node)
+        add_missing(outcome, self, node)
     }
 }
 
 /// Adds an error for each of the names that the value lacks.
 pub(crate) fn add_missing<'a>(
-    alloc: Global,
     outcome: &mut EvaluationResult<'a>,
     required: &'a RequiredValidator,
     node: Node<'a>,
@@ -57,14 +54,13 @@ pub(crate) fn add_missing<'a>(
         (shown_of outcome.old) (shown_of outcome.new)) }
 {
     match node.as_object() {
-        Some(members) => add_each_missing(alloc, outcome, &required.required, members, node),
+        Some(members) => add_each_missing(outcome, &required.required, members, node),
         None => Ok(()),
     }
 }
 
 /// Adds an error for each of the names that is no member.
 fn add_each_missing<'a>(
-    alloc: Global,
     outcome: &mut EvaluationResult<'a>,
     names: &'a Vec<String>,
     members: &Map<String, Value>,
@@ -76,14 +72,13 @@ fn add_each_missing<'a>(
         (shown_of outcome.old) (shown_of outcome.new)) }
 {
     for name in names {
-        add_error_if_missing(alloc, outcome, name.as_str(), members, node)?;
+        add_error_if_missing(outcome, name.as_str(), members, node)?;
     }
     Ok(())
 }
 
 /// Adds an error where the name is no member.
 fn add_error_if_missing<'a>(
-    alloc: Global,
     outcome: &mut EvaluationResult<'a>,
     name: &'a str,
     members: &Map<String, Value>,
@@ -98,7 +93,7 @@ fn add_error_if_missing<'a>(
         return Ok(());
     }
     let kind: ValidationErrorKind<'a> = ValidationErrorKind::Required { property: name };
-    add_own_error(alloc, outcome, kind, node)
+    outcome.mark_errored_by(kind, node)
 }
 
 /// Whether one of the names is no member.
@@ -114,7 +109,6 @@ fn lacks_either(members: &Map<String, Value>, first: &str, second: &str) -> bool
 
 /// Adds an error for each of two names that is no member.
 fn add_missing_of_two<'a>(
-    alloc: Global,
     outcome: &mut EvaluationResult<'a>,
     first: &'a str,
     second: &'a str,
@@ -126,13 +120,12 @@ fn add_missing_of_two<'a>(
         (missing (first.now ∷ second.now ∷ []) (object_of members.now.entries)))
         (shown_of outcome.old) (shown_of outcome.new)) }
 {
-    add_error_if_missing(alloc, outcome, first, members, node)?;
-    add_error_if_missing(alloc, outcome, second, members, node)
+    add_error_if_missing(outcome, first, members, node)?;
+    add_error_if_missing(outcome, second, members, node)
 }
 
 /// A child more at the place of `required`, where one of two names is no member.
 pub(crate) fn add_missing_child<'a, N>(
-    alloc: Global,
     keyword: &'a SmallPropertiesWithRequired2<N>,
     members: &Map<String, Value>,
     node: Node<'a>,
@@ -150,17 +143,13 @@ pub(crate) fn add_missing_child<'a, N>(
     if !lacks_either(members, first, second) {
         return Ok(());
     }
-    let text = PathText::from_str(alloc, path.as_str())?;
-    let location = keyword.required_location.as_str();
-    let mut child: EvaluationNode<'a> = EvaluationNode::at(alloc, location, text);
-    add_missing_of_two(alloc, &mut child.result, first, second, members, node)?;
-    children.push(child)?;
-    Ok(())
+    let last = children.len();
+    EvaluationNode::push_at(children, keyword.required_location.as_str(), path.as_str())?;
+    add_missing_of_two(&mut children[last].result, first, second, members, node)
 }
 
 /// A child more at the place of `required`, where the name is no member.
 pub(crate) fn add_missing_name<'a>(
-    alloc: Global,
     required: &'a RequiredName,
     members: &Map<String, Value>,
     node: Node<'a>,
@@ -176,10 +165,8 @@ pub(crate) fn add_missing_name<'a>(
     if has_member(members, name) {
         return Ok(());
     }
-    let text = PathText::from_str(alloc, path.as_str())?;
-    let mut child: EvaluationNode<'a> = EvaluationNode::at(alloc, required.location.as_str(), text);
+    let last = children.len();
+    EvaluationNode::push_at(children, required.location.as_str(), path.as_str())?;
     let kind: ValidationErrorKind<'a> = ValidationErrorKind::Required { property: name };
-    add_own_error(alloc, &mut child.result, kind, node)?;
-    children.push(child)?;
-    Ok(())
+    children[last].result.mark_errored_by(kind, node)
 }

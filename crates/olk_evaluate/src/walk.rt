@@ -7,7 +7,7 @@ ghost use Rattle.olk_evaluate.specs.Wanted.{IsShown, AreShown, ShowsEach, ShowsM
 
 use crate::Located;
 use olk_base::{Node, ValidationContext};
-use olk_paths::{InstancePath, PathText};
+use olk_paths::InstancePath;
 use olk_reports::{EvaluationNode, EvaluationResult};
 use std::alloc::{AllocError, Global};
 
@@ -27,9 +27,8 @@ pub fn child<'a, N: Located<'a>>(
         (wanted N.tree N.means ctx.old.answer schema.now (data_of node.entry) path.old)
         (tree_of c)) }
 {
-    let text = PathText::from_str(alloc, path.as_str())?;
-    let mut made: EvaluationNode<'a> = EvaluationNode::at(alloc, schema.location(), text);
-    schema.show(alloc, node, path, ctx, &mut made.result)?;
+    let mut made = EvaluationNode::at(alloc, schema.location(), path.as_str())?;
+    schema.show(node, path, ctx, &mut made.result)?;
     Ok(made)
 }
 
@@ -46,17 +45,13 @@ pub(crate) fn add_child<'a, N: Located<'a>>(
         (wanted N.tree N.means ctx.old.answer schema.now (data_of node.entry) path.old)
         children.old.items children.new.items) }
 {
-    let alloc = *children.allocator();
-    let text = PathText::from_str(alloc, path.as_str())?;
     let last = children.len();
-    children.reserve(1)?;
-    children.push_reserved(EvaluationNode::at(alloc, schema.location(), text));
-    schema.show(alloc, node, path, ctx, &mut children[last].result)
+    EvaluationNode::push_at(children, schema.location(), path.as_str())?;
+    schema.show(node, path, ctx, &mut children[last].result)
 }
 
 /// What each of them shows, below a result that shows nothing yet.
 pub(crate) fn show_each<'a, N: Located<'a>>(
-    alloc: Global,
     schemas: &'a Vec<N>,
     node: Node<'a>,
     path: &mut InstancePath,
@@ -68,14 +63,13 @@ pub(crate) fn show_each<'a, N: Located<'a>>(
         N.tree N.means ctx.old.answer
         schemas.now.items (data_of node.entry) path.old (shown_of outcome.new)) }
 {
-    let children = each_child(alloc, schemas, node, path, ctx)?;
+    let children = each_child(outcome.allocator(), schemas, node, path, ctx)?;
     outcome.take_children(children);
     Ok(())
 }
 
 /// What the one shows, below a result that shows nothing yet.
 pub(crate) fn show_one<'a, N: Located<'a>>(
-    alloc: Global,
     schema: &'a N,
     node: Node<'a>,
     path: &mut InstancePath,
@@ -87,7 +81,7 @@ pub(crate) fn show_one<'a, N: Located<'a>>(
         (wanted N.tree N.means ctx.old.answer schema.now (data_of node.entry) path.old)
         (shown_of outcome.new)) }
 {
-    let mut children: Vec<EvaluationNode<'a>> = Vec::with_capacity(alloc, 1)?;
+    let mut children: Vec<EvaluationNode<'a>> = Vec::with_capacity(outcome.allocator(), 1)?;
     add_child(schema, node, path, ctx, &mut children)?;
     outcome.take_children(children);
     Ok(())

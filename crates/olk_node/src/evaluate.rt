@@ -4,7 +4,7 @@ use olk_base::{Leaf, Node, RegexEngine, ValidationContext};
 use olk_evaluate::{Located, Show, show_body};
 use olk_paths::InstancePath;
 use olk_reports::EvaluationResult;
-use std::alloc::{AllocError, Global};
+use std::alloc::AllocError;
 
 impl<'a, K: Leaf, R: RegexEngine> Show<'a> for SchemaNode<K, R> {
     ghost use Rattle.olk_base.specs.Kit.{kit};
@@ -18,13 +18,12 @@ impl<'a, K: Leaf, R: RegexEngine> Show<'a> for SchemaNode<K, R> {
     #[tactic(auto, using(crate::proofs::Layers::layers))]
     fn show(
         &'a self,
-        alloc: Global,
         node: Node<'a>,
         path: &mut InstancePath,
         ctx: &mut ValidationContext,
         outcome: &mut EvaluationResult<'a>,
     ) -> Result<(), AllocError> {
-        show_body(alloc, &self.body, node, path, ctx, outcome)
+        show_body(&self.body, node, path, ctx, outcome)
     }
 }
 

@@ -4,9 +4,11 @@ use Rattle.std.specs.List.{list_all}
 use Rattle.std.specs.declared.alloc.Global.{Global}
 use Rattle.std.proofs.lemmas.List.Folds.{list_all-map}
 use Rattle.std.proofs.lemmas.List.{map-append}
+use Rattle.serde_json.specs.Data.{Data}
 use Rattle.olk_spec.specs.Names.{Name, Path}
+use Rattle.olk_spec.specs.Faults.{Kind, fault}
 use Rattle.olk_spec.specs.Tree.{Tree, Described, trees_from, is_valid}
-use Rattle.olk_reports.specs.Evaluations.{Shown, shown, shown_of, tree_of, node_at, errored, with_children, called_invalid, result_of, with_result, described_of, node_step, result_step, trees_in, tree_schema_path, tree_instance_path, tree_errors, tree_children}
+use Rattle.olk_reports.specs.Evaluations.{Shown, shown, shown_of, tree_of, node_at, errored, AddsErrors, IsDescribedBy, with_children, called_invalid, result_of, with_result, described_of, node_step, result_step, trees_in, tree_schema_path, tree_instance_path, tree_errors, tree_children}
 use Rattle.olk_reports.specs.declared.evaluation.ErrorDescription.{ErrorDescription}
 use Rattle.olk_reports.specs.declared.evaluation.EvaluationNode.{EvaluationNode, out-EvaluationNode, roll-EvaluationNode, out-roll-EvaluationNode}
 use Rattle.olk_reports.specs.declared.evaluation.EvaluationResult.{EvaluationResult, out-EvaluationResult, roll-EvaluationResult}
@@ -70,6 +72,10 @@ shown_errored r es e more =
     ∙ ap (λ l. shown false (option_map (λ ns. map (λ n. n.now) ns.items) (out-EvaluationResult r).annotation) l (map tree_of (out-EvaluationResult r).children.items))
     (ap (map described_of) more ∙ map-append described_of (out-EvaluationResult r).errors.items (e ∷ []))
     ∙ ap (errored (described_of e)) (sym (parts_of_shown r))
+
+-- a description says nothing of the places
+pub adds_one : {k : Kind} {v : Data} {P Q R S : Path} {d : Described} {s r : Shown} → IsDescribedBy (fault k v P Q) d → r ≡ errored d s → AddsErrors (fault k v R S ∷ []) s r
+adds_one {d = d} t is = record { own = d ∷ []; told = (t.keyword, t.text, tt); is = is }
 
 pub valid_of : (n : EvaluationNode) → is_valid (tree_of n) ≡ (out-EvaluationResult (out-EvaluationNode n).result).valid
 valid_of n = by_parts is_valid n ∙ valid_of_parts _ _ _ _ _ _

@@ -3,7 +3,7 @@ use Rattle.std.specs.Prelude.{◌≡◌, Bool, true, false, ◌&&◌, Option, So
 use Rattle.std.specs.List.{list_all}
 use Rattle.olk_spec.specs.Names.{Name, Path}
 use Rattle.olk_spec.specs.Faults.{Fault}
-use Rattle.olk_spec.specs.Tree.{Tree, node, leaf_node, Trees, no_tree, and_tree, Described, described_fault, trees_from, result_node, is_valid}
+use Rattle.olk_spec.specs.Tree.{Tree, node, leaf_node, Trees, no_tree, and_tree, AreTold, Described, described, described_fault, trees_from, result_node, is_valid}
 use Rattle.olk_reports.specs.declared.evaluation.ErrorDescription.{ErrorDescription}
 use Rattle.olk_reports.specs.declared.evaluation.EvaluationNode.{EvaluationNode, out-EvaluationNode, roll-EvaluationNode}
 use Rattle.olk_reports.specs.declared.evaluation.EvaluationResult.{EvaluationResult}
@@ -43,6 +43,16 @@ pub record IsDescribedBy (f : Fault) (d : Described) : Type 0 where
   pub keyword : d.0 ≡ (described_fault f).0
   pub text : (described_fault f).2 ≡ false → d.1 ≡ (described_fault f).1
 
+abbrev pub errored_by : List Described → Shown → Shown
+errored_by [] s = s
+errored_by (d ∷ ds) s = errored_by ds (errored d s)
+
+-- own errors more, which show faults
+pub record AddsErrors (fs : List Fault) (old new : Shown) : Type 0 where
+  pub own : List Described
+  pub told : AreTold (described fs) own
+  pub is : new ≡ errored_by own old
+
 -- one level, each node below already seen as its tree
 abbrev pub result_step : EvaluationResult-F Tree Shown → Shown
 result_step r = shown r.valid (option_map (λ ns. map (λ n. n.now) ns.items) r.annotation) (map described_of r.errors.items) r.children.items
@@ -63,6 +73,17 @@ result_of n = (out-EvaluationNode n).result
 -- the node with another result
 abbrev pub with_result : EvaluationNode → EvaluationResult → EvaluationNode
 with_result n r = roll-EvaluationNode record (out-EvaluationNode n) { result = r }
+
+-- it shows nothing yet, and whatever is written to it then stands at these places
+pub record IsEmptyAt (P Q : Path) (n : EvaluationNode) : Type 0 where
+  pub empty : shown_of (result_of n) ≡ nothing_shown
+  pub places : (r : EvaluationResult) → tree_of (with_result n r) ≡ node_at P Q (shown_of r)
+
+-- the nodes of new are those of old, and then one that is empty
+pub record AddsEmptyAt (P Q : Path) (old new : List EvaluationNode) : Type 0 where
+  pub node : EvaluationNode
+  pub added : new ≡ old ++ node ∷ []
+  pub stands : IsEmptyAt P Q node
 
 -- the parts of a tree
 abbrev pub tree_schema_path : Tree → Path

@@ -1,10 +1,14 @@
 //! What a validator shows of a value: results, and nodes that have their places.
-ghost use Rattle.std.specs.Prelude.{◌≡◌, IfOk, OnOk, OnErr, Some, None, true, false, string_bytes, map, option_map};
+ghost use Rattle.std.specs.Prelude.{◌≡◌, ◌∷◌, [], IfOk, OnOk, OnErr, Some, None, true, false, string_bytes, map, option_map};
+ghost use Rattle.olk_base.specs.Nodes.{data_of};
+ghost use Rattle.olk_spec.specs.Faults.{fault};
+ghost use Rattle.olk_spec.specs.Names.{Path};
 ghost use Rattle.olk_spec.specs.Tree.{errors, is_valid};
 ghost use Rattle.std.specs.List.{list_all};
 ghost use Rattle.olk_reports.specs.Evaluations.{tree_of};
 
-use crate::error::ValidationError;
+use crate::error::{ValidationError, ValidationErrorKind};
+use olk_base::Node;
 use olk_paths::PathText;
 use std::alloc::{AllocError, Global};
 
@@ -90,7 +94,8 @@ impl Drop for EvaluationNode<'_> {
 }
 
 impl<'a> EvaluationResult<'a> {
-    ghost use Rattle.olk_reports.specs.Evaluations.{shown_of, tree_of, described_of, nothing_shown, annotated, errored, with_children, called_invalid};
+    ghost use Rattle.olk_reports.specs.Errors.{kind_of};
+    ghost use Rattle.olk_reports.specs.Evaluations.{AddsErrors, shown_of, tree_of, described_of, nothing_shown, annotated, errored, with_children, called_invalid};
 
     /// Valid, with nothing to show.
     pub fn valid_empty(alloc: Global) -> Self
@@ -102,6 +107,12 @@ impl<'a> EvaluationResult<'a> {
             errors: Vec::new(alloc),
             children: Vec::new(alloc),
         }
+    }
+
+    /// Where its memory comes from.
+    #[inline(always)]
+    pub fn allocator(&self) -> Global {
+        *self.errors.allocator()
     }
 
     /// Takes these as the nodes below, and is invalid where one of them is.
@@ -142,11 +153,32 @@ impl<'a> EvaluationResult<'a> {
         self.mark_invalid();
         Ok(())
     }
+
+    /// Adds the error of this kind about the node, which makes the result invalid: its keyword and
+    /// its text, without its places.
+    ///
+    /// # Errors
+    ///
+    /// Out of memory.
+    pub fn mark_errored_by(
+        &mut self,
+        kind: ValidationErrorKind<'a>,
+        node: Node<'a>,
+    ) -> Result<(), AllocError>
+        ensures { OnOk result ((P Q : Path) → AddsErrors
+            (fault (kind_of kind.entry) (data_of node.entry) Q P ∷ [])
+            (shown_of self.old) (shown_of self.new)) }
+    {
+        let alloc = self.allocator();
+        let error = ValidationError::new(kind, node, String::new(alloc), "");
+        let description = ErrorDescription::from_validation_error(alloc, &error)?;
+        self.mark_errored(description)
+    }
 }
 
 impl<'a> EvaluationNode<'a> {
     ghost use Rattle.olk_reports.specs.declared.evaluation.EvaluationResult.{EvaluationResult};
-    ghost use Rattle.olk_reports.specs.Evaluations.{shown_of, tree_of, described_of, node_at, nothing_shown, result_of, with_result, tree_schema_path, tree_instance_path, tree_annotation, tree_errors, tree_children};
+    ghost use Rattle.olk_reports.specs.Evaluations.{shown_of, tree_of, described_of, node_at, AddsEmptyAt, IsEmptyAt, tree_schema_path, tree_instance_path, tree_annotation, tree_errors, tree_children};
 
     /// The result at these places.
     pub fn new(schema_path: &'a str, instance_path: String, outcome: EvaluationResult<'a>) -> Self
@@ -161,17 +193,43 @@ impl<'a> EvaluationNode<'a> {
     }
 
     /// Nothing yet at these places, to which its result is written then.
+    ///
+    /// # Errors
+    ///
+    /// Out of memory.
     #[inline(always)]
-    pub fn at(alloc: Global, schema_path: &'a str, instance_path: PathText) -> Self
-        ensures empty { shown_of (result_of result) ≡ nothing_shown }
-        ensures places { (r : EvaluationResult) → tree_of (with_result result r)
-            ≡ node_at schema_path.now instance_path (shown_of r) }
+    pub fn at(
+        alloc: Global,
+        schema_path: &'a str,
+        instance_path: &str,
+    ) -> Result<Self, AllocError>
+        ensures { IfOk result (IsEmptyAt schema_path.now instance_path.now) }
     {
-        EvaluationNode {
+        Ok(EvaluationNode {
             schema_path,
-            instance_path,
+            instance_path: PathText::from_str(alloc, instance_path)?,
             result: EvaluationResult::valid_empty(alloc),
-        }
+        })
+    }
+
+    /// Puts behind the nodes one that shows nothing yet, to which its result is written then.
+    ///
+    /// # Errors
+    ///
+    /// Out of memory.
+    #[inline(always)]
+    pub fn push_at(
+        nodes: &mut Vec<Self>,
+        schema_path: &'a str,
+        instance_path: &str,
+    ) -> Result<(), AllocError>
+        ensures { OnOk result (AddsEmptyAt schema_path.now instance_path.now
+            nodes.old.items nodes.new.items) }
+    {
+        let alloc = *nodes.allocator();
+        nodes.reserve(1)?;
+        nodes.push_reserved(EvaluationNode::at(alloc, schema_path, instance_path)?);
+        Ok(())
     }
 
     /// Whether the value is valid here.

@@ -61,6 +61,42 @@ pub enum KeywordOver<K, R, N> {
     Leaf(Location, K),
 }
 
+impl<K: Leaf, R: RegexEngine, N> KeywordOver<K, R, N> {
+    ghost use Rattle.std.specs.Prelude.{◌≡◌};
+    ghost use Rattle.olk_base.specs.Kit.{kit};
+    ghost use Rattle.olk_tree.specs.Validators.{answers_of};
+
+    /// Where it stands in its schema, a JSON pointer (RFC 6901).
+    #[tactic(auto, unfolding(crate::specs::Validators::answers_of))]
+    pub fn location(&self) -> &str
+        ensures { result.now ≡ (answers_of (kit K.Leaf R.RegexEngine) self.now).location }
+    {
+        match self {
+            KeywordOver::Properties(keyword) => keyword.location.as_str(),
+            KeywordOver::PropertiesWithRequired2(keyword) => keyword.location.as_str(),
+            KeywordOver::Required(keyword) => keyword.location.as_str(),
+            KeywordOver::AllOf(keyword) => keyword.location.as_str(),
+            KeywordOver::SingleValueAllOf(keyword) => keyword.location.as_str(),
+            KeywordOver::AnyOf(keyword) => keyword.location.as_str(),
+            KeywordOver::SingleAnyOf(keyword) => keyword.location.as_str(),
+            KeywordOver::OneOf(keyword) => keyword.location.as_str(),
+            KeywordOver::SingleOneOf(keyword) => keyword.location.as_str(),
+            KeywordOver::Not(keyword) => keyword.location.as_str(),
+            KeywordOver::IfThen(keyword) => keyword.location.as_str(),
+            KeywordOver::IfElse(keyword) => keyword.location.as_str(),
+            KeywordOver::IfThenElse(keyword) => keyword.location.as_str(),
+            KeywordOver::Dependencies(keyword) => keyword.location.as_str(),
+            KeywordOver::PropertyNames(keyword) => keyword.location.as_str(),
+            KeywordOver::PropertyNamesFalse(keyword) => keyword.location.as_str(),
+            KeywordOver::PropertyDependencies(keyword) => keyword.location.as_str(),
+            KeywordOver::PatternProperties(keyword) => keyword.location.as_str(),
+            KeywordOver::SingleValuePatternProperties(keyword) => keyword.location.as_str(),
+            KeywordOver::AdditionalProperties(keyword) => keyword.location.as_str(),
+            KeywordOver::Leaf(location, _) => location.as_str(),
+        }
+    }
+}
+
 /// What stands at a place: true, false, keywords, or a list of names that an object is to have.
 #[derive(Drop)]
 pub enum Body<W> {

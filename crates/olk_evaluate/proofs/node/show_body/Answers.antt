@@ -21,8 +21,8 @@ returns-in-True g c = record {
 }
 
 pub returns-in-False : goal.returns-in-False
-returns-in-False g c = shows_by c.add_own_error.ensures kept_same (λ _ error.
-    subst (λ b. ShowsBody g.W.Show.tree g.W.Means.means c.args.ctx.now.answer b (data_of c.args.node) c.args.path.now (shown_of c.add_own_error.new.outcome)) (sym c.in-False.is)
+returns-in-False g c = shows_by c.mark_errored_by.ensures kept_same (λ _ error.
+    subst (λ b. ShowsBody g.W.Show.tree g.W.Means.means c.args.ctx.now.answer b (data_of c.args.node) c.args.path.now (shown_of c.mark_errored_by.new.self)) (sym c.in-False.is)
     (λ P. erring_shown P c.args.path.now (fault FalseSchema (data_of c.args.node) c.args.path.now P ∷ []) c.requires (adds_as kind_of_false_schema (error P c.args.path.now))))
 
 pub returns-in-Keywords : goal.returns-in-Keywords

@@ -4,10 +4,9 @@ use Rattle.serde_json.specs.View.{members_view}
 use Rattle.olk_base.specs.Nodes.{data_of}
 use Rattle.olk_spec.specs.Faults.{fault, Required}
 use Rattle.olk_spec.specs.Accepts.{missing}
-use Rattle.olk_reports.specs.Evaluations.{shown_of}
+use Rattle.olk_reports.specs.Evaluations.{AddsErrors, shown_of}
 use Rattle.olk_tree.specs.Maps.{texts_of}
 use Rattle.olk_tree.proofs.Members_met.{object_is}
-use Rattle.olk_evaluate.specs.Wanted.{AddsErrors}
 use Rattle.olk_evaluate.proofs.OwnErrors.{lacks_none}
 use Rattle.olk_evaluate.proofs.required.add_missing.Goals as goal
 

@@ -16,6 +16,6 @@ returns-then-not-is_valid g c = record {
 }
 
 pub returns : goal.returns
-returns g c = shows_by c.add_own_error.ensures (kept_asked c.if-not-is_valid.ensures.only) (λ _ added.
+returns g c = shows_by c.mark_errored_by.ensures (kept_asked c.if-not-is_valid.ensures.only) (λ _ added.
     refusal_shown (Refuses (view c.args.self.now.original)) (data_of c.args.node) c.args.self.now.location c.args._path.now true c.if-not-is_valid.ensures.verdict c.requires
     (adds_as (kind_of_not _) (added c.args.self.now.location c.args._path.now)))
