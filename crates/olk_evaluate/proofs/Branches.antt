@@ -1,5 +1,5 @@
 -- Branches that accept, and those that refuse.
-use Rattle.std.proofs.Common.{◌≡◌, Bool, true, false, not, cond, ◌||◌, List, [], ◌∷◌, None, refl, sym, ap, ◌∙◌, ◌&&◌}
+use Rattle.std.proofs.Common.{◌≡◌, ℕ, Bool, true, false, not, cond, ◌||◌, List, [], ◌∷◌, None, refl, sym, ap, ◌∙◌, ◌&&◌}
 use Rattle.serde_json.specs.Data.{Data}
 use Rattle.olk_spec.specs.Names.{Path, filter_once, put_if, is_empty}
 use Rattle.olk_spec.specs.Tree.{Tree, is_valid, plain, result}
@@ -7,7 +7,7 @@ use Rattle.std.specs.List.{list_all}
 use Rattle.olk_reports.specs.Evaluations.{Shown, shown, node_at}
 use Rattle.olk_tree.specs.Questions.{Question, some}
 use Rattle.olk_tree.specs.Shown.{branch_trees, any_of_tree}
-use Rattle.olk_evaluate.specs.Wanted.{AreShown, IsShown, each_wanted}
+use Rattle.olk_evaluate.specs.Wanted.{AreShown, IsShown, ShowsAccepting, ShowsThese, each_wanted}
 use Rattle.olk_evaluate.proofs.Children.{all_wanted, shown_as, result_shown, plain_shown, branches_wanted}
 
 module _ {N : Type 0} (t : N → Bool → Data → Path → Tree) (m : N → Data → Question) (u : Bool) (v : Data) (P Q : Path) where
@@ -58,3 +58,12 @@ module _ {N : Type 0} (t : N → Bool → Data → Path → Tree) (m : N → Dat
     refusing_shown all none each e = shown_as (result_shown P Q None true [] [] (each_wanted t m u ns v Q) all e tt each)
         (ap (result P Q None true []) (branches_wanted t m u v Q ns) ∙ ap tree_if (none ∙ as_many acceptors cs h))
         (ap not (none ∙ as_many acceptors cs h) ∙ sym (some_accepts ns))
+
+  module _ (ns : List N) {s : Shown} where
+    pub any_shown : {count : ℕ} → ShowsAccepting t m u ns v Q count s → IsShown (any_of_tree (λ n. t n u) v Q accepts_here P ns, (some (λ n. m n v) ns).accepts u) (node_at P Q s)
+    any_shown h = by h.accepting h.those h.shown
+      where
+        by : (cs : List Tree) → AreShown (each_wanted t m u (filter_once accepts_here ns) v Q) cs → ShowsThese (each_wanted t m u ns v Q) cs s
+            → IsShown (any_of_tree (λ n. t n u) v Q accepts_here P ns, (some (λ n. m n v) ns).accepts u) (node_at P Q s)
+        by [] those all = refusing_shown ns [] those all.children refl all.shown all.is
+        by (c ∷ cs) those is = accepting_shown ns (c ∷ cs) those refl is

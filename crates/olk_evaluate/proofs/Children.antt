@@ -21,7 +21,7 @@ use Rattle.olk_tree.specs.Questions.{Question, every}
 use Rattle.olk_tree.specs.Shown.{branch_trees, name_trees}
 use Rattle.olk_evaluate.specs.Shows.{Kept}
 use Rattle.olk_evaluate.proofs.Shows.{kept_same, kept_then, as_before}
-use Rattle.olk_evaluate.specs.Wanted.{Wanted, AreShown, IsShown, ShowsMore, ShowsOne, ShowsEach, wanted, each_wanted, names_wanted, trees_of}
+use Rattle.olk_evaluate.specs.Wanted.{Wanted, AreShown, IsShown, ShowsAll, ShowsThese, ShowsMore, ShowsOne, ShowsEach, wanted, each_wanted, names_wanted, trees_of}
 
 -- whether a list is empty, by its length
 pub emptiness_of : {X Y : Type 0} (f : X → Y) (xs : List X) {n : ℕ} {b : Bool} → n ≡ length xs → b ≡ (n == 0) → b ≡ is_empty (map f xs)
@@ -167,9 +167,6 @@ module _ (ns : List EvaluationNode) {s r : Shown} (empty : s ≡ nothing_shown) 
   pub over_children : r ≡ shown (list_all is_valid (trees_of ns)) None [] (trees_of ns)
   over_children = h ∙ ap (with_children (trees_of ns)) empty
 
-  pub over_refusing : {q : Shown} → q ≡ called_invalid r → q ≡ shown false None [] (trees_of ns)
-  over_refusing e = e ∙ ap called_invalid over_children
-
 -- valid exactly if all children are
 pub plain_shown : (P Q : Path) (ws : List Wanted) {cs : List Tree} {s : Shown} → AreShown ws cs → s ≡ shown (list_all is_valid cs) None [] cs
     → IsShown (plain P Q (trees_wanted ws), all_wanted ws) (node_at P Q s)
@@ -178,6 +175,15 @@ plain_shown P Q ws {cs} h e = result_shown P Q None false [] [] ws cs e tt h
 -- where nothing is wanted
 pub shows_nothing : (P Q : Path) {s : Shown} {t : Tree} {b : Bool} → s ≡ shown true None [] [] → t ≡ plain P Q [] → b ≡ true → IsShown (t, b) (node_at P Q s)
 shows_nothing P Q h e f = shown_as (plain_shown P Q [] {cs = []} tt h) (sym e) (sym f)
+
+-- where some accept, these; where none does, all, refused
+pub accepting_these : (all : List Wanted) (cs : List Tree) {s : Shown} → false ≡ is_empty cs → s ≡ shown (list_all is_valid cs) None [] cs → ShowsThese all cs s
+accepting_these all [] e is = cc
+accepting_these all (c ∷ cs) e is = is
+
+pub refusing_these : (all : List Wanted) (cs : List Tree) {s r : Shown} → true ≡ is_empty cs → ShowsAll all s → r ≡ called_invalid s → ShowsThese all cs r
+refusing_these all [] e h is = record { children = h.children; is = is ∙ ap called_invalid h.is; shown = h.shown }
+refusing_these all (c ∷ cs) e h is = cc
 
 module _ {N : Type 0} (t : N → Bool → Data → Path → Tree) (m : N → Data → Question) (u : Bool) (v : Data) (Q : Path) where
   pub branches_wanted : (ns : List N) → trees_wanted (each_wanted t m u ns v Q) ≡ branch_trees (λ n. t n u) v Q ns

@@ -7,12 +7,11 @@ use Rattle.std.proofs.Math.Bool.{and-true}
 use Rattle.serde_json.specs.Data.{Data}
 use Rattle.olk_spec.specs.Names.{Path, filter_once, put_if}
 use Rattle.olk_spec.specs.Tree.{Tree, is_valid, plain, result}
-use Rattle.olk_reports.specs.Evaluations.{Shown, shown, node_at, tree_of}
-use Rattle.olk_reports.specs.declared.evaluation.EvaluationNode.{EvaluationNode}
+use Rattle.olk_reports.specs.Evaluations.{Shown, shown, errored, node_at}
 use Rattle.olk_tree.specs.Questions.{Question, how_many}
 use Rattle.olk_tree.specs.Shown.{branch_trees, several_accept, any_of_tree, one_of_tree}
 use Rattle.olk_tree.proofs.OneOf.{several_is_some, several_is_not_one, several_is_more, count_those}
-use Rattle.olk_evaluate.specs.Wanted.{AreShown, trees_of, wanted, each_wanted, IsShown}
+use Rattle.olk_evaluate.specs.Wanted.{AreShown, ShowsAccepting, ShowsThese, wanted, each_wanted, IsShown}
 use Rattle.olk_evaluate.proofs.Children.{shown_as, result_shown, plain_shown, branches_wanted}
 use Rattle.olk_evaluate.proofs.Branches.{accepts_here, acceptors_pass}
 
@@ -64,16 +63,25 @@ module _ {N : Type 0} (t : N → Bool → Data → Path → Tree) (m : N → Dat
           (ap (result P Q None true []) (branches_wanted t m u v Q ns) ∙ sym (ap tree_of_count (count_shown ∙ none)))
           (sym (ap (λ n. n == 1) (count_shown ∙ none)))
 
--- how many nodes there are, by their length
-module _ (xs : List EvaluationNode) (n : ℕ) (len : n ≡ length xs) where
-  pub no_node : true ≡ (n == 0) → length (trees_of xs) ≡ 0
-  no_node e = length-map xs tree_of ∙ sym len ∙ grind (arith, nat_tests)
+  module _ (ns : List N) {count : ℕ} {s : Shown} (h : ShowsAccepting t m u ns v Q count s) where
+    abbrev OneFits : Shown → Type 0
+    OneFits r = IsShown (one_of_tree (λ k. t k u) v Q (accepts_here t m u v P Q) P ns, how_many (λ k. m k v) u ns == 1) (node_at P Q r)
 
-  pub several_nodes : 1 < n → 1 < length (trees_of xs)
-  several_nodes l = let e = length-map xs tree_of in omega arith
+    pub none_or_one : count < 2 → OneFits s
+    none_or_one few = by h.accepting h.those h.number h.shown
+      where
+        by : (cs : List Tree) → AreShown (each_wanted t m u (filter_once (accepts_here t m u v P Q) ns) v Q) cs → count ≡ length cs → ShowsThese (each_wanted t m u ns v Q) cs s → OneFits s
+        by [] those n all = none_accepting ns [] those all.children refl all.shown all.is
+        by (c ∷ []) those n is = one_accepting ns (c ∷ []) those refl is
+        by (c ∷ d ∷ cs) those n is = absurd (omega arith)
 
-  pub one_node : false ≡ (n == 0) → n ≤ 1 → length (trees_of xs) ≡ 1
-  one_node e l = length-map xs tree_of ∙ sym len ∙ grind (arith, nat_tests)
+    pub two_or_more : {r : Shown} → 2 ≤ count → r ≡ errored several_accept s → OneFits r
+    two_or_more {r} many told = by h.accepting h.those h.number h.shown
+      where
+        by : (cs : List Tree) → AreShown (each_wanted t m u (filter_once (accepts_here t m u v P Q) ns) v Q) cs → count ≡ length cs → ShowsThese (each_wanted t m u ns v Q) cs s → OneFits r
+        by [] those n all = absurd (omega arith)
+        by (c ∷ []) those n is = absurd (omega arith)
+        by (c ∷ d ∷ cs) those n is = several_accepting ns (c ∷ d ∷ cs) those (omega arith) (told ∙ ap (errored several_accept) is)
 
 -- one branch alone
 module _ {N : Type 0} (t : N → Bool → Data → Path → Tree) (m : N → Data → Question) (u : Bool) (v : Data) (P Q : Path) (n : N) {c : Tree} {s : Shown}

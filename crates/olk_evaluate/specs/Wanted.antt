@@ -1,7 +1,8 @@
 -- What an evaluation is to show, and what it shows.
-use Rattle.std.specs.Prelude.{◌≡◌, ⊤, Bool, false, not, List, [], ◌∷◌, ◌++◌, map, None, IsPermutation}
+use Rattle.std.specs.Prelude.{◌≡◌, ⊤, ℕ, length, Bool, false, not, List, [], ◌∷◌, ◌++◌, map, None, IsPermutation}
 use Rattle.serde_json.specs.Data.{Data, string}
-use Rattle.olk_spec.specs.Names.{Name, Text, Path, put_if, is_empty}
+use Rattle.std.specs.List.{list_all}
+use Rattle.olk_spec.specs.Names.{Name, Text, Path, filter_once, put_if, is_empty}
 use Rattle.olk_spec.specs.Faults.{Fault, fault, Required}
 use Rattle.olk_spec.specs.Tree.{Tree, IsLikeTree, is_valid, Described, AreTold, described, plain, erring}
 use Rattle.olk_spec.specs.Accepts.{missing}
@@ -47,6 +48,23 @@ pub record AddsShown (ws : List Wanted) (old new : List EvaluationNode) : Type 0
   pub added : new ≡ old ++ nodes
   pub shown : AreShown ws (trees_of nodes)
 
+-- children that show what is wanted, and nothing else
+pub record ShowsAll (ws : List Wanted) (s : Shown) : Type 0 where
+  pub children : List Tree
+  pub is : s ≡ shown (list_all is_valid children) None [] children
+  pub shown : AreShown ws children
+
+-- the same, but refused
+pub record ShowsRefusing (ws : List Wanted) (s : Shown) : Type 0 where
+  pub children : List Tree
+  pub is : s ≡ shown false None [] children
+  pub shown : AreShown ws children
+
+-- these children, and nothing else; where there is none, all that is wanted, refused
+abbrev pub ShowsThese : List Wanted → List Tree → Shown → Type 0
+ShowsThese all [] s = ShowsRefusing all s
+ShowsThese all (t ∷ ts) s = s ≡ shown (list_all is_valid (t ∷ ts)) None [] (t ∷ ts)
+
 -- what the one child shows, and nothing else
 pub record ShowsOne (w : Wanted) (s : Shown) : Type 0 where
   pub child : Tree
@@ -68,6 +86,13 @@ module _ {N : Type 0} (t : N → Bool → Data → Path → Tree) (m : N → Dat
   -- what each of these nodes shows, and nothing else
   abbrev pub ShowsEach : List N → Data → Path → Shown → Type 0
   ShowsEach ns v Q s = (P : Path) → IsShown (plain P Q (branch_trees (λ n. t n u) v Q ns), (every (λ n. m n v) ns).accepts u) (node_at P Q s)
+
+  -- what those of these nodes show that accept, which are so many; where there is none, what each shows, refused
+  pub record ShowsAccepting (ns : List N) (v : Data) (Q : Path) (count : ℕ) (s : Shown) : Type 0 where
+    pub accepting : List Tree
+    pub those : AreShown (each_wanted (filter_once (λ n. (m n v).accepts u) ns) v Q) accepting
+    pub number : count ≡ length accepting
+    pub shown : ShowsThese (each_wanted ns v Q) accepting s
 
   -- what a body shows
   abbrev pub ShowsBody : Body N → Data → Path → Shown → Type 0

@@ -1,10 +1,11 @@
 //! `anyOf`: what it shows.
+ghost use Rattle.std.specs.Prelude.{◌≡◌};
 ghost use Rattle.olk_base.specs.Nodes.{data_of};
-ghost use Rattle.olk_spec.specs.Names.{filter_once};
+ghost use Rattle.olk_reports.specs.Evaluations.{nothing_shown, shown_of};
 ghost use Rattle.olk_evaluate.specs.Shows.{Shows};
-ghost use Rattle.olk_evaluate.specs.Wanted.{AreShown, each_wanted, trees_of};
+ghost use Rattle.olk_evaluate.specs.Wanted.{ShowsAccepting};
 
-use crate::walk::{add_child, each_child, show_one};
+use crate::walk::{add_child, show_each, show_one};
 use crate::{Located, Show};
 use olk_base::{Node, ValidationContext};
 use olk_check::IsValid;
@@ -30,14 +31,7 @@ impl<'a, N: Located<'a>> Show<'a> for AnyOf<N> {
         ctx: &mut ValidationContext,
         outcome: &mut EvaluationResult<'a>,
     ) -> Result<(), AllocError> {
-        let accepting = accepting_children(outcome.allocator(), &self.schemas, node, path, ctx)?;
-        if accepting.is_empty() {
-            let children = each_child(outcome.allocator(), &self.schemas, node, path, ctx)?;
-            outcome.take_children(children);
-            outcome.mark_invalid();
-            return Ok(());
-        }
-        outcome.take_children(accepting);
+        show_accepting(&self.schemas, node, path, ctx, outcome)?;
         Ok(())
     }
 }
@@ -62,25 +56,33 @@ impl<'a, N: Located<'a>> Show<'a> for SingleAnyOf<N> {
     }
 }
 
-/// What each branch shows that accepts; nothing is built for the others.
-pub(crate) fn accepting_children<'a, N: Located<'a>>(
-    alloc: Global,
+/// What each branch shows that accepts, below a result that shows nothing yet, and how many these
+/// are; where there is none, what each shows, and the result is invalid.
+#[inline(always)]
+pub(crate) fn show_accepting<'a, N: Located<'a>>(
     schemas: &'a Vec<N>,
     node: Node<'a>,
     path: &mut InstancePath,
     ctx: &mut ValidationContext,
-) -> Result<Vec<EvaluationNode<'a>>, AllocError>
-    ensures { Shows result path.old path.new ctx.old ctx.new (λ cs. AreShown
-        (each_wanted N.tree N.means ctx.old.answer
-        (filter_once (λ n. (N.means n (data_of node.entry)).accepts ctx.old.answer)
-        schemas.now.items) (data_of node.entry) path.old)
-        (trees_of cs.items)) }
+    outcome: &mut EvaluationResult<'a>,
+) -> Result<usize, AllocError>
+    requires { shown_of outcome.old ≡ nothing_shown }
+    ensures { Shows result path.old path.new ctx.old ctx.new (λ count. ShowsAccepting
+        N.tree N.means ctx.old.answer
+        schemas.now.items (data_of node.entry) path.old count (shown_of outcome.new)) }
 {
-    let mut children: Vec<EvaluationNode<'a>> = Vec::new(alloc);
+    let mut accepting: Vec<EvaluationNode<'a>> = Vec::new(outcome.allocator());
     for schema in schemas {
         if schema.is_valid(node, ctx) {
-            add_child(schema, node, path, ctx, &mut children)?;
+            add_child(schema, node, path, ctx, &mut accepting)?;
         }
     }
-    Ok(children)
+    let count = accepting.len();
+    if accepting.is_empty() {
+        show_each(schemas, node, path, ctx, outcome)?;
+        outcome.mark_invalid();
+        return Ok(count);
+    }
+    outcome.take_children(accepting);
+    Ok(count)
 }

@@ -1,15 +1,10 @@
 //! `oneOf`: what it shows.
-ghost use Rattle.std.specs.Prelude.{◌≡◌, ◌∷◌, [], false, None, OnOk};
-ghost use Rattle.olk_reports.specs.Evaluations.{nothing_shown, shown, shown_of};
-ghost use Rattle.olk_tree.specs.Shown.{several_accept};
-ghost use Rattle.olk_evaluate.specs.Wanted.{trees_of};
-
-use crate::any_of::accepting_children;
-use crate::walk::{each_child, show_one};
+use crate::any_of::show_accepting;
+use crate::walk::show_one;
 use crate::{Located, Show};
 use olk_base::{Node, ValidationContext};
 use olk_paths::InstancePath;
-use olk_reports::{ErrorDescription, EvaluationNode, EvaluationResult};
+use olk_reports::{ErrorDescription, EvaluationResult};
 use olk_tree::one_of::{OneOf, SingleOneOf};
 use std::alloc::AllocError;
 
@@ -30,34 +25,13 @@ impl<'a, N: Located<'a>> Show<'a> for OneOf<N> {
         ctx: &mut ValidationContext,
         outcome: &mut EvaluationResult<'a>,
     ) -> Result<(), AllocError> {
-        let accepting = accepting_children(outcome.allocator(), &self.schemas, node, path, ctx)?;
-        if accepting.is_empty() {
-            let children = each_child(outcome.allocator(), &self.schemas, node, path, ctx)?;
-            outcome.take_children(children);
-            outcome.mark_invalid();
+        let count = show_accepting(&self.schemas, node, path, ctx, outcome)?;
+        if count < 2 {
             return Ok(());
         }
-        if accepting.len() > 1 {
-            return show_several(accepting, outcome);
-        }
-        outcome.take_children(accepting);
-        Ok(())
+        let message = String::from_str(outcome.allocator(), "more than one subschema succeeded")?;
+        outcome.mark_errored(ErrorDescription::new("oneOf", message))
     }
-}
-
-/// What several branches show that accept, and the error that there are several.
-fn show_several<'a>(
-    accepting: Vec<EvaluationNode<'a>>,
-    outcome: &mut EvaluationResult<'a>,
-) -> Result<(), AllocError>
-    requires { shown_of outcome.old ≡ nothing_shown }
-    ensures { OnOk result (shown_of outcome.new
-        ≡ shown false None (several_accept ∷ []) (trees_of accepting.entry.items)) }
-{
-    let message = String::from_str(outcome.allocator(), "more than one subschema succeeded")?;
-    outcome.take_children(accepting);
-    let error: ErrorDescription<'a> = ErrorDescription::new("oneOf", message);
-    outcome.mark_errored(error)
 }
 
 /// A child for the branch.

@@ -54,27 +54,14 @@ pub(crate) fn add_missing<'a>(
         (shown_of outcome.old) (shown_of outcome.new)) }
 {
     match node.as_object() {
-        Some(members) => add_each_missing(outcome, &required.required, members, node),
+        Some(members) => {
+            for name in &required.required {
+                add_error_if_missing(outcome, name.as_str(), members, node)?;
+            }
+            Ok(())
+        }
         None => Ok(()),
     }
-}
-
-/// Adds an error for each of the names that is no member.
-fn add_each_missing<'a>(
-    outcome: &mut EvaluationResult<'a>,
-    names: &'a Vec<String>,
-    members: &Map<String, Value>,
-    node: Node<'a>,
-) -> Result<(), AllocError>
-    ensures { OnOk result ((P Q : Path) → AddsErrors
-        (map (λ n. fault (Required n) (data_of node.entry) Q P)
-        (missing (texts_of names.now.items) (object_of members.now.entries)))
-        (shown_of outcome.old) (shown_of outcome.new)) }
-{
-    for name in names {
-        add_error_if_missing(outcome, name.as_str(), members, node)?;
-    }
-    Ok(())
 }
 
 /// Adds an error where the name is no member.

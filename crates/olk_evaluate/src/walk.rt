@@ -3,7 +3,7 @@ ghost use Rattle.std.specs.Prelude.{◌≡◌};
 ghost use Rattle.olk_base.specs.Nodes.{data_of};
 ghost use Rattle.olk_reports.specs.Evaluations.{nothing_shown, shown_of, tree_of};
 ghost use Rattle.olk_evaluate.specs.Shows.{Shows};
-ghost use Rattle.olk_evaluate.specs.Wanted.{IsShown, AreShown, ShowsEach, ShowsMore, ShowsOne, wanted, each_wanted, trees_of};
+ghost use Rattle.olk_evaluate.specs.Wanted.{IsShown, ShowsAll, ShowsMore, ShowsOne, wanted, each_wanted};
 
 use crate::Located;
 use olk_base::{Node, ValidationContext};
@@ -59,11 +59,16 @@ pub(crate) fn show_each<'a, N: Located<'a>>(
     outcome: &mut EvaluationResult<'a>,
 ) -> Result<(), AllocError>
     requires { shown_of outcome.old ≡ nothing_shown }
-    ensures { Shows result path.old path.new ctx.old ctx.new (λ _. ShowsEach
-        N.tree N.means ctx.old.answer
-        schemas.now.items (data_of node.entry) path.old (shown_of outcome.new)) }
+    ensures { Shows result path.old path.new ctx.old ctx.new (λ _. ShowsAll
+        (each_wanted N.tree N.means ctx.old.answer schemas.now.items (data_of node.entry) path.old)
+        (shown_of outcome.new)) }
 {
-    let children = each_child(outcome.allocator(), schemas, node, path, ctx)?;
+    let mut children: Vec<EvaluationNode<'a>> = Vec::with_capacity(
+        outcome.allocator(), schemas.len(),
+    )?;
+    for schema in schemas {
+        add_child(schema, node, path, ctx, &mut children)?;
+    }
     outcome.take_children(children);
     Ok(())
 }
@@ -85,23 +90,4 @@ pub(crate) fn show_one<'a, N: Located<'a>>(
     add_child(schema, node, path, ctx, &mut children)?;
     outcome.take_children(children);
     Ok(())
-}
-
-/// What each of them shows.
-pub(crate) fn each_child<'a, N: Located<'a>>(
-    alloc: Global,
-    schemas: &'a Vec<N>,
-    node: Node<'a>,
-    path: &mut InstancePath,
-    ctx: &mut ValidationContext,
-) -> Result<Vec<EvaluationNode<'a>>, AllocError>
-    ensures { Shows result path.old path.new ctx.old ctx.new (λ cs. AreShown
-        (each_wanted N.tree N.means ctx.old.answer schemas.now.items (data_of node.entry) path.old)
-        (trees_of cs.items)) }
-{
-    let mut children: Vec<EvaluationNode<'a>> = Vec::with_capacity(alloc, schemas.len())?;
-    for schema in schemas {
-        add_child(schema, node, path, ctx, &mut children)?;
-    }
-    Ok(children)
 }

@@ -8,7 +8,7 @@ use Rattle.olk_reports.proofs.Errors.{kind_of_false_schema}
 use Rattle.olk_tree.specs.Maps.{texts_of}
 use Rattle.olk_tree.specs.declared.node.Body.TheVariants.{RequiredNames}
 use Rattle.olk_evaluate.specs.Wanted.{ShowsBody}
-use Rattle.olk_evaluate.proofs.Children.{shown_as, shows_nothing}
+use Rattle.olk_evaluate.proofs.Children.{shown_as, shows_each, shows_nothing}
 use Rattle.olk_evaluate.proofs.OwnErrors.{adds_as, erring_shown, same_emptiness}
 use Rattle.olk_evaluate.proofs.Shows.{kept_same, shows_by, shows_weaker}
 use Rattle.olk_evaluate.proofs.node.show_body.Goals as goal
@@ -26,8 +26,9 @@ returns-in-False g c = shows_by c.mark_errored_by.ensures kept_same (λ _ error.
     (λ P. erring_shown P c.args.path.now (fault FalseSchema (data_of c.args.node) c.args.path.now P ∷ []) c.requires (adds_as kind_of_false_schema (error P c.args.path.now))))
 
 pub returns-in-Keywords : goal.returns-in-Keywords
-returns-in-Keywords g c = shows_weaker c.show_each.ensures (λ _ shows.
-    subst (λ b. ShowsBody g.W.Show.tree g.W.Means.means c.args.ctx.now.answer b (data_of c.args.node) c.args.path.now (shown_of c.show_each.new.outcome)) (sym c.in-Keywords.is) shows)
+returns-in-Keywords g c = shows_weaker c.show_each.ensures (λ _ each.
+    subst (λ b. ShowsBody g.W.Show.tree g.W.Means.means c.args.ctx.now.answer b (data_of c.args.node) c.args.path.now (shown_of c.show_each.new.outcome)) (sym c.in-Keywords.is)
+    (shows_each g.W.Show.tree g.W.Means.means c.args.ctx.now.answer (data_of c.args.node) c.args.path.now c.in-Keywords.keywords.items each.shown each.is))
 
 pub returns-in-RequiredNames : goal.returns-in-RequiredNames
 returns-in-RequiredNames g c =

@@ -1,5 +1,8 @@
+use Rattle.olk_base.specs.Nodes.{data_of}
+use Rattle.olk_evaluate.proofs.Children.{shows_each}
 use Rattle.olk_evaluate.proofs.Shows.{shows_weaker}
 use Rattle.olk_evaluate.proofs.all_of.AllOfShow.show.Goals as goal
 
 pub returns : goal.returns
-returns g c = shows_weaker c.show_each.ensures (λ _ shows. shows c.args.self.now.location)
+returns g c = shows_weaker c.show_each.ensures (λ _ each.
+    shows_each g.N.Show.tree g.N.Means.means c.args.ctx.now.answer (data_of c.args.node) c.args.path.now c.args.self.now.schemas.items each.shown each.is c.args.self.now.location)

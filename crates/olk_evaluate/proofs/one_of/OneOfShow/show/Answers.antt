@@ -1,43 +1,26 @@
-use Rattle.std.proofs.Common.{◌≤◌, subst, ◌∙◌}
+use Rattle.std.proofs.Common.{false, ap, ◌∙◌}
 use Rattle.olk_base.specs.Nodes.{data_of}
-use Rattle.olk_evaluate.specs.Wanted.{AreShown, each_wanted, trees_of}
-use Rattle.olk_evaluate.proofs.OneOf.{none_accepting, one_accepting, several_accepting, no_node, one_node, several_nodes}
-use Rattle.olk_evaluate.proofs.Children.{over_children, over_refusing}
-use Rattle.olk_evaluate.proofs.Shows.{kept_then, as_before, shows_err, shows_by}
+use Rattle.olk_reports.specs.Evaluations.{errored, shown_of}
+use Rattle.olk_tree.specs.Shown.{several_accept}
+use Rattle.olk_evaluate.proofs.OneOf.{none_or_one, two_or_more}
+use Rattle.olk_evaluate.proofs.Shows.{shows_by, shows_err}
 use Rattle.olk_evaluate.proofs.one_of.OneOfShow.show.Goals as goal
 
-pub returns-in_err-accepting : goal.returns-in_err-accepting
-returns-in_err-accepting g c = shows_err c.from_residual.ensures.0 c.accepting_children.ensures.kept
+pub returns-in_err-count : goal.returns-in_err-count
+returns-in_err-count g c = shows_err c.from_residual.ensures.0 c.show_accepting.ensures.kept
 
-pub returns-in_err-children : goal.returns-in_err-children
-returns-in_err-children g c = shows_err c.from_residual-in_err-children.ensures.0 (kept_then c.accepting_children.ensures.kept c.each_child.ensures.kept)
+pub returns-in_err-message : goal.returns-in_err-message
+returns-in_err-message g c = shows_err c.from_residual-in_err-message.ensures.0 c.show_accepting.ensures.kept
 
-pub returns-then-is_empty : goal.returns-then-is_empty
-returns-then-is_empty g c =
-    let found = c.in_ok-accepting.accepting in
-    let children = c.in_ok-children.children.items in
-    record {
-      shown = none_accepting g.N.Show.tree g.N.Means.means c.args.ctx.now.answer (data_of c.args.node) c.args.self.now.location c.args.path.now c.args.self.now.schemas.items
-          (trees_of found.items) c.in_ok-accepting.ensures.shown (trees_of children) (no_node found.items _ found.ok.0 c.if-is_empty.ensures)
-          (as_before (λ u Q. AreShown (each_wanted g.N.Show.tree g.N.Means.means u c.args.self.now.schemas.items (data_of c.args.node) Q) (trees_of children))
-          c.accepting_children.ensures.kept c.in_ok-children.ensures.shown)
-          (over_refusing children c.requires c.take_children.ensures c.mark_invalid.ensures);
-      kept = kept_then c.accepting_children.ensures.kept c.each_child.ensures.kept;
-    }
-
-pub returns-then-len-gt1 : goal.returns-then-len-gt1
-returns-then-len-gt1 g c =
-    let found = c.in_ok-accepting.accepting in
-    shows_by c.show_several.ensures c.accepting_children.ensures.kept (λ _ e.
-    several_accepting g.N.Show.tree g.N.Means.means c.args.ctx.now.answer (data_of c.args.node) c.args.self.now.location c.args.path.now c.args.self.now.schemas.items
-    (trees_of found.items) c.in_ok-accepting.ensures.shown (several_nodes found.items _ (c.len.ensures ∙ found.ok.0) c.if-len-gt1.true) e)
+pub returns-then-count-lt2 : goal.returns-then-count-lt2
+returns-then-count-lt2 g c = record {
+  shown = none_or_one g.N.Show.tree g.N.Means.means c.args.ctx.now.answer (data_of c.args.node) c.args.self.now.location c.args.path.now c.args.self.now.schemas.items
+      c.in_ok-count.ensures.shown c.if-count-lt2.true;
+  kept = c.show_accepting.ensures.kept;
+}
 
 pub returns : goal.returns
-returns g c =
-    let found = c.in_ok-accepting.accepting in
-    record {
-      shown = one_accepting g.N.Show.tree g.N.Means.means c.args.ctx.now.answer (data_of c.args.node) c.args.self.now.location c.args.path.now c.args.self.now.schemas.items
-          (trees_of found.items) c.in_ok-accepting.ensures.shown (one_node found.items _ found.ok.0 c.if-is_empty.ensures (subst (λ n. n ≤ 1) c.len.ensures c.if-len-gt1.false))
-          (over_children found.items c.requires c.take_children-2.ensures);
-      kept = c.accepting_children.ensures.kept;
-    }
+returns g c = shows_by c.mark_errored.ensures.ok c.show_accepting.ensures.kept (λ _ told.
+    two_or_more g.N.Show.tree g.N.Means.means c.args.ctx.now.answer (data_of c.args.node) c.args.self.now.location c.args.path.now c.args.self.now.schemas.items
+    c.in_ok-count.ensures.shown c.if-count-lt2.false (told ∙ ap (λ d. errored d (shown_of c.show_accepting.new.outcome))
+    (c.new.ensures ∙ ap (λ message. (several_accept.0, message, false)) c.in_ok-message.ensures.ok)))

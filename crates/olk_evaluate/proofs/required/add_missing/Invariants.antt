@@ -8,10 +8,10 @@ use Rattle.olk_spec.specs.Accepts.{missing}
 use Rattle.olk_reports.specs.Evaluations.{shown_of}
 use Rattle.olk_tree.specs.Maps.{texts_of}
 use Rattle.olk_evaluate.proofs.OwnErrors.{ErrorsFrom}
-use Rattle.olk_evaluate.proofs.required.add_each_missing.Given as goal
+use Rattle.olk_evaluate.proofs.required.add_missing.Given as goal
 
 abbrev pub invariant-loop-name : goal.invariant-loop-name
 invariant-loop-name l =
-    (P Q : Path) → ErrorsFrom (map (λ n. fault (Required n) (data_of l.node) Q P) (missing (texts_of l.names.items) (object (members_view l.members.entries))))
-    (map (λ n. fault (Required n) (data_of l.node) Q P) (missing (texts_of (drop l.name-index l.names.items)) (object (members_view l.members.entries))))
+    (P Q : Path) → ErrorsFrom (map (λ n. fault (Required n) (data_of l.node) Q P) (missing (texts_of l.required.required.items) (object (members_view l.members.entries))))
+    (map (λ n. fault (Required n) (data_of l.node) Q P) (missing (texts_of (drop l.name-index l.required.required.items)) (object (members_view l.members.entries))))
     (shown_of l.initial.outcome) (shown_of l.outcome)

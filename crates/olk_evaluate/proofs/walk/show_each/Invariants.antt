@@ -2,7 +2,7 @@ use Rattle.std.proofs.Common.{drop}
 use Rattle.olk_base.specs.Nodes.{data_of}
 use Rattle.olk_evaluate.specs.Wanted.{wanted}
 use Rattle.olk_evaluate.proofs.Children.{Showing}
-use Rattle.olk_evaluate.proofs.walk.each_child.Given as goal
+use Rattle.olk_evaluate.proofs.walk.show_each.Given as goal
 
 abbrev pub invariant-loop-schema : goal.invariant-loop-schema
 invariant-loop-schema g l =
