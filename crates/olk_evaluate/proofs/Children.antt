@@ -150,13 +150,13 @@ module _ {P Q : Path} {xs ys : List EvaluationNode} (h : AddsEmptyAt P Q xs ys) 
   last_is = there ∙ (λ j. get_or (h.added j) (last j) at) ∙ get_or-append_seam xs h.node [] at
 
   pub empty_last : shown_of (result_of at) ≡ nothing_shown
-  empty_last = ap (λ n. shown_of (result_of n)) last_is ∙ h.stands.empty
+  empty_last = ap (λ n. shown_of (result_of n)) last_is ∙ h.empty
 
   pub written_last : (r : EvaluationResult) → set ys i (with_result at r) ≡ xs ++ with_result h.node r ∷ []
   written_last r = (λ j. set (h.added j) (last j) (with_result (last_is j) r)) ∙ set-append_seam xs h.node [] (with_result h.node r)
 
   pub shows_last : {w : Wanted} {R S : Path} (r : EvaluationResult) → P ≡ R → Q ≡ S → IsShown w (node_at R S (shown_of r)) → ShowsMore w xs (set ys i (with_result at r))
-  shows_last r p q is = record { child = with_result h.node r; added = written_last r; shown = shown_there (shown_of r) (h.stands.places r) p q is }
+  shows_last r p q is = record { child = with_result h.node r; added = written_last r; shown = shown_there (shown_of r) (h.places r) p q is }
 
 pub one_shown : {w : Wanted} {xs ys : List EvaluationNode} → xs ≡ [] → (h : ShowsMore w xs ys) → trees_of ys ≡ tree_of h.child ∷ []
 one_shown none h = ap trees_of (h.added ∙ ap (λ l. l ++ h.child ∷ []) none)

@@ -124,4 +124,3 @@ mod required;
 mod walk;
 
 pub use node::show_body;
-pub use walk::child;

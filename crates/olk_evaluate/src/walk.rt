@@ -1,36 +1,15 @@
 //! What the nodes of a keyword show.
 ghost use Rattle.std.specs.Prelude.{◌≡◌};
 ghost use Rattle.olk_base.specs.Nodes.{data_of};
-ghost use Rattle.olk_reports.specs.Evaluations.{nothing_shown, shown_of, tree_of};
+ghost use Rattle.olk_reports.specs.Evaluations.{nothing_shown, shown_of};
 ghost use Rattle.olk_evaluate.specs.Shows.{Shows};
-ghost use Rattle.olk_evaluate.specs.Wanted.{IsShown, ShowsAll, ShowsMore, ShowsOne, wanted, each_wanted};
+ghost use Rattle.olk_evaluate.specs.Wanted.{ShowsAll, ShowsMore, ShowsOne, wanted, each_wanted};
 
 use crate::Located;
 use olk_base::{Node, ValidationContext};
 use olk_paths::InstancePath;
 use olk_reports::{EvaluationNode, EvaluationResult};
-use std::alloc::{AllocError, Global};
-
-/// What one node shows, at its place and at the path.
-///
-/// # Errors
-///
-/// Out of memory.
-pub fn child<'a, N: Located<'a>>(
-    alloc: Global,
-    schema: &'a N,
-    node: Node<'a>,
-    path: &mut InstancePath,
-    ctx: &mut ValidationContext,
-) -> Result<EvaluationNode<'a>, AllocError>
-    ensures { Shows result path.old path.new ctx.old ctx.new (λ c. IsShown
-        (wanted N.tree N.means ctx.old.answer schema.now (data_of node.entry) path.old)
-        (tree_of c)) }
-{
-    let mut made = EvaluationNode::at(alloc, schema.location(), path.as_str())?;
-    schema.show(node, path, ctx, &mut made.result)?;
-    Ok(made)
-}
+use std::alloc::AllocError;
 
 /// One child more: what the node shows.
 #[inline(always)]

@@ -74,16 +74,12 @@ result_of n = (out-EvaluationNode n).result
 abbrev pub with_result : EvaluationNode → EvaluationResult → EvaluationNode
 with_result n r = roll-EvaluationNode record (out-EvaluationNode n) { result = r }
 
--- it shows nothing yet, and whatever is written to it then stands at these places
-pub record IsEmptyAt (P Q : Path) (n : EvaluationNode) : Type 0 where
-  pub empty : shown_of (result_of n) ≡ nothing_shown
-  pub places : (r : EvaluationResult) → tree_of (with_result n r) ≡ node_at P Q (shown_of r)
-
--- the nodes of new are those of old, and then one that is empty
+-- the nodes of new are those of old, and then one that shows nothing yet; whatever is written to it then stands at these places
 pub record AddsEmptyAt (P Q : Path) (old new : List EvaluationNode) : Type 0 where
   pub node : EvaluationNode
   pub added : new ≡ old ++ node ∷ []
-  pub stands : IsEmptyAt P Q node
+  pub empty : shown_of (result_of node) ≡ nothing_shown
+  pub places : (r : EvaluationResult) → tree_of (with_result node r) ≡ node_at P Q (shown_of r)
 
 -- the parts of a tree
 abbrev pub tree_schema_path : Tree → Path

@@ -178,7 +178,7 @@ impl<'a> EvaluationResult<'a> {
 
 impl<'a> EvaluationNode<'a> {
     ghost use Rattle.olk_reports.specs.declared.evaluation.EvaluationResult.{EvaluationResult};
-    ghost use Rattle.olk_reports.specs.Evaluations.{shown_of, tree_of, described_of, node_at, AddsEmptyAt, IsEmptyAt, tree_schema_path, tree_instance_path, tree_annotation, tree_errors, tree_children};
+    ghost use Rattle.olk_reports.specs.Evaluations.{shown_of, tree_of, described_of, node_at, AddsEmptyAt, tree_schema_path, tree_instance_path, tree_annotation, tree_errors, tree_children};
 
     /// The result at these places.
     pub fn new(schema_path: &'a str, instance_path: String, outcome: EvaluationResult<'a>) -> Self
@@ -190,26 +190,6 @@ impl<'a> EvaluationNode<'a> {
             instance_path: PathText::from(instance_path),
             result: outcome,
         }
-    }
-
-    /// Nothing yet at these places, to which its result is written then.
-    ///
-    /// # Errors
-    ///
-    /// Out of memory.
-    #[inline(always)]
-    pub fn at(
-        alloc: Global,
-        schema_path: &'a str,
-        instance_path: &str,
-    ) -> Result<Self, AllocError>
-        ensures { IfOk result (IsEmptyAt schema_path.now instance_path.now) }
-    {
-        Ok(EvaluationNode {
-            schema_path,
-            instance_path: PathText::from_str(alloc, instance_path)?,
-            result: EvaluationResult::valid_empty(alloc),
-        })
     }
 
     /// Puts behind the nodes one that shows nothing yet, to which its result is written then.
@@ -228,7 +208,11 @@ impl<'a> EvaluationNode<'a> {
     {
         let alloc = *nodes.allocator();
         nodes.reserve(1)?;
-        nodes.push_reserved(EvaluationNode::at(alloc, schema_path, instance_path)?);
+        nodes.push_reserved(EvaluationNode {
+            schema_path,
+            instance_path: PathText::from_str(alloc, instance_path)?,
+            result: EvaluationResult::valid_empty(alloc),
+        });
         Ok(())
     }
 

@@ -18,10 +18,10 @@ use olk_base::{Leaf, MakeLeaf, MakeRegex, Meter, Node, RegexEngine, ValidationCo
 use olk_build::{Context, compile};
 use olk_check::IsValid;
 use olk_errors::Errors;
-use olk_evaluate::child;
+use olk_evaluate::Evaluate;
 use olk_node::SchemaNode;
 use olk_paths::InstancePath;
-use olk_reports::{BuildError, Evaluation, ValidateError, ValidationError};
+use olk_reports::{BuildError, Evaluation, EvaluationNode, ValidateError, ValidationError};
 use serde_json::Value;
 use std::alloc::{AllocError, Global};
 
@@ -192,7 +192,9 @@ impl<K: Leaf, R: RegexEngine> Validator<K, R> {
             ≡ accepts (world K.Leaf R.RegexEngine) ctx.old.answer S (view instance.now)) }
     {
         let mut path = InstancePath::new(alloc);
-        let root = child(alloc, &self.root, Node::Value(instance), &mut path, ctx)?;
+        let outcome = self.root.evaluate(alloc, Node::Value(instance), &mut path, ctx)?;
+        let location = self.root.location().as_str();
+        let root = EvaluationNode::new(location, String::new(alloc), outcome);
         Ok(Evaluation::new(root))
     }
 }

@@ -24,7 +24,7 @@ returns c =
       nodes = with_result pushed.node c.annotate.new.self ∷ [];
       added = written_last pushed c.len-last.result c.index_mut.result.now len c.index_mut.ensures.value c.annotate.new.self;
       trees =
-          ap (λ t. t ∷ []) (pushed.stands.places c.annotate.new.self ∙ (λ i. node_at c.args.location.now (c.as_str.ensures i)
+          ap (λ t. t ∷ []) (pushed.places c.annotate.new.self ∙ (λ i. node_at c.args.location.now (c.as_str.ensures i)
           ((c.annotate.ensures ∙ ap (annotated names) (empty_last pushed c.len-last.result c.index_mut.result.now len c.index_mut.ensures.value)) i)))
           ∙ ap (λ b. put_if (not b) (node c.args.location.now c.args.path.now true (Some names) [] no_tree) [])
           (emptiness_of (λ n. n.now) c.args.matched.items c.args.matched.ok.0 c.if-is_empty.ensures);

@@ -33,5 +33,5 @@ returns g c =
           (some_lacking (c.as_str-first.result.now ∷ c.as_str-second.result.now ∷ []) (data_of c.args.node)
           (object (members_view c.args.members.now.entries)) location c.args.path.now c.if-not-lacks_either.ensures
           (empty_last pushed c.len-last.result c.index_mut.result.now len c.index_mut.ensures.value) (told location c.args.path.now)
-          (pushed.stands.places outcome ∙ ap (λ Q. node_at location Q (shown_of outcome)) c.as_str-2.ensures));
+          (pushed.places outcome ∙ ap (λ Q. node_at location Q (shown_of outcome)) c.as_str-2.ensures));
     }) c.add_missing_of_two.ensures

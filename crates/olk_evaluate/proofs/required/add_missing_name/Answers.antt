@@ -35,5 +35,5 @@ returns c =
           (tree_of (with_result pushed.node outcome) ∷ [])) c.as_str-name.ensures.value
           (one_lacking c.as_str-name.result.now (data_of c.args.node) (members_view c.args.members.now.entries) location c.args.path.now c.if-has_member.ensures
           (empty_last pushed c.len-last.result c.index_mut.result.now len c.index_mut.ensures.value) (adds_as (kind_of_required c.as_str-name.result) (told location c.args.path.now))
-          (pushed.stands.places outcome ∙ (λ i. node_at (c.as_str.ensures i) (c.as_str-2.ensures i) (shown_of outcome))));
+          (pushed.places outcome ∙ (λ i. node_at (c.as_str.ensures i) (c.as_str-2.ensures i) (shown_of outcome))));
     }) c.mark_errored_by.ensures
