@@ -21,7 +21,7 @@ use Rattle.olk_tree.specs.Questions.{Question, every}
 use Rattle.olk_tree.specs.Shown.{branch_trees, name_trees}
 use Rattle.olk_evaluate.specs.Shows.{Kept}
 use Rattle.olk_evaluate.proofs.Shows.{kept_same, kept_then, as_before}
-use Rattle.olk_evaluate.specs.Wanted.{Wanted, AreShown, IsShown, ShowsAll, ShowsThese, ShowsMore, ShowsOne, ShowsEach, wanted, each_wanted, names_wanted, trees_of}
+use Rattle.olk_evaluate.specs.Wanted.{Wanted, AreShown, IsShown, ShowsAll, ShowsThese, ShowsMore, ShowsOne, ShowsEach, wanted, each_wanted, trees_of}
 
 -- whether a list is empty, by its length
 pub emptiness_of : {X Y : Type 0} (f : X → Y) (xs : List X) {n : ℕ} {b : Bool} → n ≡ length xs → b ≡ (n == 0) → b ≡ is_empty (map f xs)
@@ -205,17 +205,21 @@ module _ {N : Type 0} (t : N → Bool → Data → Path → Tree) (m : N → Dat
     shows_the_one n h = shows_each (n ∷ []) {cs = h.child ∷ []} (h.shown, tt) (h.is ∙ ap (λ b. shown b None [] (h.child ∷ [])) (sym (and-true (is_valid h.child))))
 
 module _ {N : Type 0} (t : N → Bool → Data → Path → Tree) (m : N → Data → Question) (u : Bool) (n : N) (P Q : Path) where
-  names_verdicts : (ms : List (Name × Data)) → all_wanted (names_wanted t m u n Q ms) ≡ (every (λ x. m n (string x.0)) ms).accepts u
+  -- what is wanted of the names of members
+  abbrev names_wanted : List (Name × Data) → List Wanted
+  names_wanted = map (λ x. wanted t m u n (string x.0) Q)
+
+  names_verdicts : (ms : List (Name × Data)) → all_wanted (names_wanted ms) ≡ (every (λ x. m n (string x.0)) ms).accepts u
   names_verdicts [] = refl
   names_verdicts (x ∷ ms) = ap (λ b. (m n (string x.0)).accepts u && b) (names_verdicts ms)
 
   -- a child for each name of w, which is v
-  pub names_shown : (v w : Data) → w ≡ v → {cs : List Tree} {s : Shown} → AreShown (names_wanted t m u n Q (members w)) cs → s ≡ shown (list_all is_valid cs) None [] cs
+  pub names_shown : (v w : Data) → w ≡ v → {cs : List Tree} {s : Shown} → AreShown (names_wanted (members w)) cs → s ≡ shown (list_all is_valid cs) None [] cs
       → IsShown (plain P Q (name_trees (λ k. t k u) v Q n), (every (λ x. m n (string x.0)) (members v)).accepts u) (node_at P Q s)
-  names_shown v w same h e = shown_as (plain_shown P Q (names_wanted t m u n Q (members w)) h e)
+  names_shown v w same h e = shown_as (plain_shown P Q (names_wanted (members w)) h e)
       (ap (plain P Q) (map-map (λ x. x.0) (λ x. wanted t m u n (string x.0) Q) (members w)) ∙ ap (λ d. plain P Q (name_trees (λ k. t k u) d Q n)) same)
       (names_verdicts (members w) ∙ ap (λ d. (every (λ x. m n (string x.0)) (members d)).accepts u) same)
 
   -- where there is no member
-  pub no_name_shown : (v : Data) → members v ≡ [] → AreShown (names_wanted t m u n Q (members v)) []
-  no_name_shown v none = subst (λ ms. AreShown (names_wanted t m u n Q ms) []) (sym none) tt
+  pub no_name_shown : (v : Data) → members v ≡ [] → AreShown (names_wanted (members v)) []
+  no_name_shown v none = subst (λ ms. AreShown (names_wanted ms) []) (sym none) tt

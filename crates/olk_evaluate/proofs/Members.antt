@@ -97,6 +97,12 @@ module _ {X N : Type 0} {want : Bool → Path → Declared N → Wanted} {met_at
       kept = kept_then loop.kept kept;
     }
 
+    pub meeting_none : {rest : List X} {s : Path} {c : Asking} → left ≡ rest → Kept q s b c → Meeting want met_at all rest old new p s a c
+    meeting_none same kept = record {
+      goes_on = λ end h. loop.goes_on end (subst (λ l. MeetsMore (want a.answer p) (flat_map (met_at a.answer) l) new end) (sym same) h);
+      kept = kept_then loop.kept kept;
+    }
+
     pub meeting_end : left ≡ [] → MeetsMore (want a.answer p) (flat_map (met_at a.answer) all) old new
     meeting_end none = loop.goes_on new (subst (λ l. MeetsMore (want a.answer p) (flat_map (met_at a.answer) l) new new) (sym none) (meets_nothing new))
 

@@ -7,7 +7,7 @@ use Rattle.serde_json.specs.Data.{Data, Members, object}
 use Rattle.serde_json.specs.Find.{as_object}
 use Rattle.olk_spec.specs.Names.{Name, Path, ◌//◌, filter_once, put_if}
 use Rattle.olk_spec.specs.World.{Says}
-use Rattle.olk_spec.specs.Schemas.{listed, members, is_object}
+use Rattle.olk_spec.specs.Schemas.{members, is_object}
 use Rattle.olk_spec.specs.Tree.{Tree, is_valid, result}
 use Rattle.olk_base.specs.declared.pattern.CompiledPattern.{CompiledPattern}
 use Rattle.olk_tree.specs.Questions.{Question, always, conditional, every}
@@ -17,11 +17,11 @@ use Rattle.olk_tree.specs.Shown.{match_trees, match_names, patterns_tree}
 use Rattle.olk_tree.specs.Visited.{Declared, declared_as}
 use Rattle.olk_tree.proofs.Questions.{every-flat_map}
 use Rattle.olk_tree.proofs.Members_met.{no_members, object_is}
-use Rattle.olk_tree.proofs.Patterns.{each_of_those, patterns_nothing}
+use Rattle.olk_tree.proofs.Patterns.{patterns_nothing}
 use Rattle.olk_reports.specs.Evaluations.{Shown, shown, node_at}
 use Rattle.olk_evaluate.specs.Wanted.{Wanted, IsShown, trees_of}
 use Rattle.olk_evaluate.specs.Members.{HasMet, MeetsMore, wanted_at}
-use Rattle.olk_evaluate.specs.Patterns.{match_here, matches_of, matches_of_all}
+use Rattle.olk_evaluate.specs.Patterns.{matches_of, matches_of_all}
 use Rattle.olk_evaluate.specs.declared.properties.Met.{Met}
 use Rattle.olk_evaluate.proofs.Children.{trees_wanted, shown_as, result_shown, shows_nothing}
 use Rattle.olk_evaluate.proofs.Members.{names_in, wanted_each}
@@ -35,10 +35,6 @@ no_object (object ms) e = cc
 no_object v e = refl
 
 module _ {R N : Type 0} (answers : R → Name → Says) (t : N → Bool → Data → Path → Tree) (m : N → Data → Question) (u : Bool) (Q : Path) where
-  -- a member, if the pattern matches its name, one after the other
-  pub matches_of_walk : (p : CompiledPattern R) (n : N) (ms : Members) → flat_map (λ x. match_here answers u p n x.0 x.1) (listed ms) ≡ matches_of answers u p n (object ms)
-  matches_of_walk p n ms = each_of_those (λ x. is_match answers u p x.0) (λ x. declared_as x.0 n x.1) (listed ms)
-
   module _ (v : Data) where
     names_of : (n : N) (xs : List (Name × Data)) → map (λ d. d.name) (flat_map (λ x. declared_as x.0 n x.1) xs) ≡ map (λ x. x.0) xs
     names_of n [] = refl

@@ -1,19 +1,15 @@
 -- The members whose names patterns match, each with what stands at the pattern.
-use Rattle.std.specs.Prelude.{Bool, cond, List, []}
+use Rattle.std.specs.Prelude.{Bool, List}
 use Rattle.std.specs.List.{flat_map}
 use Rattle.serde_json.specs.Data.{Data}
 use Rattle.olk_spec.specs.Names.{Name}
 use Rattle.olk_spec.specs.World.{Says}
 use Rattle.olk_base.specs.declared.pattern.CompiledPattern.{CompiledPattern}
-use Rattle.olk_tree.specs.Matched.{is_match, matched}
+use Rattle.olk_tree.specs.Matched.{matched}
 use Rattle.olk_tree.specs.Visited.{Declared, declared_as}
 
 module _ {R N : Type 0} (answers : R → Name → Says) (u : Bool) where
-  -- a member, if the pattern matches its name
-  abbrev pub match_here : CompiledPattern R → N → Name → Data → List (Declared N)
-  match_here p n x w = cond (is_match answers u p x) (declared_as x n w) []
-
-  -- all of them
+  -- those of one pattern
   abbrev pub matches_of : CompiledPattern R → N → Data → List (Declared N)
   matches_of p n v = flat_map (λ x. declared_as x.0 n x.1) (matched answers u p v)
 

@@ -1,6 +1,6 @@
 -- What an evaluation is to show, and what it shows.
 use Rattle.std.specs.Prelude.{◌≡◌, ⊤, ℕ, length, Bool, false, not, List, [], ◌∷◌, ◌++◌, map, None, IsPermutation}
-use Rattle.serde_json.specs.Data.{Data, string}
+use Rattle.serde_json.specs.Data.{Data}
 use Rattle.std.specs.List.{list_all}
 use Rattle.olk_spec.specs.Names.{Name, Text, Path, filter_once, put_if, is_empty}
 use Rattle.olk_spec.specs.Faults.{Fault, fault, Required}
@@ -78,10 +78,6 @@ module _ {N : Type 0} (t : N → Bool → Data → Path → Tree) (m : N → Dat
 
   abbrev pub each_wanted : List N → Data → Path → List Wanted
   each_wanted ns v Q = map (λ n. wanted n v Q) ns
-
-  -- what a node is to show of the names of members
-  abbrev pub names_wanted : N → Path → List (Name × Data) → List Wanted
-  names_wanted n Q ms = map (λ m. wanted n (string m.0) Q) ms
 
   -- what each of these nodes shows, and nothing else
   abbrev pub ShowsEach : List N → Data → Path → Shown → Type 0

@@ -1,8 +1,7 @@
 //! `patternProperties`: what it shows.
-ghost use Rattle.serde_json.specs.View.{view};
 ghost use Rattle.olk_tree.specs.Visited.{object_of};
 ghost use Rattle.olk_evaluate.specs.Members.{MeetsMore, wanted_at};
-ghost use Rattle.olk_evaluate.specs.Patterns.{match_here, matches_of, matches_of_all};
+ghost use Rattle.olk_evaluate.specs.Patterns.{matches_of, matches_of_all};
 ghost use Rattle.olk_evaluate.specs.Shows.{Shows};
 
 use crate::properties::{Met, meet_member};
@@ -108,27 +107,10 @@ fn meet_matched<'a, R: RegexEngine, N: Located<'a>>(
         pattern.now subschema.now (object_of members.now.entries)) met.old met.new) }
 {
     for (name, value) in members {
-        meet_if_matched(pattern, subschema, (name.as_str(), value), path, ctx, met)?;
+        let name = name.as_str();
+        if matches(pattern, name, ctx) {
+            meet_member(subschema, (name, value), path, ctx, met)?;
+        }
     }
     Ok(())
-}
-
-/// A member, if the pattern matches its name.
-fn meet_if_matched<'a, R: RegexEngine, N: Located<'a>>(
-    pattern: &'a CompiledPattern<R>,
-    subschema: &'a N,
-    member: (&'a str, &'a Value),
-    path: &mut InstancePath,
-    ctx: &mut ValidationContext,
-    met: &mut Met<'a>,
-) -> Result<(), AllocError>
-    ensures { Shows result path.old path.new ctx.old ctx.new (λ _. MeetsMore
-        (wanted_at N.tree N.means ctx.old.answer path.old)
-        (match_here R.answers ctx.old.answer
-        pattern.now subschema.now member.entry.0.now (view member.entry.1.now)) met.old met.new) }
-{
-    if !matches(pattern, member.0, ctx) {
-        return Ok(());
-    }
-    meet_member(subschema, member, path, ctx, met)
 }

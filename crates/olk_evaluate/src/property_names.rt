@@ -1,17 +1,11 @@
 //! `propertyNames`: what it shows.
-ghost use Rattle.serde_json.specs.View.{members_view};
-ghost use Rattle.olk_spec.specs.Schemas.{listed};
-ghost use Rattle.olk_evaluate.specs.Shows.{Shows};
-ghost use Rattle.olk_evaluate.specs.Wanted.{AreShown, names_wanted, trees_of};
-
 use crate::walk::add_child;
 use crate::{Located, Show};
 use olk_base::{Node, ValidationContext};
 use olk_paths::InstancePath;
 use olk_reports::{EvaluationNode, EvaluationResult, ValidationErrorKind};
 use olk_tree::property_names::{PropertyNames, PropertyNamesFalse};
-use serde_json::{Map, Value};
-use std::alloc::{AllocError, Global};
+use std::alloc::AllocError;
 
 /// A child for each member's name, at the path of the object (JSON Schema 2020-12 Core, 10.3.2.4).
 impl<'a, N: Located<'a>> Show<'a> for PropertyNames<N> {
@@ -29,14 +23,18 @@ impl<'a, N: Located<'a>> Show<'a> for PropertyNames<N> {
         ctx: &mut ValidationContext,
         outcome: &mut EvaluationResult<'a>,
     ) -> Result<(), AllocError> {
-        match node.as_object() {
-            Some(members) => {
-                let children = name_children(outcome.allocator(), &self.node, members, path, ctx)?;
-                outcome.take_children(children);
-                Ok(())
-            }
-            None => Ok(()),
+        let Some(members) = node.as_object() else {
+            return Ok(());
+        };
+        let mut children: Vec<EvaluationNode<'a>> = Vec::with_capacity(
+            outcome.allocator(),
+            members.len(),
+        )?;
+        for (name, _) in members {
+            add_child(&self.node, Node::Name(name), path, ctx, &mut children)?;
         }
+        outcome.take_children(children);
+        Ok(())
     }
 }
 
@@ -67,24 +65,4 @@ impl<'a> Show<'a> for PropertyNamesFalse {
             None => Ok(()),
         }
     }
-}
-
-/// What the subschema shows of each member's name.
-fn name_children<'a, N: Located<'a>>(
-    alloc: Global,
-    subschema: &'a N,
-    members: &'a Map<String, Value>,
-    path: &mut InstancePath,
-    ctx: &mut ValidationContext,
-) -> Result<Vec<EvaluationNode<'a>>, AllocError>
-    ensures { Shows result path.old path.new ctx.old ctx.new (λ cs. AreShown
-        (names_wanted N.tree N.means ctx.old.answer subschema.now path.old
-        (listed (members_view members.now.entries)))
-        (trees_of cs.items)) }
-{
-    let mut children: Vec<EvaluationNode<'a>> = Vec::with_capacity(alloc, members.len())?;
-    for (name, _) in members {
-        add_child(subschema, Node::Name(name), path, ctx, &mut children)?;
-    }
-    Ok(children)
 }
