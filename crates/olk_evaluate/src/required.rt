@@ -94,23 +94,6 @@ fn lacks_either(members: &Map<String, Value>, first: &str, second: &str) -> bool
     !has_member(members, second)
 }
 
-/// Adds an error for each of two names that is no member.
-fn add_missing_of_two<'a>(
-    outcome: &mut EvaluationResult<'a>,
-    first: &'a str,
-    second: &'a str,
-    members: &Map<String, Value>,
-    node: Node<'a>,
-) -> Result<(), AllocError>
-    ensures { OnOk result ((P Q : Path) → AddsErrors
-        (map (λ n. fault (Required n) (data_of node.entry) Q P)
-        (missing (first.now ∷ second.now ∷ []) (object_of members.now.entries)))
-        (shown_of outcome.old) (shown_of outcome.new)) }
-{
-    add_error_if_missing(outcome, first, members, node)?;
-    add_error_if_missing(outcome, second, members, node)
-}
-
 /// A child more at the place of `required`, where one of two names is no member.
 pub(crate) fn add_missing_child<'a, N>(
     keyword: &'a SmallPropertiesWithRequired2<N>,
@@ -132,7 +115,9 @@ pub(crate) fn add_missing_child<'a, N>(
     }
     let last = children.len();
     EvaluationNode::push_at(children, keyword.required_location.as_str(), path.as_str())?;
-    add_missing_of_two(&mut children[last].result, first, second, members, node)
+    let result = &mut children[last].result;
+    add_error_if_missing(result, first, members, node)?;
+    add_error_if_missing(result, second, members, node)
 }
 
 /// A child more at the place of `required`, where the name is no member.
