@@ -184,10 +184,22 @@ fn described(alloc: Global, instance: Node<'_>) -> Result<String, AllocError> {
     )
 }
 
+/// The same, of the error that a result was marked with.
+fn marked(alloc: Global, instance: Node<'_>) -> Result<String, AllocError> {
+    let mut outcome = EvaluationResult::valid_empty(alloc);
+    outcome.mark_errored_by(ValidationErrorKind::Required { property: "a" }, instance)?;
+    let node = EvaluationNode::new("", String::new(alloc), outcome);
+    match node.errors().first() {
+        Some(error) => format!(in alloc; "{} {}", error.keyword(), error.message()),
+        None => String::from_str(alloc, "no error"),
+    }
+}
+
 fn text_of_kind(alloc: Global, word: &str, instance: Node<'_>) -> Result<String, AllocError> {
     match word {
         "leaf" => text_of_leaf(alloc, instance),
         "described" => described(alloc, instance),
+        "marked" => marked(alloc, instance),
         _ => {
             let kind = kind_of_validating(alloc, word, &Value::Bool(true));
             text_of(alloc, kind, instance)
@@ -214,6 +226,7 @@ required | k"l | "a\"b" is a required property
 false | k"l | False schema does not allow "k\"l"
 leaf | k"l | 4 is less than the minimum of 5
 described | k | required "a" is a required property required
+marked | k | required "a" is a required property
 object | k | "k" is not of type "object"
 array | k | "k" is not of type "array"
 string | k | "k" is not of type "string"
