@@ -7,10 +7,10 @@ ghost use Rattle.olk_spec.specs.Names.{Path};
 ghost use Rattle.olk_spec.specs.Reports.{unexpected_faults};
 ghost use Rattle.olk_spec.specs.Schemas.{listed};
 ghost use Rattle.olk_reports.specs.Evaluations.{AddsErrors, shown_of};
-ghost use Rattle.olk_tree.specs.Additional.{has_neighbours, required_text, required_place};
+ghost use Rattle.olk_tree.specs.Additional.{has_neighbours};
 ghost use Rattle.olk_tree.specs.Visited.{object_of};
 ghost use Rattle.olk_evaluate.specs.Additional.{matches_shown, names_of, annotated_if, rest_annotation, named_faults, faults_without_rest, Completes, HasPlaces};
-ghost use Rattle.olk_evaluate.specs.Wanted.{AddsShown, AddsTrees, refused, lacking_trees};
+ghost use Rattle.olk_evaluate.specs.Wanted.{AddsTrees};
 
 use crate::additional_members::collect;
 use crate::required::add_missing_name;
@@ -19,7 +19,7 @@ use olk_base::{Node, RegexEngine, ValidationContext};
 use olk_meaning::law_of_names;
 use olk_paths::InstancePath;
 use olk_reports::{EvaluationNode, EvaluationResult, ValidationErrorKind};
-use olk_tree::additional_properties::{AdditionalProperties, RequiredName};
+use olk_tree::additional_properties::AdditionalProperties;
 use serde_json::{Map, Value};
 use std::alloc::AllocError;
 
@@ -77,7 +77,10 @@ fn add_places<'a, R, N>(
 {
     let at_patterns = keyword.patterns_location.as_str();
     add_matches(matched, at_patterns, path, children)?;
-    add_missing_required(&keyword.required, members, node, path, children)
+    match &keyword.required {
+        Some(required) => add_missing_name(required, members, node, path, children),
+        None => Ok(()),
+    }
 }
 
 /// A child more at the place of `patternProperties` with these names, if there are some.
@@ -98,25 +101,6 @@ fn add_matches<'a>(
     EvaluationNode::push_at(children, location, path.as_str())?;
     children[last].result.annotate(matched);
     Ok(())
-}
-
-/// A child more at the place of `required`, where a name is required that is no member.
-fn add_missing_required<'a>(
-    required: &'a Option<RequiredName>,
-    members: &Map<String, Value>,
-    node: Node<'a>,
-    path: &InstancePath,
-    children: &mut Vec<EvaluationNode<'a>>,
-) -> Result<(), AllocError>
-    ensures { OnOk result (AddsShown
-        (refused (lacking_trees (required_text required.now) (data_of node.entry)
-        (object_of members.now.entries) (required_place required.now) path.now))
-        children.old.items children.new.items) }
-{
-    match required {
-        Some(required) => add_missing_name(required, members, node, path, children),
-        None => Ok(()),
-    }
 }
 
 /// Adds the annotation of the rest; where there is no rest, an error if members are not expected.
