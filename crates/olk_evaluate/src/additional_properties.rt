@@ -1,5 +1,5 @@
 //! `additionalProperties`, and what it takes over: what they show.
-ghost use Rattle.std.specs.Prelude.{◌≡◌, is_some, not, cond, false, OnOk};
+ghost use Rattle.std.specs.Prelude.{false, OnOk};
 ghost use Rattle.serde_json.specs.Data.{Data};
 ghost use Rattle.serde_json.specs.View.{members_view};
 ghost use Rattle.olk_base.specs.Nodes.{data_of};
@@ -7,9 +7,8 @@ ghost use Rattle.olk_spec.specs.Names.{Path};
 ghost use Rattle.olk_spec.specs.Reports.{unexpected_faults};
 ghost use Rattle.olk_spec.specs.Schemas.{listed};
 ghost use Rattle.olk_reports.specs.Evaluations.{AddsErrors, shown_of};
-ghost use Rattle.olk_tree.specs.Additional.{has_neighbours};
 ghost use Rattle.olk_tree.specs.Visited.{object_of};
-ghost use Rattle.olk_evaluate.specs.Additional.{matches_shown, names_of, annotated_if, rest_annotation, named_faults, faults_without_rest, Completes, HasPlaces};
+ghost use Rattle.olk_evaluate.specs.Additional.{matches_shown, names_of, named_faults, Completes, HasPlaces};
 ghost use Rattle.olk_evaluate.specs.Wanted.{AddsTrees};
 
 use crate::additional_members::collect;
@@ -103,7 +102,9 @@ fn add_matches<'a>(
     Ok(())
 }
 
-/// Adds the annotation of the rest; where there is no rest, an error if members are not expected.
+/// Annotates the names that the rest is asked of; where just one neighbour stands there, only if
+/// there are some. Where there is no rest, adds an error if members are not expected: told by name
+/// where the keyword has a neighbour, else as a false schema over the first.
 fn complete<'a, R, N>(
     keyword: &AdditionalProperties<R, N>,
     outcome: &mut EvaluationResult<'a>,
@@ -117,56 +118,15 @@ fn complete<'a, R, N>(
 {
     match &keyword.rest {
         Some(_) => {
-            annotate_rest(keyword, outcome, additional);
+            let stands_beside_one = keyword.properties.is_some() != keyword.patterns.is_some();
+            if stands_beside_one && additional.is_empty() {
+                return Ok(());
+            }
+            outcome.annotate(additional);
             Ok(())
         }
-        None => add_unexpected(keyword, outcome, additional, members, node),
-    }
-}
-
-/// Annotates the names that the rest is asked of; where just one neighbour stands there, only if
-/// there are some.
-fn annotate_rest<'a, R, N>(
-    keyword: &AdditionalProperties<R, N>,
-    outcome: &mut EvaluationResult<'a>,
-    additional: Vec<&'a str>,
-)
-    ensures { shown_of outcome.new ≡ annotated_if
-        (rest_annotation keyword.now (names_of additional.entry.items)) (shown_of outcome.old) }
-{
-    if stands_beside_one(keyword) && additional.is_empty() {
-        return;
-    }
-    outcome.annotate(additional);
-}
-
-/// Whether just one of `properties` and `patternProperties` stands there.
-fn stands_beside_one<R, N>(keyword: &AdditionalProperties<R, N>) -> bool
-    ensures { result
-        ≡ cond (is_some keyword.now.properties) (not (is_some keyword.now.patterns))
-        (is_some keyword.now.patterns) }
-{
-    keyword.properties.is_some() != keyword.patterns.is_some()
-}
-
-/// Adds an error if members are not expected: told by name where the keyword has a neighbour, else
-/// as a false schema over the first.
-fn add_unexpected<'a, R, N>(
-    keyword: &AdditionalProperties<R, N>,
-    outcome: &mut EvaluationResult<'a>,
-    unexpected: Vec<&'a str>,
-    members: &'a Map<String, Value>,
-    node: Node<'a>,
-) -> Result<(), AllocError>
-    ensures { OnOk result ((P Q : Path) → AddsErrors
-        (faults_without_rest keyword.now (names_of unexpected.entry.items)
-        (listed (members_view members.now.entries)) (data_of node.entry) P Q)
-        (shown_of outcome.old) (shown_of outcome.new)) }
-{
-    if keyword.has_neighbours() {
-        add_named(outcome, unexpected, node)
-    } else {
-        add_first(outcome, members)
+        None if keyword.has_neighbours() => add_named(outcome, additional, node),
+        None => add_first(outcome, members),
     }
 }
 
