@@ -1,5 +1,5 @@
 -- What is collected of members, one after another.
-use Rattle.std.proofs.Common.{◌≡◌, ℕ, ◌+◌, Bool, true, false, not, ◌&&◌, ◌||◌, cond, List, [], ◌∷◌, ◌++◌, map, Option, Some, None, is_none, is_some, option_map, option_to_list, drop, append_assoc, refl, sym, ap, subst, ◌∙◌}
+use Rattle.std.proofs.Common.{◌≡◌, ℕ, ◌+◌, Bor, Bool, true, false, not, ◌&&◌, ◌||◌, cond, List, [], ◌∷◌, ◌++◌, map, Option, Some, None, is_none, is_some, option_map, option_to_list, drop, append_assoc, refl, sym, ap, subst, ◌∙◌}
 use Rattle.std.proofs.lemmas.List.{append-nil, map-append}
 use Rattle.serde_json.specs.Data.{Data}
 use Rattle.olk_spec.specs.Names.{Name, Path, put_if, is_empty}
@@ -47,6 +47,10 @@ collects_both {f} {g} {a} h k = record {
   children = behind (trees_of a.children.items) h.added k.added h.children k.children;
   shown = shown_append f.wanted g.wanted h.added k.added h.shown k.shown;
 }
+
+-- one name more
+pub pushed_name : (old : List (Bor (List ℕ))) (n : Bor (List ℕ)) {new : List (Bor (List ℕ))} → new ≡ old ++ n ∷ [] → names_of new ≡ names_of old ++ n.now ∷ []
+pushed_name old n h = ap names_of h ∙ map-append (λ m. m.now) old (n ∷ [])
 
 -- one child more, and such names
 pub collects_child : {w : Wanted} {ns ms : List Name} {a b : Collected}
@@ -224,10 +228,11 @@ module _ {R N : Type 0} {w : Member R N} where
     pub patterns_done : drop i (sides_of w.keyword).patterns ≡ [] → spoken ≡ true → CollectsMore (all_found w) old new
     patterns_done none is = leaves_nothing (spoken_of w spoken i none is) loop.leaves
 
-    pub rest_done : {newer : Collected} → drop i (sides_of w.keyword).patterns ≡ [] → spoken ≡ false
-        → CollectsMore (rest_found w.tree w.means b.answer P w.name w.value w.keyword.rest) new newer → CollectsMore (all_found w) old newer
-    rest_done {newer} none is found = leaves_last (rest_here w) (left_to_rest w spoken i none is) loop.leaves
-        (as_before (λ u Q. CollectsMore (rest_found w.tree w.means u Q w.name w.value w.keyword.rest) new newer) loop.kept found)
+    pub rest_done : {rest : Option N} {newer : Collected} → drop i (sides_of w.keyword).patterns ≡ [] → spoken ≡ false → w.keyword.rest ≡ rest
+        → CollectsMore (rest_found w.tree w.means b.answer P w.name w.value rest) new newer → CollectsMore (all_found w) old newer
+    rest_done {newer = newer} none is rest found = leaves_last (rest_here w) (left_to_rest w spoken i none is) loop.leaves
+        (as_before (λ u Q. CollectsMore (rest_found w.tree w.means u Q w.name w.value w.keyword.rest) new newer) loop.kept
+        (subst (λ o. CollectsMore (rest_found w.tree w.means b.answer P w.name w.value o) new newer) (sym rest) found))
 
 -- ---- members
 

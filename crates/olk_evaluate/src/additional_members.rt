@@ -6,7 +6,7 @@ ghost use Rattle.olk_spec.specs.Schemas.{listed};
 ghost use Rattle.olk_spec.specs.World.{reads_as};
 ghost use Rattle.olk_tree.specs.Additional.{known_or};
 ghost use Rattle.olk_tree.specs.Tables.{known_says};
-ghost use Rattle.olk_evaluate.specs.Additional.{Collects, CollectsMore, declared_found, match_found, rest_found, member_found, members_found, names_of};
+ghost use Rattle.olk_evaluate.specs.Additional.{Collects, CollectsMore, declared_found, match_found, member_found, members_found, names_of};
 ghost use Rattle.olk_evaluate.specs.Shows.{Shows};
 
 use crate::Located;
@@ -106,7 +106,11 @@ fn collect_member<'a, R: RegexEngine, N: Located<'a>>(
     if spoken {
         return Ok(());
     }
-    collect_additional(&keyword.rest, member, path, ctx, collected)
+    collected.additional.push(member.0)?;
+    match &keyword.rest {
+        Some(subschema) => add_child_below(subschema, member, path, ctx, &mut collected.children),
+        None => Ok(()),
+    }
 }
 
 /// What is declared at a member's name, if anything is.
@@ -156,28 +160,4 @@ fn collect_if_matched<'a, R: RegexEngine, N: Located<'a>>(
     add_child_below(&entry.1, member, path, ctx, &mut collected.children)?;
     push_if(&mut collected.matched, member.0, is_shown)?;
     Ok(true)
-}
-
-/// A member that nothing else speaks of: its name, and what the rest shows of it, if there is a
-/// rest.
-#[inline(always)]
-fn collect_additional<'a, N: Located<'a>>(
-    rest: &'a Option<N>,
-    member: (&'a str, &'a Value),
-    path: &mut InstancePath,
-    ctx: &mut ValidationContext,
-    collected: &mut Collected<'a>,
-) -> Result<(), AllocError>
-    ensures { Shows result path.old path.new ctx.old ctx.new (λ _. CollectsMore
-        (rest_found N.tree N.means ctx.old.answer path.old
-        member.entry.0.now (view member.entry.1.now) rest.now)
-        collected.old collected.new) }
-{
-    collected.additional.push(member.0)?;
-    match rest {
-        Some(subschema) => {
-            add_child_below(subschema, member, path, ctx, &mut collected.children)
-        }
-        None => Ok(()),
-    }
 }
