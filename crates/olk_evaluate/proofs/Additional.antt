@@ -17,17 +17,18 @@ use Rattle.olk_spec.specs.Accepts.{missing}
 use Rattle.olk_spec.specs.Tree.{Tree, node, no_tree, described, is_valid, result, plain, erring}
 use Rattle.olk_base.specs.declared.pattern.CompiledPattern.{CompiledPattern}
 use Rattle.olk_tree.specs.Questions.{Question, every}
-use Rattle.olk_tree.specs.Additional.{Sides, matching_from, at_name, nodes_matching, nodes_asked, is_additional, is_unexpected, faults_of_unexpected, additional_names, matched_names, additional_annotation, matches_child, additional_tree, repeats, member_means, additional_means, sides_of, mapped_places, patterns_in, has_neighbours}
+use Rattle.olk_tree.specs.Additional.{Sides, matching_from, at_name, nodes_matching, nodes_asked, is_additional, is_unexpected, faults_of_unexpected, additional_names, matched_names, additional_annotation, matches_child, additional_tree, repeats, member_means, additional_means, sides_of, mapped_places, patterns_in, has_neighbours, required_text, required_place}
 use Rattle.olk_tree.specs.AdditionalAgreement.{member_accepted}
 use Rattle.olk_tree.specs.Shown.{missing_trees}
 use Rattle.olk_tree.specs.declared.properties_map.PropertiesMap.{PropertiesMap}
+use Rattle.olk_tree.specs.declared.additional_properties.RequiredName.{RequiredName}
 use Rattle.olk_tree.specs.declared.additional_properties.AdditionalProperties as validator
 use Rattle.olk_tree.proofs.Members_met.{object_is}
 use Rattle.olk_reports.specs.Evaluations.{Shown, shown, node_at, tree_of}
 use Rattle.olk_reports.specs.declared.evaluation.EvaluationNode.{EvaluationNode}
-use Rattle.olk_evaluate.specs.Wanted.{Wanted, IsShown, AreShown, wanted, refused, lacking_trees, trees_of}
+use Rattle.olk_evaluate.specs.Wanted.{Wanted, IsShown, AreShown, AddsTrees, AddsShown, wanted, refused, lacking_trees, trees_of}
 use Rattle.olk_check.proofs.Together.{each_is_all}
-use Rattle.olk_evaluate.specs.Additional.{Collects, names_of, nodes_wanted, members_found, matches_shown, rest_annotation, named_faults, faults_without_rest, Completes}
+use Rattle.olk_evaluate.specs.Additional.{Collects, names_of, nodes_wanted, members_found, matches_shown, rest_annotation, named_faults, faults_without_rest, Completes, HasPlaces}
 use Rattle.olk_evaluate.specs.declared.additional_members.Collected.{Collected}
 use Rattle.olk_evaluate.proofs.Children.{trees_wanted, all_wanted, same_trees, shown_as, shows_nothing}
 use Rattle.olk_evaluate.proofs.Members.{shown_append}
@@ -56,6 +57,19 @@ module _ {X : Type 0} (p : X → Bool) where
 each_if : {X B : Type 0} (f : X → List B) (b : Bool) (xs : List X) → flat_map (λ x. cond b (f x) []) xs ≡ cond b (flat_map f xs) []
 each_if f true xs = refl
 each_if f false xs = nothing_each xs
+
+-- ---- behind the children
+
+pub has_places : {R N : Type 0} {k : validator.AdditionalProperties R N} {r : Option RequiredName} {ns : List Name} {v w : Data} {P Q : Path} {old mid new : List EvaluationNode}
+    → AddsTrees (matches_shown ns P Q) old mid → P ≡ k.patterns_location
+    → AddsShown (refused (lacking_trees (required_text r) v w (required_place r) Q)) mid new → k.required ≡ r → HasPlaces k ns v w Q old new
+has_places {ns = ns} {v} {w} {Q = Q} found place more is = record {
+  matches = found.nodes;
+  missing = more.nodes;
+  parts = more.added ∙ ap (λ l. l ++ more.nodes) found.added;
+  matched = found.trees ∙ ap (λ P. matches_shown ns P Q) place;
+  lacking = subst (λ r. AreShown (refused (lacking_trees (required_text r) v w (required_place r) Q)) (trees_of more.nodes)) (sym is) more.shown;
+}
 
 -- ---- trees that are to be valid
 

@@ -1,12 +1,12 @@
 //! What `additionalProperties` and its neighbours meet of the members of an object.
-ghost use Rattle.std.specs.Prelude.{◌≡◌, ◌++◌, ◌∷◌, [], cond, option_map, is_none, IfOk, OnOk};
+ghost use Rattle.std.specs.Prelude.{◌≡◌, [], option_map, IfOk};
 ghost use Rattle.serde_json.specs.View.{view, members_view};
 ghost use Rattle.olk_base.specs.Compiled.{pattern_answers};
 ghost use Rattle.olk_spec.specs.Schemas.{listed};
 ghost use Rattle.olk_spec.specs.World.{reads_as};
 ghost use Rattle.olk_tree.specs.Additional.{known_or};
 ghost use Rattle.olk_tree.specs.Tables.{known_says};
-ghost use Rattle.olk_evaluate.specs.Additional.{Collects, CollectsMore, declared_found, match_found, rest_found, member_found, members_found, names_of};
+ghost use Rattle.olk_evaluate.specs.Additional.{Collects, CollectsMore, declared_found, match_found, member_found, members_found};
 ghost use Rattle.olk_evaluate.specs.Shows.{Shows};
 
 use crate::Located;
@@ -42,18 +42,6 @@ impl<'a> Collected<'a> {
             matched: Vec::new(alloc),
         })
     }
-}
-
-/// The name behind these, where it is shown.
-#[inline(always)]
-fn push_if<'a>(names: &mut Vec<&'a str>, name: &'a str, is_shown: bool) -> Result<(), AllocError>
-    ensures { OnOk result (names_of names.new.items
-        ≡ names_of names.old.items ++ cond is_shown (name.entry.now ∷ []) []) }
-{
-    if is_shown {
-        names.push(name)?;
-    }
-    Ok(())
 }
 
 /// What is met of the members, in their order.
@@ -106,7 +94,11 @@ fn collect_member<'a, R: RegexEngine, N: Located<'a>>(
     if spoken {
         return Ok(());
     }
-    collect_additional(&keyword.rest, member, path, ctx, collected)
+    collected.additional.push(member.0)?;
+    match &keyword.rest {
+        Some(subschema) => add_child_below(subschema, member, path, ctx, &mut collected.children),
+        None => Ok(()),
+    }
 }
 
 /// What is declared at a member's name, if anything is.
@@ -154,30 +146,8 @@ fn collect_if_matched<'a, R: RegexEngine, N: Located<'a>>(
         return Ok(false);
     }
     add_child_below(&entry.1, member, path, ctx, &mut collected.children)?;
-    push_if(&mut collected.matched, member.0, is_shown)?;
-    Ok(true)
-}
-
-/// A member that nothing else speaks of: its name, and what the rest shows of it, if there is a
-/// rest.
-#[inline(always)]
-fn collect_additional<'a, N: Located<'a>>(
-    rest: &'a Option<N>,
-    member: (&'a str, &'a Value),
-    path: &mut InstancePath,
-    ctx: &mut ValidationContext,
-    collected: &mut Collected<'a>,
-) -> Result<(), AllocError>
-    ensures { Shows result path.old path.new ctx.old ctx.new (λ _. CollectsMore
-        (rest_found N.tree N.means ctx.old.answer path.old
-        member.entry.0.now (view member.entry.1.now) rest.now)
-        collected.old collected.new) }
-{
-    collected.additional.push(member.0)?;
-    match rest {
-        Some(subschema) => {
-            add_child_below(subschema, member, path, ctx, &mut collected.children)
-        }
-        None => Ok(()),
+    if is_shown {
+        collected.matched.push(member.0)?;
     }
+    Ok(true)
 }

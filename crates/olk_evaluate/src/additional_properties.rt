@@ -1,5 +1,5 @@
 //! `additionalProperties`, and what it takes over: what they show.
-ghost use Rattle.std.specs.Prelude.{◌≡◌, is_some, not, cond, false, OnOk};
+ghost use Rattle.std.specs.Prelude.{false, OnOk};
 ghost use Rattle.serde_json.specs.Data.{Data};
 ghost use Rattle.serde_json.specs.View.{members_view};
 ghost use Rattle.olk_base.specs.Nodes.{data_of};
@@ -7,10 +7,9 @@ ghost use Rattle.olk_spec.specs.Names.{Path};
 ghost use Rattle.olk_spec.specs.Reports.{unexpected_faults};
 ghost use Rattle.olk_spec.specs.Schemas.{listed};
 ghost use Rattle.olk_reports.specs.Evaluations.{AddsErrors, shown_of};
-ghost use Rattle.olk_tree.specs.Additional.{has_neighbours, required_text, required_place};
 ghost use Rattle.olk_tree.specs.Visited.{object_of};
-ghost use Rattle.olk_evaluate.specs.Additional.{matches_shown, names_of, annotated_if, rest_annotation, named_faults, faults_without_rest, Completes, HasPlaces};
-ghost use Rattle.olk_evaluate.specs.Wanted.{AddsShown, AddsTrees, refused, lacking_trees};
+ghost use Rattle.olk_evaluate.specs.Additional.{matches_shown, names_of, named_faults, Completes, HasPlaces};
+ghost use Rattle.olk_evaluate.specs.Wanted.{AddsTrees};
 
 use crate::additional_members::collect;
 use crate::required::add_missing_name;
@@ -19,7 +18,7 @@ use olk_base::{Node, RegexEngine, ValidationContext};
 use olk_meaning::law_of_names;
 use olk_paths::InstancePath;
 use olk_reports::{EvaluationNode, EvaluationResult, ValidationErrorKind};
-use olk_tree::additional_properties::{AdditionalProperties, RequiredName};
+use olk_tree::additional_properties::AdditionalProperties;
 use serde_json::{Map, Value};
 use std::alloc::AllocError;
 
@@ -77,7 +76,10 @@ fn add_places<'a, R, N>(
 {
     let at_patterns = keyword.patterns_location.as_str();
     add_matches(matched, at_patterns, path, children)?;
-    add_missing_required(&keyword.required, members, node, path, children)
+    match &keyword.required {
+        Some(required) => add_missing_name(required, members, node, path, children),
+        None => Ok(()),
+    }
 }
 
 /// A child more at the place of `patternProperties` with these names, if there are some.
@@ -100,26 +102,9 @@ fn add_matches<'a>(
     Ok(())
 }
 
-/// A child more at the place of `required`, where a name is required that is no member.
-fn add_missing_required<'a>(
-    required: &'a Option<RequiredName>,
-    members: &Map<String, Value>,
-    node: Node<'a>,
-    path: &InstancePath,
-    children: &mut Vec<EvaluationNode<'a>>,
-) -> Result<(), AllocError>
-    ensures { OnOk result (AddsShown
-        (refused (lacking_trees (required_text required.now) (data_of node.entry)
-        (object_of members.now.entries) (required_place required.now) path.now))
-        children.old.items children.new.items) }
-{
-    match required {
-        Some(required) => add_missing_name(required, members, node, path, children),
-        None => Ok(()),
-    }
-}
-
-/// Adds the annotation of the rest; where there is no rest, an error if members are not expected.
+/// Annotates the names that the rest is asked of; where just one neighbour stands there, only if
+/// there are some. Where there is no rest, adds an error if members are not expected: told by name
+/// where the keyword has a neighbour, else as a false schema over the first.
 fn complete<'a, R, N>(
     keyword: &AdditionalProperties<R, N>,
     outcome: &mut EvaluationResult<'a>,
@@ -133,56 +118,15 @@ fn complete<'a, R, N>(
 {
     match &keyword.rest {
         Some(_) => {
-            annotate_rest(keyword, outcome, additional);
+            let stands_beside_one = keyword.properties.is_some() != keyword.patterns.is_some();
+            if stands_beside_one && additional.is_empty() {
+                return Ok(());
+            }
+            outcome.annotate(additional);
             Ok(())
         }
-        None => add_unexpected(keyword, outcome, additional, members, node),
-    }
-}
-
-/// Annotates the names that the rest is asked of; where just one neighbour stands there, only if
-/// there are some.
-fn annotate_rest<'a, R, N>(
-    keyword: &AdditionalProperties<R, N>,
-    outcome: &mut EvaluationResult<'a>,
-    additional: Vec<&'a str>,
-)
-    ensures { shown_of outcome.new ≡ annotated_if
-        (rest_annotation keyword.now (names_of additional.entry.items)) (shown_of outcome.old) }
-{
-    if stands_beside_one(keyword) && additional.is_empty() {
-        return;
-    }
-    outcome.annotate(additional);
-}
-
-/// Whether just one of `properties` and `patternProperties` stands there.
-fn stands_beside_one<R, N>(keyword: &AdditionalProperties<R, N>) -> bool
-    ensures { result
-        ≡ cond (is_some keyword.now.properties) (not (is_some keyword.now.patterns))
-        (is_some keyword.now.patterns) }
-{
-    keyword.properties.is_some() != keyword.patterns.is_some()
-}
-
-/// Adds an error if members are not expected: told by name where the keyword has a neighbour, else
-/// as a false schema over the first.
-fn add_unexpected<'a, R, N>(
-    keyword: &AdditionalProperties<R, N>,
-    outcome: &mut EvaluationResult<'a>,
-    unexpected: Vec<&'a str>,
-    members: &'a Map<String, Value>,
-    node: Node<'a>,
-) -> Result<(), AllocError>
-    ensures { OnOk result ((P Q : Path) → AddsErrors
-        (faults_without_rest keyword.now (names_of unexpected.entry.items)
-        (listed (members_view members.now.entries)) (data_of node.entry) P Q)
-        (shown_of outcome.old) (shown_of outcome.new)) }
-{
-    if keyword.has_neighbours() {
-        add_named(outcome, unexpected, node)
-    } else {
-        add_first(outcome, members)
+        None if keyword.has_neighbours() => add_named(outcome, additional, node),
+        None => add_first(outcome, members),
     }
 }
 

@@ -1,7 +1,9 @@
-use Rattle.std.proofs.Common.{ℕ, Bor, ◌∙◌}
+use Rattle.std.proofs.Common.{ℕ, Bor, refl, sym, ◌∙◌}
+use Rattle.std.proofs.lemmas.List.{append-nil}
 use Rattle.olk_spec.proofs.Maps.{is_some-map}
 use Rattle.olk_tree.proofs.Lists.{next_at, past_end}
-use Rattle.olk_evaluate.proofs.Collected.{none_is, declared_done, pattern_done, patterns_done, rest_done}
+use Rattle.olk_evaluate.specs.Additional.{names_of}
+use Rattle.olk_evaluate.proofs.Collected.{pushed_name, collects_child, collects_name, none_is, declared_done, pattern_done, patterns_done, rest_done}
 use Rattle.olk_evaluate.proofs.Shows.{kept_then, shows_err, shows_then}
 use Rattle.olk_evaluate.proofs.additional_members.collect_member.Goals as goal
 
@@ -24,6 +26,17 @@ returns-in_err-is_match g c = shows_err c.from_residual-in_err-is_match.ensures.
 pub returns-then-spoken : goal.returns-then-spoken
 returns-then-spoken g c = record { shown = patterns_done c.loop-index.invariant (past_end c.patterns-entry-items.ensures c.loop-index-test.false) c.if-spoken.true; kept = c.loop-index.invariant.kept }
 
-pub returns : goal.returns
-returns g c = shows_then c.loop-index.invariant.kept c.collect_additional.ensures
-    (λ _ found. rest_done c.loop-index.invariant (past_end c.patterns-entry-items.ensures c.loop-index-test.false) c.if-spoken.false found)
+pub returns-in_err-push : goal.returns-in_err-push
+returns-in_err-push g c = shows_err c.from_residual-in_err-push.ensures.0 c.loop-index.invariant.kept
+
+pub returns-in-Some : goal.returns-in-Some
+returns-in-Some g c = shows_then c.loop-index.invariant.kept c.add_child_below.ensures
+    (λ _ more. rest_done c.loop-index.invariant (past_end c.patterns-entry-items.ensures c.loop-index-test.false) c.if-spoken.false c.in-Some.is
+    (collects_child (pushed_name c.loop-index.collected.additional.items c.args.member.0 c.in_ok-push.ensures.items) (sym (append-nil (names_of c.loop-index.collected.matched.items))) more))
+
+pub returns-in-None : goal.returns-in-None
+returns-in-None g c = record {
+  shown = rest_done c.loop-index.invariant (past_end c.patterns-entry-items.ensures c.loop-index-test.false) c.if-spoken.false c.in-None.is
+      (collects_name (pushed_name c.loop-index.collected.additional.items c.args.member.0 c.in_ok-push.ensures.items) (sym (append-nil (names_of c.loop-index.collected.matched.items))) refl);
+  kept = c.loop-index.invariant.kept;
+}

@@ -1,13 +1,12 @@
-use Rattle.std.proofs.Common.{◌++◌, ap, ◌∙◌}
+use Rattle.std.proofs.Common.{[], sym}
+use Rattle.std.proofs.lemmas.List.{append-nil}
 use Rattle.std.proofs.lemmas.Result.{on_ok_weaker}
-use Rattle.olk_evaluate.specs.Additional.{matches_shown, names_of}
+use Rattle.olk_evaluate.proofs.Additional.{has_places}
 use Rattle.olk_evaluate.proofs.additional_properties.add_places.Goals as goal
 
-pub returns : goal.returns
-returns g c = on_ok_weaker c.add_missing_required.result (λ more. record {
-  matches = c.in_ok-add_matches.ensures.nodes;
-  missing = more.nodes;
-  parts = more.added ∙ ap (λ l. l ++ more.nodes) c.in_ok-add_matches.ensures.added;
-  matched = c.in_ok-add_matches.ensures.trees ∙ ap (λ P. matches_shown (names_of c.args.matched.items) P c.args.path.now) c.as_str-at_patterns.ensures;
-  lacking = more.shown;
-}) c.add_missing_required.ensures
+pub returns-in-Some : goal.returns-in-Some
+returns-in-Some g c = on_ok_weaker c.add_missing_name.result (λ more. has_places c.in_ok-add_matches.ensures c.as_str-at_patterns.ensures more c.in-Some.is) c.add_missing_name.ensures
+
+pub returns-in-None : goal.returns-in-None
+returns-in-None g c = has_places c.in_ok-add_matches.ensures c.as_str-at_patterns.ensures
+    (record { nodes = []; added = sym (append-nil c.add_matches.new.children.items); shown = tt }) c.in-None.is
