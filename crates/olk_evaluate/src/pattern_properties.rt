@@ -1,7 +1,7 @@
 //! `patternProperties`: what it shows.
 ghost use Rattle.olk_tree.specs.Visited.{object_of};
 ghost use Rattle.olk_evaluate.specs.Members.{MeetsMore, wanted_at};
-ghost use Rattle.olk_evaluate.specs.Patterns.{matches_of, matches_of_all};
+ghost use Rattle.olk_evaluate.specs.Patterns.{matches_of};
 ghost use Rattle.olk_evaluate.specs.Shows.{Shows};
 
 use crate::properties::{Met, meet_member};
@@ -31,15 +31,15 @@ impl<'a, R: RegexEngine, N: Located<'a>> Show<'a> for PatternProperties<R, N> {
         ctx: &mut ValidationContext,
         outcome: &mut EvaluationResult<'a>,
     ) -> Result<(), AllocError> {
-        match node.as_object() {
-            Some(members) => {
-                let mut met: Met<'a> = Met::with_capacity(outcome.allocator(), members.len())?;
-                meet_patterns(&self.patterns, members, path, ctx, &mut met)?;
-                met.show(outcome);
-                Ok(())
-            }
-            None => Ok(()),
+        let Some(members) = node.as_object() else {
+            return Ok(());
+        };
+        let mut met: Met<'a> = Met::with_capacity(outcome.allocator(), members.len())?;
+        for entry in &self.patterns {
+            meet_matched(&entry.0, &entry.1, members, path, ctx, &mut met)?;
         }
+        met.show(outcome);
+        Ok(())
     }
 }
 
@@ -61,35 +61,14 @@ impl<'a, R: RegexEngine, N: Located<'a>> Show<'a> for SingleValuePatternProperti
         ctx: &mut ValidationContext,
         outcome: &mut EvaluationResult<'a>,
     ) -> Result<(), AllocError> {
-        match node.as_object() {
-            Some(members) => {
-                let mut met: Met<'a> = Met::with_capacity(outcome.allocator(), members.len())?;
-                meet_matched(&self.regex, &self.node, members, path, ctx, &mut met)?;
-                met.show(outcome);
-                Ok(())
-            }
-            None => Ok(()),
-        }
+        let Some(members) = node.as_object() else {
+            return Ok(());
+        };
+        let mut met: Met<'a> = Met::with_capacity(outcome.allocator(), members.len())?;
+        meet_matched(&self.regex, &self.node, members, path, ctx, &mut met)?;
+        met.show(outcome);
+        Ok(())
     }
-}
-
-/// The members whose names patterns match, pattern by pattern.
-fn meet_patterns<'a, R: RegexEngine, N: Located<'a>>(
-    patterns: &'a Vec<(CompiledPattern<R>, N)>,
-    members: &'a Map<String, Value>,
-    path: &mut InstancePath,
-    ctx: &mut ValidationContext,
-    met: &mut Met<'a>,
-) -> Result<(), AllocError>
-    ensures { Shows result path.old path.new ctx.old ctx.new (λ _. MeetsMore
-        (wanted_at N.tree N.means ctx.old.answer path.old)
-        (matches_of_all R.answers ctx.old.answer
-        patterns.now.items (object_of members.now.entries)) met.old met.new) }
-{
-    for entry in patterns {
-        meet_matched(&entry.0, &entry.1, members, path, ctx, met)?;
-    }
-    Ok(())
 }
 
 /// The members whose names the pattern matches.

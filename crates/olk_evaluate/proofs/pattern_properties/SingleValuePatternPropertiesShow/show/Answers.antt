@@ -8,27 +8,27 @@ use Rattle.olk_evaluate.proofs.Patterns.{other_shown, patterns_shown, meets_matc
 use Rattle.olk_evaluate.proofs.Shows.{kept_same, shows_err}
 use Rattle.olk_evaluate.proofs.pattern_properties.SingleValuePatternPropertiesShow.show.Goals as goal
 
-pub returns-in_err-met-in-Some : goal.returns-in_err-met-in-Some
-returns-in_err-met-in-Some g c = shows_err c.from_residual.ensures.0 kept_same
+pub returns-in_err-met : goal.returns-in_err-met
+returns-in_err-met g c = shows_err c.from_residual.ensures.0 kept_same
 
-pub returns-in_err-meet_matched-in-Some : goal.returns-in_err-meet_matched-in-Some
-returns-in_err-meet_matched-in-Some g c = shows_err c.from_residual-in_err-meet_matched-in-Some.ensures.0 c.meet_matched.ensures.kept
+pub returns-in_err-meet_matched : goal.returns-in_err-meet_matched
+returns-in_err-meet_matched g c = shows_err c.from_residual-in_err-meet_matched.ensures.0 c.meet_matched.ensures.kept
 
-pub returns-in_ok-meet_matched-in-Some : goal.returns-in_ok-meet_matched-in-Some
-returns-in_ok-meet_matched-in-Some g c = record {
+pub returns : goal.returns
+returns g c = record {
   shown = shown_as (patterns_shown g.R.RegexEngine.answers g.N.Show.tree g.N.Means.means c.args.ctx.now.answer c.args.path.now ((c.args.self.now.regex, c.args.self.now.node) ∷ [])
-      (data_of c.args.node) (members_view c.in-Some.members.now.entries) c.in-Some.ensures (meets_all c.in_ok-met-in-Some.ensures.names c.in_ok-met-in-Some.ensures.children
+      (data_of c.args.node) (members_view c.in-Some.members.now.entries) c.in-Some.ensures (meets_all c.in_ok-met.ensures.names c.in_ok-met.ensures.children
       (meets_matched g.R.RegexEngine.answers c.args.ctx.now.answer c.args.self.now.regex c.args.self.now.node
-      (object (members_view c.in-Some.members.now.entries)) c.in_ok-meet_matched-in-Some.ensures.shown))
+      (object (members_view c.in-Some.members.now.entries)) c.in_ok-meet_matched.ensures.shown))
       g.R.RegexEngine.costs c.args.self.now.location c.show.ensures)
       refl (mean_of_one g.R.RegexEngine.answers c.args.ctx.now.answer c.args.self.now.regex c.args.self.now.node (data_of c.args.node) g.R.RegexEngine.costs g.N.Means.means);
   kept = c.meet_matched.ensures.kept;
 }
 
-pub returns-in-None : goal.returns-in-None
-returns-in-None g c = record {
+pub returns-in_default : goal.returns-in_default
+returns-in_default g c = record {
   shown = shown_as (other_shown g.R.RegexEngine.answers g.N.Show.tree g.N.Means.means c.args.ctx.now.answer c.args.path.now ((c.args.self.now.regex, c.args.self.now.node) ∷ [])
-      (data_of c.args.node) c.in-None.ensures c.requires g.R.RegexEngine.costs c.args.self.now.location)
+      (data_of c.args.node) c.in_default.ensures c.requires g.R.RegexEngine.costs c.args.self.now.location)
       refl (mean_of_one g.R.RegexEngine.answers c.args.ctx.now.answer c.args.self.now.regex c.args.self.now.node (data_of c.args.node) g.R.RegexEngine.costs g.N.Means.means);
   kept = kept_same;
 }
