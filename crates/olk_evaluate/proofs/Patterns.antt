@@ -23,7 +23,7 @@ use Rattle.olk_evaluate.specs.Wanted.{Wanted, IsShown, trees_of}
 use Rattle.olk_evaluate.specs.Members.{HasMet, MeetsMore, wanted_at}
 use Rattle.olk_evaluate.specs.Patterns.{matches_of, matches_of_all}
 use Rattle.olk_evaluate.specs.declared.properties.Met.{Met}
-use Rattle.olk_evaluate.proofs.Children.{trees_wanted, shown_as, result_shown, shows_nothing}
+use Rattle.olk_evaluate.proofs.Children.{trees_wanted, shown_as, result_shown, shows_nothing, those_next}
 use Rattle.olk_evaluate.proofs.Members.{names_in, wanted_each}
 
 pub nothing_each : {X B : Type 0} (xs : List X) → flat_map (λ x. let none : List B = [] in none) xs ≡ []
@@ -33,6 +33,16 @@ nothing_each (x ∷ xs) = nothing_each xs
 pub no_object : (v : Data) → None ≡ as_object v → is_object v ≡ false
 no_object (object ms) e = cc
 no_object v e = refl
+
+-- the members whose names a pattern matches
+module _ {R : Type 0} (answers : R → Name → Says) where
+  abbrev pub matches_among : Bool → CompiledPattern R → List (Name × Data) → List (Name × Data)
+  matches_among u p = filter_once (λ x. is_match answers u p x.0)
+
+  -- one is next, or it is not among them
+  pub match_next : (p : CompiledPattern R) {left rest : List (Name × Data)} {x : Name × Data} {b u w : Bool}
+      → left ≡ x ∷ rest → b ≡ is_match answers w p x.0 → w ≡ u → matches_among u p left ≡ put_if b x (matches_among u p rest)
+  match_next p {x = x} next e same = those_next _ next (e ∙ ap (λ u. is_match answers u p x.0) same)
 
 module _ {R N : Type 0} (answers : R → Name → Says) (t : N → Bool → Data → Path → Tree) (m : N → Data → Question) (u : Bool) (Q : Path) where
   module _ (v : Data) where

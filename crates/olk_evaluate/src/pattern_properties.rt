@@ -87,9 +87,10 @@ fn meet_matched<'a, R: RegexEngine, N: Located<'a>>(
 {
     for (name, value) in members {
         let name = name.as_str();
-        if matches(pattern, name, ctx) {
-            meet_member(subschema, (name, value), path, ctx, met)?;
+        if !matches(pattern, name, ctx) {
+            continue;
         }
+        meet_member(subschema, (name, value), path, ctx, met)?;
     }
     Ok(())
 }
