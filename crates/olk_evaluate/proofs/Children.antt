@@ -129,10 +129,6 @@ module _ {X : Type 0} {each : Bool → Path → X → Wanted} {all left : List X
       kept = kept_then loop.kept kept;
     }
 
-    -- where branches join
-    pub showing_at : {ys : List EvaluationNode} {s : Path} {c : Asking} → ys ≡ xs → s ≡ q → c ≡ b → Showing each all left ys p s a c
-    showing_at {c = c} e f h = subst₂ (λ ys s. Showing each all left ys p s a c) (sym e) (sym f) (subst (λ c. Showing each all left xs p q a c) (sym h) loop)
-
     pub showing_end : left ≡ [] → AreShown (map (each a.answer p) all) (trees_of xs)
     showing_end none = subst (AreShown (map (each a.answer p) all)) (append-nil (trees_of xs)) (loop.goes_on [] (subst (λ l. AreShown (map (each a.answer p) l) []) (sym none) tt))
 

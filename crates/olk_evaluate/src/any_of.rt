@@ -73,9 +73,10 @@ pub(crate) fn show_accepting<'a, N: Located<'a>>(
 {
     let mut accepting: Vec<EvaluationNode<'a>> = Vec::new(outcome.allocator());
     for schema in schemas {
-        if schema.is_valid(node, ctx) {
-            add_child(schema, node, path, ctx, &mut accepting)?;
+        if !schema.is_valid(node, ctx) {
+            continue;
         }
+        add_child(schema, node, path, ctx, &mut accepting)?;
     }
     let count = accepting.len();
     if accepting.is_empty() {

@@ -30,9 +30,10 @@ impl<'a, N: Located<'a>> Show<'a> for PropertyDependencies<N> {
         };
         let mut children: Vec<EvaluationNode<'a>> = Vec::new(outcome.allocator());
         for (_, choices, value) in self.dependencies.declared_members(members) {
-            if let Some(dependency) = choices.chosen_by(value) {
-                add_child(dependency, node, path, ctx, &mut children)?;
-            }
+            let Some(dependency) = choices.chosen_by(value) else {
+                continue;
+            };
+            add_child(dependency, node, path, ctx, &mut children)?;
         }
         outcome.take_children(children);
         Ok(())

@@ -5,24 +5,24 @@ use Rattle.olk_spec.specs.Names.{filter_once}
 use Rattle.olk_tree.proofs.Lists.{next_at, past_end}
 use Rattle.olk_reports.specs.Evaluations.{shown_of, tree_of}
 use Rattle.olk_evaluate.specs.Wanted.{ShowsAll, each_wanted, trees_of}
-use Rattle.olk_evaluate.proofs.Children.{accepting_these, emptiness_of, over_children, refusing_these, showing_start, showing_more, showing_none, showing_at, showing_end, those_next}
+use Rattle.olk_evaluate.proofs.Children.{accepting_these, emptiness_of, over_children, refusing_these, showing_start, showing_more, showing_none, showing_end, those_next}
 use Rattle.olk_evaluate.proofs.Shows.{as_before, kept_same, kept_asked, kept_then, shows_err}
 use Rattle.olk_evaluate.proofs.any_of.show_accepting.Goals as goal
-use Rattle.olk_evaluate.proofs.any_of.show_accepting.Goals.{then-is_valid+in_ok-add_child, else-is_valid}
 
 pub loop-schema-init : goal.loop-schema-init
 loop-schema-init g c = showing_start c.new-accepting.ensures.items refl
 
+pub loop-schema-preserved-then-not-is_valid : goal.loop-schema-preserved-then-not-is_valid
+loop-schema-preserved-then-not-is_valid g c =
+    let next = next_at c.deref-schema-items.ensures.value c.schema-item.is c.loop-schema-test.true in
+    let refuses = c.if-not-is_valid.ensures.verdict ∙ ap (g.N.Means.means c.schema-item.result (data_of c.args.node)).accepts c.loop-schema.invariant.kept.only.answer in
+    showing_none c.loop-schema.invariant (those_next _ next refuses) (kept_asked c.is_valid.ensures.only)
+
 pub loop-schema-preserved : goal.loop-schema-preserved
 loop-schema-preserved g c =
-    let asked = showing_none c.loop-schema.invariant refl (kept_asked c.is_valid.ensures.only) in
     let next = next_at c.deref-schema-items.ensures.value c.schema-item.is c.loop-schema-test.true in
-    let accepts = c.is_valid.ensures.verdict ∙ ap (g.N.Means.means c.schema-item.result (data_of c.args.node)).accepts c.loop-schema.invariant.kept.only.answer in
-    elim c.if-is_valid.branch [
-      | then-is_valid+in_ok-add_child w ↦ showing_at (showing_more asked (those_next _ next (sym w.if-is_valid.true ∙ accepts)) w.in_ok-add_child.ensures.shown w.add_child.ensures.kept)
-          (ap (λ v. v.items) w.accepting-is) w.path-is w.ctx-is
-      | else-is_valid w ↦ showing_at (showing_none asked (those_next _ next (sym w.if-is_valid.false ∙ accepts)) kept_same) (ap (λ v. v.items) w.accepting-is) w.path-is w.ctx-is
-    ]
+    let accepts = c.if-not-is_valid.ensures.verdict ∙ ap (g.N.Means.means c.schema-item.result (data_of c.args.node)).accepts c.loop-schema.invariant.kept.only.answer in
+    showing_more (showing_none c.loop-schema.invariant refl (kept_asked c.is_valid.ensures.only)) (those_next _ next accepts) c.in_ok-add_child.ensures.shown c.add_child.ensures.kept
 
 pub returns-in_err-add_child : goal.returns-in_err-add_child
 returns-in_err-add_child g c = shows_err c.from_residual.ensures.0 (kept_then c.loop-schema.invariant.kept (kept_then (kept_asked c.is_valid.ensures.only) c.add_child.ensures.kept))

@@ -24,12 +24,12 @@ returns-in_default g c = record {
 pub loop-choices-init : goal.loop-choices-init
 loop-choices-init g c = showing_start c.new-children.ensures.items refl
 
-pub loop-choices-preserved : goal.loop-choices-preserved
-loop-choices-preserved g c = showing_none c.loop-choices.invariant
+pub loop-choices-preserved-in_default-chosen_by : goal.loop-choices-preserved-in_default-chosen_by
+loop-choices-preserved-in_default-chosen_by g c = showing_none c.loop-choices.invariant
     (ap (flat_map chosen) c.in-Some-2.ensures.steps ∙ ap (λ ns. ns ++ flat_map chosen (left_of c.next.new.self)) (sym c.in_default-chosen_by.ensures)) kept_same
 
-pub loop-choices-preserved-in-Continue-1 : goal.loop-choices-preserved-in-Continue-1
-loop-choices-preserved-in-Continue-1 g c = showing_more c.loop-choices.invariant
+pub loop-choices-preserved : goal.loop-choices-preserved
+loop-choices-preserved g c = showing_more c.loop-choices.invariant
     (ap (flat_map chosen) c.in-Some-2.ensures.steps ∙ ap (λ ns. ns ++ flat_map chosen (left_of c.next.new.self)) (sym c.in-Some-chosen_by.ensures))
     c.in_ok-add_child.ensures.shown c.add_child.ensures.kept
 
