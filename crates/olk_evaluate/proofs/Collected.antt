@@ -1,5 +1,6 @@
 -- What is collected of members, one after another.
 use Rattle.std.proofs.Common.{◌≡◌, ℕ, ◌+◌, Bor, Bool, true, false, not, ◌&&◌, ◌||◌, cond, List, [], ◌∷◌, ◌++◌, map, Option, Some, None, Ok, is_none, is_some, option_map, option_to_list, drop, append_assoc, refl, sym, ap, subst, ◌∙◌}
+use mathlib.Core.Path.{subst₂}
 use Rattle.std.proofs.lemmas.List.{append-nil, map-append}
 use Rattle.serde_json.specs.Data.{Data}
 use Rattle.olk_spec.specs.Names.{Name, Path, ◌//◌, put_if, is_empty}
@@ -237,14 +238,18 @@ pub record OnTheWay {R N : Type 0} (w : Member R N) (spoken : Bool) (i : ℕ) (P
   pub leaves : Leaves (all_found w) (patterns_left w spoken i (drop i (sides_of w.keyword).patterns)) old new
 
 module _ {R N : Type 0} {w : Member R N} where
-  pub declared_done : {spoken : Bool} {P : Path} {b : Asking} {old new : Collected} → spoken ≡ is_some w.declared → CollectsMore (declared_here w) old new
-      → Kept w.path P w.asking b → OnTheWay w spoken 0 P b old new
-  declared_done is h kept = record {
+  pub declared_done : {declared : Option (ℕ × N)} {spoken : Bool} {P : Path} {b : Asking} {old new : Collected} → w.declared ≡ declared → spoken ≡ is_some w.declared
+      → CollectsMore (declared_found w.tree w.means w.asking.answer w.path w.name w.value declared) old new → Kept w.path P w.asking b → OnTheWay w spoken 0 P b old new
+  declared_done {old = old} {new} found is h kept = record {
     kept = kept;
-    leaves = leaves_more (declared_here w) (ap (λ s. both_found (declared_here w) (patterns_left w s 0 (sides_of w.keyword).patterns)) is ∙ after_declared w) leaves_all h;
+    leaves = leaves_more (declared_here w) (ap (λ s. both_found (declared_here w) (patterns_left w s 0 (sides_of w.keyword).patterns)) is ∙ after_declared w) leaves_all
+        (subst (λ d. CollectsMore (declared_found w.tree w.means w.asking.answer w.path w.name w.value d) old new) (sym found) h);
   }
 
   module _ {spoken : Bool} {i : ℕ} {P : Path} {b : Asking} {old new : Collected} (loop : OnTheWay w spoken i P b old new) where
+    pub on_the_way_at : {Q : Path} {c : Asking} {newer : Collected} → Q ≡ P → c ≡ b → newer ≡ new → OnTheWay w spoken i Q c old newer
+    on_the_way_at {c = c} e f h = subst₂ (λ Q z. OnTheWay w spoken i Q c old z) (sym e) (sym h) (subst (λ a. OnTheWay w spoken i P a old new) (sym f) loop)
+
     pub pattern_done : {e : CompiledPattern R × N} {known : Says} {shows matches : Bool} {S : Path} {c : Asking} {newer : Collected}
         → drop i (sides_of w.keyword).patterns ≡ e ∷ drop (i + 1) (sides_of w.keyword).patterns → known ≡ known_at (sides_of w.keyword) w.declared i
         → matches ≡ reads_as b.answer (known_or known (pattern_answers w.answers e.0 w.name))

@@ -6,7 +6,7 @@ ghost use Rattle.olk_spec.specs.Schemas.{listed};
 ghost use Rattle.olk_spec.specs.World.{reads_as};
 ghost use Rattle.olk_tree.specs.Additional.{known_or};
 ghost use Rattle.olk_tree.specs.Tables.{known_says};
-ghost use Rattle.olk_evaluate.specs.Additional.{Collects, CollectsMore, declared_found, match_found, member_found, members_found};
+ghost use Rattle.olk_evaluate.specs.Additional.{Collects, CollectsMore, match_found, member_found, members_found};
 ghost use Rattle.olk_evaluate.specs.Shows.{Shows};
 
 use crate::Located;
@@ -83,7 +83,9 @@ fn collect_member<'a, R: RegexEngine, N: Located<'a>>(
         member.entry.0.now (view member.entry.1.now))
         collected.old collected.new) }
 {
-    collect_declared(declared, member, path, ctx, collected)?;
+    if let Some((_, subschema)) = declared {
+        add_child_below(subschema, member, path, ctx, &mut collected.children)?;
+    }
     let are_shown = keyword.properties.is_none();
     let mut spoken = declared.is_some();
     for (index, entry) in keyword.patterns().iter().enumerate() {
@@ -97,29 +99,6 @@ fn collect_member<'a, R: RegexEngine, N: Located<'a>>(
     collected.additional.push(member.0)?;
     match &keyword.rest {
         Some(subschema) => add_child_below(subschema, member, path, ctx, &mut collected.children),
-        None => Ok(()),
-    }
-}
-
-/// What is declared at a member's name, if anything is.
-#[inline(always)]
-fn collect_declared<'a, N: Located<'a>>(
-    declared: Option<(usize, &'a N)>,
-    member: (&'a str, &'a Value),
-    path: &mut InstancePath,
-    ctx: &mut ValidationContext,
-    collected: &mut Collected<'a>,
-) -> Result<(), AllocError>
-    ensures { Shows result path.old path.new ctx.old ctx.new (λ _. CollectsMore
-        (declared_found N.tree N.means ctx.old.answer path.old
-        member.entry.0.now (view member.entry.1.now)
-        (option_map (λ f. (f.0, f.1.now)) declared.entry))
-        collected.old collected.new) }
-{
-    match declared {
-        Some((_, subschema)) => {
-            add_child_below(subschema, member, path, ctx, &mut collected.children)
-        }
         None => Ok(()),
     }
 }
