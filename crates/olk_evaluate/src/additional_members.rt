@@ -1,5 +1,5 @@
 //! What `additionalProperties` and its neighbours meet of the members of an object.
-ghost use Rattle.std.specs.Prelude.{◌≡◌, [], option_map, IfOk};
+ghost use Rattle.std.specs.Prelude.{◌≡◌, option_map};
 ghost use Rattle.serde_json.specs.View.{view, members_view};
 ghost use Rattle.olk_base.specs.Compiled.{pattern_answers};
 ghost use Rattle.olk_spec.specs.Schemas.{listed};
@@ -29,21 +29,6 @@ pub(crate) struct Collected<'a> {
     pub(crate) matched: Vec<&'a str>,
 }
 
-impl<'a> Collected<'a> {
-    /// Nothing yet, with room for so many children.
-    fn with_capacity(alloc: Global, capacity: usize) -> Result<Collected<'a>, AllocError>
-        ensures children { IfOk result (λ c. c.children.items ≡ []) }
-        ensures additional { IfOk result (λ c. c.additional.items ≡ []) }
-        ensures matched { IfOk result (λ c. c.matched.items ≡ []) }
-    {
-        Ok(Collected {
-            children: Vec::with_capacity(alloc, capacity)?,
-            additional: Vec::new(alloc),
-            matched: Vec::new(alloc),
-        })
-    }
-}
-
 /// What is met of the members, in their order.
 pub(crate) fn collect<'a, R: RegexEngine, N: Located<'a>>(
     alloc: Global,
@@ -56,7 +41,11 @@ pub(crate) fn collect<'a, R: RegexEngine, N: Located<'a>>(
         (members_found R.answers N.tree N.means ctx.old.answer path.old keyword.now
         (listed (members_view members.now.entries))) c) }
 {
-    let mut collected: Collected<'a> = Collected::with_capacity(alloc, members.len())?;
+    let mut collected: Collected<'a> = Collected {
+        children: Vec::with_capacity(alloc, members.len())?,
+        additional: Vec::new(alloc),
+        matched: Vec::new(alloc),
+    };
     let mut hint = 0;
     for (name, value) in members {
         let name = name.as_str();
