@@ -3,10 +3,10 @@ use Rattle.std.specs.Prelude.{◌≡◌, ⊤, ℕ, length, Bool, false, not, Lis
 use Rattle.serde_json.specs.Data.{Data}
 use Rattle.std.specs.List.{list_all}
 use Rattle.olk_spec.specs.Names.{Name, Text, Path, filter_once, put_if, is_empty}
-use Rattle.olk_spec.specs.Faults.{Fault, fault, Required}
-use Rattle.olk_spec.specs.Tree.{Tree, IsLikeTree, is_valid, Described, AreTold, described, plain, erring}
+use Rattle.olk_spec.specs.Faults.{fault, Required}
+use Rattle.olk_spec.specs.Tree.{Tree, IsLikeTree, is_valid, Described, plain, erring}
 use Rattle.olk_spec.specs.Accepts.{missing}
-use Rattle.olk_reports.specs.Evaluations.{Shown, shown, errored, tree_of, node_at}
+use Rattle.olk_reports.specs.Evaluations.{Shown, shown, tree_of, node_at}
 use Rattle.olk_reports.specs.declared.evaluation.EvaluationNode.{EvaluationNode}
 use Rattle.olk_tree.specs.Bodies.{body_means, body_tree}
 use Rattle.olk_tree.specs.Questions.{Question, every}

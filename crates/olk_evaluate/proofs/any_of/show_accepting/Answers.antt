@@ -6,7 +6,7 @@ use Rattle.olk_tree.proofs.Lists.{next_at, past_end}
 use Rattle.olk_reports.specs.Evaluations.{shown_of, tree_of}
 use Rattle.olk_evaluate.specs.Wanted.{ShowsAll, each_wanted, trees_of}
 use Rattle.olk_evaluate.proofs.Children.{accepting_these, emptiness_of, over_children, refusing_these, showing_start, showing_more, showing_none, showing_end, those_next}
-use Rattle.olk_evaluate.proofs.Shows.{as_before, kept_same, kept_asked, kept_then, shows_err}
+use Rattle.olk_evaluate.proofs.Shows.{as_before, kept_asked, kept_then, shows_err}
 use Rattle.olk_evaluate.proofs.any_of.show_accepting.Goals as goal
 
 pub loop-schema-init : goal.loop-schema-init

@@ -1,5 +1,5 @@
 use Rattle.std.proofs.Common.{◌∙◌}
-use Rattle.olk_evaluate.proofs.Children.{empty_last, shows_last}
+use Rattle.olk_evaluate.proofs.Children.{shows_last}
 use Rattle.olk_evaluate.proofs.Shows.{kept_same, shows_err, shows_weaker}
 use Rattle.olk_evaluate.proofs.walk.add_child.Goals as goal
 
