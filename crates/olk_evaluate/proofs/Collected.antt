@@ -1,27 +1,23 @@
 -- What is collected of members, one after another.
-use Rattle.std.proofs.Common.{◌≡◌, ℕ, ◌+◌, Bor, Bool, true, false, not, ◌&&◌, ◌||◌, cond, List, [], ◌∷◌, ◌++◌, map, Option, Some, None, Ok, is_none, is_some, option_map, option_to_list, drop, append_assoc, refl, sym, ap, subst, ◌∙◌}
-use mathlib.Core.Path.{subst₂}
+use Rattle.std.proofs.Common.{◌≡◌, ℕ, ◌+◌, Bool, true, false, not, ◌&&◌, ◌||◌, cond, List, [], ◌∷◌, ◌++◌, map, Option, Some, None, is_none, is_some, option_map, option_to_list, drop, append_assoc, refl, sym, ap, subst, ◌∙◌}
 use Rattle.std.proofs.lemmas.List.{append-nil, map-append}
 use Rattle.serde_json.specs.Data.{Data}
-use Rattle.olk_spec.specs.Names.{Name, Path, ◌//◌, put_if, is_empty}
+use Rattle.olk_spec.specs.Names.{Name, Path, put_if, is_empty}
 use Rattle.olk_spec.specs.World.{Says, reads_as}
 use Rattle.olk_spec.specs.Tree.{Tree}
 use Rattle.olk_base.specs.Lawful.{Asking}
-use Rattle.olk_base.specs.Compiled.{pattern_answers, pattern_costs}
+use Rattle.olk_base.specs.Compiled.{pattern_answers}
 use Rattle.olk_base.specs.declared.pattern.CompiledPattern.{CompiledPattern}
 use Rattle.olk_tree.specs.Questions.{Question}
-use Rattle.olk_tree.specs.Additional.{known_at, known_or, known_or_asked, is_matched_by, matching_from, sides_of}
-use Rattle.olk_tree.specs.AdditionalAgreement.{match_is_said}
-use Rattle.olk_tree.specs.Matched.{match_question}
+use Rattle.olk_tree.specs.Additional.{known_at, known_or, is_matched_by, matching_from, sides_of}
 use Rattle.olk_tree.specs.declared.additional_properties.AdditionalProperties.{AdditionalProperties}
 use Rattle.olk_reports.specs.Evaluations.{tree_of}
-use Rattle.olk_check.specs.Asks.{Asks}
-use Rattle.olk_evaluate.specs.Wanted.{Wanted, AreShown, ShowsMore, wanted, trees_of}
+use Rattle.olk_evaluate.specs.Wanted.{Wanted, AreShown, ShowsMore, trees_of}
 use Rattle.olk_evaluate.specs.Additional.{Found, Collects, CollectsMore, names_of, nodes_wanted, declared_found, match_found, rest_found, member_found, found_at, members_found}
 use Rattle.olk_evaluate.specs.declared.additional_members.Collected.{Collected}
-use Rattle.olk_evaluate.specs.Shows.{Kept, Shows}
+use Rattle.olk_evaluate.specs.Shows.{Kept}
 use Rattle.olk_evaluate.proofs.Members.{shown_append}
-use Rattle.olk_evaluate.proofs.Shows.{kept_same, kept_asked, kept_then, as_before}
+use Rattle.olk_evaluate.proofs.Shows.{kept_same, kept_then, as_before}
 
 abbrev pub nothing_found : Found
 nothing_found = record { wanted = []; additional = []; matched = [] }
@@ -52,10 +48,6 @@ collects_both {f} {g} {a} h k = record {
   shown = shown_append f.wanted g.wanted h.added k.added h.shown k.shown;
 }
 
--- one name more
-pub pushed_name : (old : List (Bor (List ℕ))) (n : Bor (List ℕ)) {new : List (Bor (List ℕ))} → new ≡ old ++ n ∷ [] → names_of new ≡ names_of old ++ n.now ∷ []
-pushed_name old n h = ap names_of h ∙ map-append (λ m. m.now) old (n ∷ [])
-
 -- one child more, and such names
 pub collects_child : {w : Wanted} {ns ms : List Name} {a b : Collected}
     → names_of b.additional.items ≡ names_of a.additional.items ++ ns → names_of b.matched.items ≡ names_of a.matched.items ++ ms → ShowsMore w a.children.items b.children.items
@@ -76,40 +68,9 @@ pub collects_name : {ns ms : List Name} {a b : Collected} → names_of b.additio
 collects_name {a = a} additional matched same =
     record { additional = additional; matched = matched; added = []; children = ap trees_of same ∙ sym (append-nil (trees_of a.children.items)); shown = tt }
 
-collects_no_match : (shows : Bool) (a : Collected) → CollectsMore (record { wanted = []; additional = []; matched = cond shows [] [] }) a a
+pub collects_no_match : (shows : Bool) (a : Collected) → CollectsMore (record { wanted = []; additional = []; matched = cond shows [] [] }) a a
 collects_no_match true a = collects_nothing a
 collects_no_match false a = collects_nothing a
-
--- ---- a pattern, whose node is shown if the pattern matches
-
-module _ {R N : Type 0} (answers : R → Name → Says) (costs : R → Bool) (t : N → Bool → Data → Path → Tree) (m : N → Data → Question)
-    (known : Says) (e : CompiledPattern R × N) (n : Name) (x : Data) (shows : Bool) where
-  abbrev IsAnswered : Asking → Asking → Bool → Type 0
-  IsAnswered a b v = Asks a b (known_or_asked known (match_question answers costs e.0 n)) v
-
-  abbrev Matched : Asking → Path → Collected → Collected → Bool → Type 0
-  Matched a P old new v = v ≡ reads_as a.answer (known_or known (pattern_answers answers e.0 n)) × CollectsMore (match_found t m a.answer P n x shows e.1 v) old new
-
-  module _ {a b : Asking} where
-    verdict : {v : Bool} → IsAnswered a b v → v ≡ reads_as a.answer (known_or known (pattern_answers answers e.0 n))
-    verdict asked = asked.verdict ∙ match_is_said a.answer (pattern_costs costs e.0) known (pattern_answers answers e.0 n)
-
-    pub no_match_collected : {E : Type 0} {P : Path} → IsAnswered a b false → (old : Collected) → Shows {E = E} (Ok false) P P a b (Matched a P old old)
-    no_match_collected asked old = record { shown = (verdict asked, collects_no_match shows old); kept = kept_asked asked.only }
-
-    pub match_collected : {E : Type 0} {P Q : Path} {c : Asking} {old new : Collected} {is_named : Bool} → IsAnswered a b true
-        → ShowsMore (wanted t m b.answer e.1 x (P // n)) old.children.items new.children.items → Kept P Q b c
-        → shows ≡ is_named → names_of new.matched.items ≡ names_of old.matched.items ++ cond is_named (n ∷ []) []
-        → names_of new.additional.items ≡ names_of old.additional.items → Shows {E = E} (Ok true) P Q a c (Matched a P old new)
-    match_collected {old = old} {new} asked more kept is matched same = record {
-      shown = (
-        verdict asked,
-        collects_child (same ∙ sym (append-nil (names_of old.additional.items)))
-            (matched ∙ ap (λ b. names_of old.matched.items ++ cond b (n ∷ []) []) (sym is))
-            (as_before (λ u S. ShowsMore (wanted t m u e.1 x (S // n)) old.children.items new.children.items) (kept_asked asked.only) more),
-      );
-      kept = kept_then (kept_asked asked.only) kept;
-    }
 
 -- ---- what is left adds up to all
 
@@ -238,18 +199,14 @@ pub record OnTheWay {R N : Type 0} (w : Member R N) (spoken : Bool) (i : ℕ) (P
   pub leaves : Leaves (all_found w) (patterns_left w spoken i (drop i (sides_of w.keyword).patterns)) old new
 
 module _ {R N : Type 0} {w : Member R N} where
-  pub declared_done : {declared : Option (ℕ × N)} {spoken : Bool} {P : Path} {b : Asking} {old new : Collected} → w.declared ≡ declared → spoken ≡ is_some w.declared
-      → CollectsMore (declared_found w.tree w.means w.asking.answer w.path w.name w.value declared) old new → Kept w.path P w.asking b → OnTheWay w spoken 0 P b old new
-  declared_done {old = old} {new} found is h kept = record {
+  pub declared_done : {spoken : Bool} {P : Path} {b : Asking} {old new : Collected} → spoken ≡ is_some w.declared → CollectsMore (declared_here w) old new
+      → Kept w.path P w.asking b → OnTheWay w spoken 0 P b old new
+  declared_done is h kept = record {
     kept = kept;
-    leaves = leaves_more (declared_here w) (ap (λ s. both_found (declared_here w) (patterns_left w s 0 (sides_of w.keyword).patterns)) is ∙ after_declared w) leaves_all
-        (subst (λ d. CollectsMore (declared_found w.tree w.means w.asking.answer w.path w.name w.value d) old new) (sym found) h);
+    leaves = leaves_more (declared_here w) (ap (λ s. both_found (declared_here w) (patterns_left w s 0 (sides_of w.keyword).patterns)) is ∙ after_declared w) leaves_all h;
   }
 
   module _ {spoken : Bool} {i : ℕ} {P : Path} {b : Asking} {old new : Collected} (loop : OnTheWay w spoken i P b old new) where
-    pub on_the_way_at : {Q : Path} {c : Asking} {newer : Collected} → Q ≡ P → c ≡ b → newer ≡ new → OnTheWay w spoken i Q c old newer
-    on_the_way_at {c = c} e f h = subst₂ (λ Q z. OnTheWay w spoken i Q c old z) (sym e) (sym h) (subst (λ a. OnTheWay w spoken i P a old new) (sym f) loop)
-
     pub pattern_done : {e : CompiledPattern R × N} {known : Says} {shows matches : Bool} {S : Path} {c : Asking} {newer : Collected}
         → drop i (sides_of w.keyword).patterns ≡ e ∷ drop (i + 1) (sides_of w.keyword).patterns → known ≡ known_at (sides_of w.keyword) w.declared i
         → matches ≡ reads_as b.answer (known_or known (pattern_answers w.answers e.0 w.name))
@@ -267,11 +224,10 @@ module _ {R N : Type 0} {w : Member R N} where
     pub patterns_done : drop i (sides_of w.keyword).patterns ≡ [] → spoken ≡ true → CollectsMore (all_found w) old new
     patterns_done none is = leaves_nothing (spoken_of w spoken i none is) loop.leaves
 
-    pub rest_done : {rest : Option N} {newer : Collected} → drop i (sides_of w.keyword).patterns ≡ [] → spoken ≡ false → w.keyword.rest ≡ rest
-        → CollectsMore (rest_found w.tree w.means b.answer P w.name w.value rest) new newer → CollectsMore (all_found w) old newer
-    rest_done {newer = newer} none is rest found = leaves_last (rest_here w) (left_to_rest w spoken i none is) loop.leaves
-        (as_before (λ u Q. CollectsMore (rest_found w.tree w.means u Q w.name w.value w.keyword.rest) new newer) loop.kept
-        (subst (λ o. CollectsMore (rest_found w.tree w.means b.answer P w.name w.value o) new newer) (sym rest) found))
+    pub rest_done : {newer : Collected} → drop i (sides_of w.keyword).patterns ≡ [] → spoken ≡ false
+        → CollectsMore (rest_found w.tree w.means b.answer P w.name w.value w.keyword.rest) new newer → CollectsMore (all_found w) old newer
+    rest_done {newer} none is found = leaves_last (rest_here w) (left_to_rest w spoken i none is) loop.leaves
+        (as_before (λ u Q. CollectsMore (rest_found w.tree w.means u Q w.name w.value w.keyword.rest) new newer) loop.kept found)
 
 -- ---- members
 

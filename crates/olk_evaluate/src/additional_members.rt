@@ -1,12 +1,12 @@
 //! What `additionalProperties` and its neighbours meet of the members of an object.
-ghost use Rattle.std.specs.Prelude.{◌≡◌, option_map};
+ghost use Rattle.std.specs.Prelude.{◌≡◌, ◌++◌, ◌∷◌, [], cond, option_map, is_none, IfOk, OnOk};
 ghost use Rattle.serde_json.specs.View.{view, members_view};
 ghost use Rattle.olk_base.specs.Compiled.{pattern_answers};
 ghost use Rattle.olk_spec.specs.Schemas.{listed};
 ghost use Rattle.olk_spec.specs.World.{reads_as};
 ghost use Rattle.olk_tree.specs.Additional.{known_or};
 ghost use Rattle.olk_tree.specs.Tables.{known_says};
-ghost use Rattle.olk_evaluate.specs.Additional.{Collects, CollectsMore, match_found, member_found, members_found};
+ghost use Rattle.olk_evaluate.specs.Additional.{Collects, CollectsMore, declared_found, match_found, rest_found, member_found, members_found, names_of};
 ghost use Rattle.olk_evaluate.specs.Shows.{Shows};
 
 use crate::Located;
@@ -29,6 +29,33 @@ pub(crate) struct Collected<'a> {
     pub(crate) matched: Vec<&'a str>,
 }
 
+impl<'a> Collected<'a> {
+    /// Nothing yet, with room for so many children.
+    fn with_capacity(alloc: Global, capacity: usize) -> Result<Collected<'a>, AllocError>
+        ensures children { IfOk result (λ c. c.children.items ≡ []) }
+        ensures additional { IfOk result (λ c. c.additional.items ≡ []) }
+        ensures matched { IfOk result (λ c. c.matched.items ≡ []) }
+    {
+        Ok(Collected {
+            children: Vec::with_capacity(alloc, capacity)?,
+            additional: Vec::new(alloc),
+            matched: Vec::new(alloc),
+        })
+    }
+}
+
+/// The name behind these, where it is shown.
+#[inline(always)]
+fn push_if<'a>(names: &mut Vec<&'a str>, name: &'a str, is_shown: bool) -> Result<(), AllocError>
+    ensures { OnOk result (names_of names.new.items
+        ≡ names_of names.old.items ++ cond is_shown (name.entry.now ∷ []) []) }
+{
+    if is_shown {
+        names.push(name)?;
+    }
+    Ok(())
+}
+
 /// What is met of the members, in their order.
 pub(crate) fn collect<'a, R: RegexEngine, N: Located<'a>>(
     alloc: Global,
@@ -41,11 +68,7 @@ pub(crate) fn collect<'a, R: RegexEngine, N: Located<'a>>(
         (members_found R.answers N.tree N.means ctx.old.answer path.old keyword.now
         (listed (members_view members.now.entries))) c) }
 {
-    let mut collected: Collected<'a> = Collected {
-        children: Vec::with_capacity(alloc, members.len())?,
-        additional: Vec::new(alloc),
-        matched: Vec::new(alloc),
-    };
+    let mut collected: Collected<'a> = Collected::with_capacity(alloc, members.len())?;
     let mut hint = 0;
     for (name, value) in members {
         let name = name.as_str();
@@ -72,9 +95,7 @@ fn collect_member<'a, R: RegexEngine, N: Located<'a>>(
         member.entry.0.now (view member.entry.1.now))
         collected.old collected.new) }
 {
-    if let Some((_, subschema)) = declared {
-        add_child_below(subschema, member, path, ctx, &mut collected.children)?;
-    }
+    collect_declared(declared, member, path, ctx, collected)?;
     let are_shown = keyword.properties.is_none();
     let mut spoken = declared.is_some();
     for (index, entry) in keyword.patterns().iter().enumerate() {
@@ -85,9 +106,28 @@ fn collect_member<'a, R: RegexEngine, N: Located<'a>>(
     if spoken {
         return Ok(());
     }
-    collected.additional.push(member.0)?;
-    match &keyword.rest {
-        Some(subschema) => add_child_below(subschema, member, path, ctx, &mut collected.children),
+    collect_additional(&keyword.rest, member, path, ctx, collected)
+}
+
+/// What is declared at a member's name, if anything is.
+#[inline(always)]
+fn collect_declared<'a, N: Located<'a>>(
+    declared: Option<(usize, &'a N)>,
+    member: (&'a str, &'a Value),
+    path: &mut InstancePath,
+    ctx: &mut ValidationContext,
+    collected: &mut Collected<'a>,
+) -> Result<(), AllocError>
+    ensures { Shows result path.old path.new ctx.old ctx.new (λ _. CollectsMore
+        (declared_found N.tree N.means ctx.old.answer path.old
+        member.entry.0.now (view member.entry.1.now)
+        (option_map (λ f. (f.0, f.1.now)) declared.entry))
+        collected.old collected.new) }
+{
+    match declared {
+        Some((_, subschema)) => {
+            add_child_below(subschema, member, path, ctx, &mut collected.children)
+        }
         None => Ok(()),
     }
 }
@@ -114,8 +154,30 @@ fn collect_if_matched<'a, R: RegexEngine, N: Located<'a>>(
         return Ok(false);
     }
     add_child_below(&entry.1, member, path, ctx, &mut collected.children)?;
-    if is_shown {
-        collected.matched.push(member.0)?;
-    }
+    push_if(&mut collected.matched, member.0, is_shown)?;
     Ok(true)
+}
+
+/// A member that nothing else speaks of: its name, and what the rest shows of it, if there is a
+/// rest.
+#[inline(always)]
+fn collect_additional<'a, N: Located<'a>>(
+    rest: &'a Option<N>,
+    member: (&'a str, &'a Value),
+    path: &mut InstancePath,
+    ctx: &mut ValidationContext,
+    collected: &mut Collected<'a>,
+) -> Result<(), AllocError>
+    ensures { Shows result path.old path.new ctx.old ctx.new (λ _. CollectsMore
+        (rest_found N.tree N.means ctx.old.answer path.old
+        member.entry.0.now (view member.entry.1.now) rest.now)
+        collected.old collected.new) }
+{
+    collected.additional.push(member.0)?;
+    match rest {
+        Some(subschema) => {
+            add_child_below(subschema, member, path, ctx, &mut collected.children)
+        }
+        None => Ok(()),
+    }
 }

@@ -7,15 +7,15 @@ use Rattle.olk_evaluate.proofs.Collected.{walk_begins, member_done, members_done
 use Rattle.olk_evaluate.proofs.Shows.{kept_same, kept_then, shows_err}
 use Rattle.olk_evaluate.proofs.additional_members.collect.Goals as goal
 
-pub returns-in_err-with_capacity : goal.returns-in_err-with_capacity
-returns-in_err-with_capacity g c = shows_err c.from_residual.ensures.0 kept_same
+pub returns-in_err-collected : goal.returns-in_err-collected
+returns-in_err-collected g c = shows_err c.from_residual.ensures.0 kept_same
 
 pub returns-in_err-collect_member : goal.returns-in_err-collect_member
 returns-in_err-collect_member g c = shows_err c.from_residual-in_err-collect_member.ensures.0 (kept_then c.loop-name.invariant.kept c.collect_member.ensures.kept)
 
 pub returns : goal.returns
 returns g c = record {
-  shown = members_done c.loop-name.invariant (no_name_next c.in-None.ensures.steps.0) c.in_ok-with_capacity.ensures.items c.new.ensures.items c.new-2.ensures.items;
+  shown = members_done c.loop-name.invariant (no_name_next c.in-None.ensures.steps.0) c.in_ok-collected.ensures.children c.in_ok-collected.ensures.additional c.in_ok-collected.ensures.matched;
   kept = c.loop-name.invariant.kept;
 }
 
