@@ -33,18 +33,24 @@ use Rattle.olk_make.specs.declared.part.Part.{Part}
 use Rattle.olk_make.specs.declared.part.Patterns.{Patterns}
 use Rattle.olk_build.specs.Placing.{PartsAreBuilt, IsPart}
 use Rattle.olk_keywords.specs.Together.{restriction_members, NeighbourIsBuilt, TogetherAreBuilt}
-use Rattle.olk_keywords.proofs.Modules.{which_of, shape_named, only_properties, only_pattern_properties, zip_length}
+use Rattle.olk_keywords.proofs.Modules.{which_of, shape_named, no_other_properties, no_other_pattern_properties, zip_length}
 use Rattle.olk_keywords.proofs.Together.{neighbour_built, all_clean, all_spent}
+
+module _ {K R N : Type 0} (o : Kit K R) (answers : N → Answers) (ms : Members) where
+  -- what stands at `properties` is built, and what stands at `patternProperties`
+  abbrev pub DeclaredBeside : Option (DeclaredNodes N) → Path → Counts → Counts → Type 0
+  DeclaredBeside x P a b = NeighbourIsBuilt o ms (λ m. DeclaredStand o answers m (P // codes "properties")) x (codes "properties") P a b
+
+  abbrev pub PatternsBeside : Option (Patterns R N) → Path → Counts → Counts → Type 0
+  PatternsBeside x P a b = NeighbourIsBuilt o ms (λ m. PatternsStand o answers (known_of ms) m (P // codes "patternProperties")) x (codes "patternProperties") P a b
 
 -- a neighbour that is built at a place is built at the same place under another name
 module _ {K R N : Type 0} {o : Kit K R} {answers : N → Answers} {ms : Members} {P Q : Path} {a b : Counts} (place : Q ≡ P) where
-  pub declared_there : {x : Option (DeclaredNodes N)} → NeighbourIsBuilt o ms (λ m. DeclaredStand o answers m (Q // codes "properties")) x (codes "properties") Q a b
-      → NeighbourIsBuilt o ms (λ m. DeclaredStand o answers m (P // codes "properties")) x (codes "properties") P a b
-  declared_there {x} = subst (λ W. NeighbourIsBuilt o ms (λ m. DeclaredStand o answers m (W // codes "properties")) x (codes "properties") W a b) place
+  pub declared_there : {x : Option (DeclaredNodes N)} → DeclaredBeside o answers ms x Q a b → DeclaredBeside o answers ms x P a b
+  declared_there {x} = subst (λ W. DeclaredBeside o answers ms x W a b) place
 
-  pub patterns_there : {x : Option (Patterns R N)} → NeighbourIsBuilt o ms (λ m. PatternsStand o answers (known_of ms) m (Q // codes "patternProperties")) x (codes "patternProperties") Q a b
-      → NeighbourIsBuilt o ms (λ m. PatternsStand o answers (known_of ms) m (P // codes "patternProperties")) x (codes "patternProperties") P a b
-  patterns_there {x} = subst (λ W. NeighbourIsBuilt o ms (λ m. PatternsStand o answers (known_of ms) m (W // codes "patternProperties")) x (codes "patternProperties") W a b) place
+  pub patterns_there : {x : Option (Patterns R N)} → PatternsBeside o answers ms x Q a b → PatternsBeside o answers ms x P a b
+  patterns_there {x} = subst (λ W. PatternsBeside o answers ms x W a b) place
 
 module _ (ms : Members) where
   pub others_known : IsKnown (known_of ms) ms (codes "additionalProperties")
@@ -64,14 +70,13 @@ module _ {K R N : Type 0} (o : Kit K R) (answers : N → Answers) (ms : Members)
     declared_part = part ms P refl (declared_known ms)
 
     pub no_other_declared : ((n : List Name) → p.shape ≡ shape.Properties n → ⊥) → ⊥
-    no_other_declared f = let r = only_properties p.shape (shape_named o p.shape (codes "properties") d declared_part.stand.0.shape refl) in f r.0 r.1
+    no_other_declared other = no_other_properties _ other (shape_named o p.shape (codes "properties") d declared_part.stand.0.shape refl)
 
-    pub declared_built : (n : List Name) → p.shape ≡ shape.Properties n → lookup_name (codes "properties") (listed ms) ≡ Some d → NeighbourIsBuilt o ms
-        (λ x. DeclaredStand o answers x (P // codes "properties")) (Some (record { names = n; nodes = p.nodes })) (codes "properties") P a b
+    pub declared_built : (n : List Name) → p.shape ≡ shape.Properties n → lookup_name (codes "properties") (listed ms) ≡ Some d → DeclaredBeside o answers ms (Some (record { names = n; nodes = p.nodes })) P a b
     declared_built n q there =
         let s = declared_part.stand.0 in
         let named = subst (IsShape o (codes "properties") d) q s.shape in
-        neighbour_built o answers ms P (λ x. DeclaredStand o answers x (P // codes "properties")) (codes "properties") (record { names = n; nodes = p.nodes }) d p a b there declared_part
+        neighbour_built o answers ms P _ _ _ d p a b there declared_part
         (record { kind = named.1; names = named.2; nodes = subst (λ x. StandAt o answers (reads_of x) p.nodes.items d (P // codes "properties")) q s.nodes })
 
   -- ---- `patternProperties`
@@ -81,17 +86,15 @@ module _ {K R N : Type 0} (o : Kit K R) (answers : N → Answers) (ms : Members)
     patterns_part = part ms P refl (patterns_known ms)
 
     pub no_other_patterns : ((v : Vec (CompiledPattern R) Global) (t : Table) → p.shape ≡ shape.PatternProperties v t → ⊥) → ⊥
-    no_other_patterns f = let r = only_pattern_properties p.shape (shape_named o p.shape (codes "patternProperties") d patterns_part.stand.0.shape refl) in f r.0 r.1 r.2
+    no_other_patterns other = no_other_pattern_properties _ other (shape_named o p.shape (codes "patternProperties") d patterns_part.stand.0.shape refl)
 
     pub patterns_built : (v : Vec (CompiledPattern R) Global) (t : Table) → p.shape ≡ shape.PatternProperties v t → lookup_name (codes "patternProperties") (listed ms) ≡ Some d
-        → NeighbourIsBuilt o ms (λ x. PatternsStand o answers (known_of ms) x (P // codes "patternProperties"))
-        (Some (record { location = p.location; patterns = v; table = t; nodes = p.nodes })) (codes "patternProperties") P a b
+        → PatternsBeside o answers ms (Some (record { location = p.location; patterns = v; table = t; nodes = p.nodes })) P a b
     patterns_built v t q there =
         let s = patterns_part.stand.0 in
         let named = subst (IsShape o (codes "patternProperties") d) q s.shape in
         let fits = subst (Fits o (known_of ms)) q s.fits in
-        neighbour_built o answers ms P (λ x. PatternsStand o answers (known_of ms) x (P // codes "patternProperties")) (codes "patternProperties")
-        (record { location = p.location; patterns = v; table = t; nodes = p.nodes }) d p a b there patterns_part
+        neighbour_built o answers ms P _ _ _ d p a b there patterns_part
         (record {
           place = s.place;
           kind = named.1;
@@ -146,8 +149,8 @@ module _ {K R N : Type 0} (o : Kit K R) (answers : N → Answers) (ms : Members)
         let s = others_part.stand.0 in rest_there p.shape d p.nodes.items r (P // codes "additionalProperties")
         (shape_named o p.shape (codes "additionalProperties") d s.shape refl) s.shape not_true last s.nodes
 
-    module _ (b : Beside R N) {n e : Counts} (declared : NeighbourIsBuilt o ms (λ x. DeclaredStand o answers x (P // codes "properties")) b.properties (codes "properties") P m n)
-        (patterns : NeighbourIsBuilt o ms (λ x. PatternsStand o answers (known_of ms) x (P // codes "patternProperties")) b.patterns (codes "patternProperties") P n e)
+    module _ (b : Beside R N) {n e : Counts} (declared : DeclaredBeside o answers ms b.properties P m n)
+        (patterns : PatternsBeside o answers ms b.patterns P n e)
         {plan : Planned} (chosen : plan ≡ plan_of ms) where
       pub restriction_is_built : (ks : List (KeywordOver K R N)) → has_repeat (names_of (listed ms)) ≡ false → MakesRestriction o answers p.location r b P plan ks
           → lookup_name (codes "additionalProperties") (listed ms) ≡ Some d → TogetherAreBuilt o answers ms (codes "additionalProperties") d (restriction_members ms d) ks P a e

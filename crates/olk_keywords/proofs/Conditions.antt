@@ -3,7 +3,6 @@ use Rattle.std.specs.Prelude.{bytes_eq, ◌≡◌, true, false, List, [], ◌∷
 use Rattle.std.proofs.Common.{refl, sym, ap, subst}
 use Rattle.olk_spec.proofs.Truth.{and_first}
 use mathlib.Core.Bool.{true≢false}
-use mathlib.Core.Path.{subst₂}
 use Rattle.serde_json.specs.Data.{Data, Members}
 use Rattle.olk_spec.specs.Names.{Name, Path, ◌//◌, lookup_name}
 use Rattle.olk_spec.specs.Schemas.{listed}
@@ -74,8 +73,8 @@ module _ (ms : Members) (read : is_condition ms ≡ true) (P : Path) where
       module _ {b : Counts} {else_schema : Option N} (at_else : CaseIsBuilt o answers ms else_schema (codes "else") P n b) where
         pub if_is_formed : (k : KeywordOver K R N) → IsIf p.location (is_some then_schema) (is_some else_schema) k → IsIf (P // codes "if")
             (is_some (lookup_name (codes "then") (listed ms))) (is_some (lookup_name (codes "else") (listed ms))) k
-        if_is_formed k f = subst (λ L. IsIf L (is_some (lookup_name (codes "then") (listed ms))) (is_some (lookup_name (codes "else") (listed ms))) k) part_here.stand.0.place
-            (subst₂ (λ t e. IsIf p.location t e k) (stands_as _ then_schema _ at_then.stands) (stands_as _ else_schema _ at_else.stands) f)
+        if_is_formed k f =
+            subst (λ T. T) (λ i. IsIf (part_here.stand.0.place i) (stands_as _ then_schema _ at_then.stands i) (stands_as _ else_schema _ at_else.stands i) k) f
 
         spent : Spends a b (all_cost o ms (condition_members ms d))
         spent = all_spent o answers ms P (codes "if") (codes "then") (codes "else") d a m part_here.spends n at_then.spends b at_else.spends

@@ -1,10 +1,11 @@
 -- What a keyword's module builds of the keyword's part.
-use Rattle.std.specs.Prelude.{◌≡◌, ℕ, suc, ◌+◌, ◌&&◌, ◌||◌, true, false, cond, List, [], ◌∷◌, map, zip, length, codes, Option, Some, Vec, String}
+use Rattle.std.specs.Prelude.{◌≡◌, suc, ◌&&◌, ◌||◌, true, false, cond, List, [], ◌∷◌, map, zip, length, codes, Option, Some, Vec, String}
 use Rattle.std.specs.List.{enumerate_from}
 use Rattle.std.specs.declared.alloc.Global.{Global}
 use Rattle.std.specs.declared.alloc.AllocError.{AllocError}
 use Rattle.std.proofs.Common.{refl, sym, ◌∙◌, ap, subst}
 use Rattle.std.proofs.lemmas.List.{append-nil, length-map}
+use Rattle.std.proofs.lemmas.List.FromFn.{length-enumerate_from}
 use Rattle.std.proofs.Math.Bool.{and-false}
 use mathlib.Core.Bool.{true≢false}
 use mathlib.Core.Path.{subst₂}
@@ -47,29 +48,22 @@ use Rattle.olk_spec.proofs.CostSums.{sum_last}
 use Rattle.olk_read.proofs.Spending.{spends_same, refuses_memory, within_exactly}
 use Rattle.olk_make.proofs.Makes.{makes_required}
 
--- ---- how many
+-- ---- branches, and how many there are
 
-length-enumerated : {X : Type 0} (n : ℕ) (xs : List X) → length (enumerate_from n xs) ≡ length xs
-length-enumerated n [] = refl
-length-enumerated n (x ∷ xs) = ap (λ k. suc k) (length-enumerated (n + 1) xs)
-
-length-numbered : {X : Type 0} (xs : List X) → length (numbered xs) ≡ length xs
-length-numbered xs = length-map (enumerate_from 0 xs) _ ∙ length-enumerated 0 xs
-
-module _ {K R N : Type 0} (L : Path) (ns : List N) (d : Data) (e : length ns ≡ length (items_of_array d)) where
-  all_of_form : (k : KeywordOver K R N) → IsFormOfAllOf L ns k → IsAllOf L d k
-  all_of_form (keyword.AllOf k) f = ((λ q. f.1 (e ∙ q)), f.2)
-  all_of_form (keyword.SingleValueAllOf k) f = (sym e ∙ ap length f.0, f.1)
+module _ {K R N : Type 0} {L M : Path} (ns : List N) (d : Data) (e : length ns ≡ length (items_of_array d)) (place : L ≡ M) where
+  all_of_form : (k : KeywordOver K R N) → IsFormOfAllOf L ns k → IsAllOf M d k
+  all_of_form (keyword.AllOf k) f = ((λ q. f.1 (e ∙ q)), f.2 ∙ place)
+  all_of_form (keyword.SingleValueAllOf k) f = (sym e ∙ ap length f.0, f.1 ∙ place)
   all_of_form k f = absurd f
 
-  any_of_form : (k : KeywordOver K R N) → IsFormOfAnyOf L ns k → IsAnyOf L d k
-  any_of_form (keyword.AnyOf k) f = ((λ q. f.1 (e ∙ q)), f.2)
-  any_of_form (keyword.SingleAnyOf k) f = (sym e ∙ ap length f.0, f.1)
+  any_of_form : (k : KeywordOver K R N) → IsFormOfAnyOf L ns k → IsAnyOf M d k
+  any_of_form (keyword.AnyOf k) f = ((λ q. f.1 (e ∙ q)), f.2 ∙ place)
+  any_of_form (keyword.SingleAnyOf k) f = (sym e ∙ ap length f.0, f.1 ∙ place)
   any_of_form k f = absurd f
 
-  one_of_form : (k : KeywordOver K R N) → IsFormOfOneOf L ns k → IsOneOf L d k
-  one_of_form (keyword.OneOf k) f = ((λ q. f.1 (e ∙ q)), f.2)
-  one_of_form (keyword.SingleOneOf k) f = (sym e ∙ ap length f.0, f.1)
+  one_of_form : (k : KeywordOver K R N) → IsFormOfOneOf L ns k → IsOneOf M d k
+  one_of_form (keyword.OneOf k) f = ((λ q. f.1 (e ∙ q)), f.2 ∙ place)
+  one_of_form (keyword.SingleOneOf k) f = (sym e ∙ ap length f.0, f.1 ∙ place)
   one_of_form k f = absurd f
 
 module _ {K R N : Type 0} (o : Kit K R) (answers : N → Answers) where
@@ -124,37 +118,38 @@ module _ {K R : Type 0} where
   only_one_of shape.OneOf e = refl
   only_one_of x e = absurd (cc)
 
-  only_not : (x : Shape K R) → not_keyword ≡ which_of x → (v : Value) × (x ≡ shape.Not v)
-  only_not (shape.Not v) e = (v, refl)
-  only_not x e = absurd (cc)
+  -- a shape of a keyword that has one shape is no other
+  pub no_other_properties : (x : Shape K R) → ((n : List Name) → x ≡ shape.Properties n → ⊥) → properties ≡ which_of x → ⊥
+  no_other_properties (shape.Properties n) other e = other n refl
+  no_other_properties x other e = absurd (cc)
 
-  pub only_properties : (x : Shape K R) → properties ≡ which_of x → (n : List Name) × (x ≡ shape.Properties n)
-  only_properties (shape.Properties n) e = (n, refl)
-  only_properties x e = absurd (cc)
+  pub no_other_pattern_properties : (x : Shape K R) → ((v : Vec (CompiledPattern R) Global) (t : Table) → x ≡ shape.PatternProperties v t → ⊥) → pattern_properties ≡ which_of x → ⊥
+  no_other_pattern_properties (shape.PatternProperties v t) other e = other v t refl
+  no_other_pattern_properties x other e = absurd (cc)
 
-  pub only_pattern_properties : (x : Shape K R) → pattern_properties ≡ which_of x → (v : Vec (CompiledPattern R) Global) × (t : Table) × (x ≡ shape.PatternProperties v t)
-  only_pattern_properties (shape.PatternProperties v t) e = (v, t, refl)
-  only_pattern_properties x e = absurd (cc)
+  pub no_other_not : (x : Shape K R) → ((v : Value) → x ≡ shape.Not v → ⊥) → not_keyword ≡ which_of x → ⊥
+  no_other_not (shape.Not v) other e = other v refl
+  no_other_not x other e = absurd (cc)
 
-  only_required : (x : Shape K R) → required ≡ which_of x → (v : Vec (String Global) Global) × (x ≡ shape.Required v)
-  only_required (shape.Required v) e = (v, refl)
-  only_required x e = absurd (cc)
+  pub no_other_required : (x : Shape K R) → ((v : Vec (String Global) Global) → x ≡ shape.Required v → ⊥) → required ≡ which_of x → ⊥
+  no_other_required (shape.Required v) other e = other v refl
+  no_other_required x other e = absurd (cc)
 
-  only_dependent_required : (x : Shape K R) → dependent_required ≡ which_of x → (n : List Name) × (v : Vec (Vec (String Global) Global) Global) × (x ≡ shape.DependentRequired n v)
-  only_dependent_required (shape.DependentRequired n v) e = (n, v, refl)
-  only_dependent_required x e = absurd (cc)
+  pub no_other_dependent_required : (x : Shape K R) → ((n : List Name) (v : Vec (Vec (String Global) Global) Global) → x ≡ shape.DependentRequired n v → ⊥) → dependent_required ≡ which_of x → ⊥
+  no_other_dependent_required (shape.DependentRequired n v) other e = other n v refl
+  no_other_dependent_required x other e = absurd (cc)
 
-  only_dependent_schemas : (x : Shape K R) → dependent_schemas ≡ which_of x → (n : List Name) × (x ≡ shape.DependentSchemas n)
-  only_dependent_schemas (shape.DependentSchemas n) e = (n, refl)
-  only_dependent_schemas x e = absurd (cc)
+  pub no_other_dependent_schemas : (x : Shape K R) → ((n : List Name) → x ≡ shape.DependentSchemas n → ⊥) → dependent_schemas ≡ which_of x → ⊥
+  no_other_dependent_schemas (shape.DependentSchemas n) other e = other n refl
+  no_other_dependent_schemas x other e = absurd (cc)
 
-  only_dependencies : (x : Shape K R) → dependencies ≡ which_of x → (n : List Name) × (v : Vec (Option (Vec (String Global) Global)) Global) × (x ≡ shape.Dependencies n v)
-  only_dependencies (shape.Dependencies n v) e = (n, v, refl)
-  only_dependencies x e = absurd (cc)
+  pub no_other_dependencies : (x : Shape K R) → ((n : List Name) (v : Vec (Option (Vec (String Global) Global)) Global) → x ≡ shape.Dependencies n v → ⊥) → dependencies ≡ which_of x → ⊥
+  no_other_dependencies (shape.Dependencies n v) other e = other n v refl
+  no_other_dependencies x other e = absurd (cc)
 
-  only_property_dependencies : (x : Shape K R) → property_dependencies ≡ which_of x → (n : List Name) × (v : Vec (List Name) Global) × (x ≡ shape.PropertyDependencies n v)
-  only_property_dependencies (shape.PropertyDependencies n v) e = (n, v, refl)
-  only_property_dependencies x e = absurd (cc)
+  pub no_other_property_dependencies : (x : Shape K R) → ((n : List Name) (v : Vec (List Name) Global) → x ≡ shape.PropertyDependencies n v → ⊥) → property_dependencies ≡ which_of x → ⊥
+  no_other_property_dependencies (shape.PropertyDependencies n v) other e = other n v refl
+  no_other_property_dependencies x other e = absurd (cc)
 
 module _ {K R : Type 0} (o : Kit K R) where
   pub shape_named : (x : Shape K R) (k : Name) (d : Data) → IsShape o k d x → is_conditional_name k ≡ false → keyword_named o.world k ≡ which_of x
@@ -197,9 +192,15 @@ module _ {K R N : Type 0} {o : Kit K R} {answers : N → Answers} where
     stands : PartStands o answers (known_of no_members) p (k, d) P
     stands = stands_there P h no_members (known no_members)
 
-    member_built : {ks : List (KeywordOver K R N)} → MakesMember o answers p.shape p.location p.nodes.items ks → (ms : Members) (Q : Path) → P // k ≡ Q // k
-        → MemberIsBuilt o answers ms ks (k, d) Q a b
-    member_built make ms Q e = built_there P h ms (known ms) make Q e
+    pub named : is_conditional_name k ≡ false → keyword_named o.world k ≡ which_of p.shape
+    named = shape_named o p.shape k d stands.shape
+
+    -- whatever keywords its shape makes, they are what the member is built of
+    abbrev pub Makes : Shape K R → List (KeywordOver K R N) → Type 0
+    Makes x ks = MakesMember o answers x p.location p.nodes.items ks
+
+    abbrev pub Built : List (KeywordOver K R N) → Type 0
+    Built ks = (ms : Members) (Q : Path) → P // k ≡ Q // k → MemberIsBuilt o answers ms ks (k, d) Q a b
 
     claims_built : {ks : List (KeywordOver K R N)} {q : Planned} → MakesClaims o answers p.shape p.location p.nodes.items P q ks → (ms : Members)
         → has_repeat (map (λ m. m.0) (listed ms)) ≡ false → q ≡ plan_of ms → is_taken q k ≡ false → lookup_name k (listed ms) ≡ Some d → ClaimsAreBuilt o answers ms ks (k, d) P a b
@@ -219,9 +220,8 @@ module _ {K R N : Type 0} {o : Kit K R} {answers : N → Answers} where
       pub shape_is : IsShape o k d x
       shape_is = subst (IsShape o k d) q stands.shape
 
-      pub built_of_shape : {ks : List (KeywordOver K R N)} → MakesMember o answers x p.location p.nodes.items ks → (ms : Members) (Q : Path) → P // k ≡ Q // k
-          → MemberIsBuilt o answers ms ks (k, d) Q a b
-      built_of_shape {ks} make = member_built (subst (λ y. MakesMember o answers y p.location p.nodes.items ks) (sym q) make)
+      pub built_of_shape : {ks : List (KeywordOver K R N)} → Makes x ks → Built ks
+      built_of_shape {ks} make ms Q e = built_there P h ms (known ms) (subst (λ y. Makes y ks) (sym q) make) Q e
 
       nodes_stand : StandAt o answers (reads_of x) p.nodes.items d p.location
       nodes_stand = subst₂ (λ y L. StandAt o answers (reads_of y) p.nodes.items d L) q (sym stands.place) stands.nodes
@@ -243,10 +243,9 @@ module _ {K R N : Type 0} {o : Kit K R} {answers : N → Answers} where
       pub branches_counted : reads_of x ≡ Branches → length p.nodes.items ≡ length (items_of_array d)
       branches_counted r =
           stand_length o answers p.nodes.items (numbered (items_of_array d)) (P // k) (subst (λ y. StandAt o answers y p.nodes.items d (P // k)) (ap reads_of q ∙ r) stands.nodes)
-          ∙ length-numbered (items_of_array d)
+          ∙ length-map (enumerate_from 0 (items_of_array d)) _ ∙ length-enumerate_from 0 (items_of_array d)
 
-      pub built_without_nodes : reads_of x ≡ Nothing → {ks : List (KeywordOver K R N)} → MakesMember o answers x p.location [] ks → (ms : Members) (Q : Path)
-          → P // k ≡ Q // k → MemberIsBuilt o answers ms ks (k, d) Q a b
+      pub built_without_nodes : reads_of x ≡ Nothing → {ks : List (KeywordOver K R N)} → MakesMember o answers x p.location [] ks → Built ks
       built_without_nodes r {ks} make = built_of_shape (subst (λ ns. MakesMember o answers x p.location ns ks) (sym none) make)
         where
           none : p.nodes.items ≡ []
@@ -260,129 +259,58 @@ module _ {K R N : Type 0} {o : Kit K R} {answers : N → Answers} where
 
   module _ {p : Part K R N} {c : Known} {d : Data} (P : Path) {a b : Counts} where
     module _ (h : IsPart o answers p c (codes "allOf") d (P // codes "allOf") a b) where
-      all_of_shape : p.shape ≡ shape.AllOf
-      all_of_shape = only_all_of p.shape (shape_named o p.shape (codes "allOf") d (stands P h refl).shape refl)
-
-      pub all_of_built : {ks : List (KeywordOver K R N)} → MakesMember o answers shape.AllOf p.location p.nodes.items ks → (ms : Members) (Q : Path)
-          → P // codes "allOf" ≡ Q // codes "allOf" → MemberIsBuilt o answers ms ks (codes "allOf", d) Q a b
-      all_of_built = built_of_shape P h refl all_of_shape
+      pub all_of_shape : p.shape ≡ shape.AllOf
+      all_of_shape = only_all_of p.shape (named P h refl refl)
 
       pub all_of_is_formed : (k : KeywordOver K R N) → IsFormOfAllOf p.location p.nodes.items k → IsAllOf (P // codes "allOf") d k
-      all_of_is_formed k f =
-          subst (λ L. IsAllOf L d k) (stands P h refl).place
-          (all_of_form p.location p.nodes.items d (branches_counted P h refl all_of_shape refl) k f)
+      all_of_is_formed = all_of_form p.nodes.items d (branches_counted P h refl all_of_shape refl) (stands P h refl).place
 
     module _ (h : IsPart o answers p c (codes "anyOf") d (P // codes "anyOf") a b) where
-      any_of_shape : p.shape ≡ shape.AnyOf
-      any_of_shape = only_any_of p.shape (shape_named o p.shape (codes "anyOf") d (stands P h refl).shape refl)
-
-      pub any_of_built : {ks : List (KeywordOver K R N)} → MakesMember o answers shape.AnyOf p.location p.nodes.items ks → (ms : Members) (Q : Path)
-          → P // codes "anyOf" ≡ Q // codes "anyOf" → MemberIsBuilt o answers ms ks (codes "anyOf", d) Q a b
-      any_of_built = built_of_shape P h refl any_of_shape
+      pub any_of_shape : p.shape ≡ shape.AnyOf
+      any_of_shape = only_any_of p.shape (named P h refl refl)
 
       pub any_of_is_formed : (k : KeywordOver K R N) → IsFormOfAnyOf p.location p.nodes.items k → IsAnyOf (P // codes "anyOf") d k
-      any_of_is_formed k f =
-          subst (λ L. IsAnyOf L d k) (stands P h refl).place
-          (any_of_form p.location p.nodes.items d (branches_counted P h refl any_of_shape refl) k f)
+      any_of_is_formed = any_of_form p.nodes.items d (branches_counted P h refl any_of_shape refl) (stands P h refl).place
 
     module _ (h : IsPart o answers p c (codes "oneOf") d (P // codes "oneOf") a b) where
-      one_of_shape : p.shape ≡ shape.OneOf
-      one_of_shape = only_one_of p.shape (shape_named o p.shape (codes "oneOf") d (stands P h refl).shape refl)
-
-      pub one_of_built : {ks : List (KeywordOver K R N)} → MakesMember o answers shape.OneOf p.location p.nodes.items ks → (ms : Members) (Q : Path)
-          → P // codes "oneOf" ≡ Q // codes "oneOf" → MemberIsBuilt o answers ms ks (codes "oneOf", d) Q a b
-      one_of_built = built_of_shape P h refl one_of_shape
+      pub one_of_shape : p.shape ≡ shape.OneOf
+      one_of_shape = only_one_of p.shape (named P h refl refl)
 
       pub one_of_is_formed : (k : KeywordOver K R N) → IsFormOfOneOf p.location p.nodes.items k → IsOneOf (P // codes "oneOf") d k
-      one_of_is_formed k f =
-          subst (λ L. IsOneOf L d k) (stands P h refl).place
-          (one_of_form p.location p.nodes.items d (branches_counted P h refl one_of_shape refl) k f)
+      one_of_is_formed = one_of_form p.nodes.items d (branches_counted P h refl one_of_shape refl) (stands P h refl).place
 
-    module _ (h : IsPart o answers p c (codes "not") d (P // codes "not") a b) where
-      not_shape : (v : Value) × (p.shape ≡ shape.Not v)
-      not_shape = only_not p.shape (shape_named o p.shape (codes "not") d (stands P h refl).shape refl)
+    module _ (h : IsPart o answers p c (codes "not") d (P // codes "not") a b) (v : Value) (q : p.shape ≡ shape.Not v) where
+      pub not_without_node : p.nodes.items ≡ [] → ⊥
+      not_without_node e = subst (λ ns. StandAt o answers Itself ns d p.location) e (nodes_stand P h refl q)
 
-      pub no_other_not : ((v : Value) → p.shape ≡ shape.Not v → ⊥) → ⊥
-      no_other_not f = f not_shape.0 not_shape.1
+      pub not_is_formed : (k : KeywordOver K R N) → IsNot p.location (view v) k → IsNot (P // codes "not") d k
+      not_is_formed k f = subst₂ (λ L x. IsNot L x k) (stands P h refl).place (shape_is P h refl q).1 f
 
-      module _ (v : Value) (q : p.shape ≡ shape.Not v) where
-        pub not_without_node : p.nodes.items ≡ [] → ⊥
-        not_without_node e =
-            subst (λ ns. StandAt o answers Itself ns d (P // codes "not")) e
-            (subst (λ x. StandAt o answers (reads_of x) p.nodes.items d (P // codes "not")) q (stands P h refl).nodes)
+    module _ (h : IsPart o answers p c (codes "required") d (P // codes "required") a b) (v : Vec (String Global) Global) (q : p.shape ≡ shape.Required v) where
+      abbrev required_keyword : KeywordOver K R N
+      required_keyword = keyword.Required (record { required = v; location = p.location })
 
-        pub not_built : {ks : List (KeywordOver K R N)} → MakesMember o answers (shape.Not v) p.location p.nodes.items ks → (ms : Members) (Q : Path)
-            → P // codes "not" ≡ Q // codes "not" → MemberIsBuilt o answers ms ks (codes "not", d) Q a b
-        not_built = built_of_shape P h refl q
+      pub required_built : Built P h refl (required_keyword ∷ [])
+      required_built = built_of_shape P h refl q (makes_required o answers v p.location p.nodes.items)
 
-        pub not_is_formed : (k : KeywordOver K R N) → IsNot p.location (view v) k → IsNot (P // codes "not") d k
-        not_is_formed k f =
-            let s = stands P h refl in
-            subst₂ (λ L x. IsNot L x k) s.place (subst (IsShape o (codes "not") d) q s.shape).1 f
+      pub required_is_formed : IsRequired (P // codes "required") d required_keyword
+      required_is_formed = ((shape_is P h refl q).2, (stands P h refl).place)
 
-    module _ (h : IsPart o answers p c (codes "required") d (P // codes "required") a b) where
-      required_shape : (v : Vec (String Global) Global) × (p.shape ≡ shape.Required v)
-      required_shape = only_required p.shape (shape_named o p.shape (codes "required") d (stands P h refl).shape refl)
+    module _ (h : IsPart o answers p c (codes "properties") d (P // codes "properties") a b) (n : List Name) (q : p.shape ≡ shape.Properties n) (ms : Members) (r : Planned) (chosen : r ≡ plan_of ms) (free : r.restricted ≡ false) where
+      untaken : is_taken r (codes "properties") ≡ false
+      untaken = (λ i. (free i && true) || (r.condition && false)) ∙ and-false r.condition
 
-      pub no_other_required : ((v : Vec (String Global) Global) → p.shape ≡ shape.Required v → ⊥) → ⊥
-      no_other_required f = f required_shape.0 required_shape.1
+      pub properties_built : {ks : List (KeywordOver K R N)} → MakesClaims o answers (shape.Properties n) p.location p.nodes.items P r ks
+          → has_repeat (map (λ m. m.0) (listed ms)) ≡ false → lookup_name (codes "properties") (listed ms) ≡ Some d → ClaimsAreBuilt o answers ms ks (codes "properties", d) P a b
+      properties_built {ks} make distinct there =
+          claims_built P h refl (subst (λ x. MakesClaims o answers x p.location p.nodes.items P r ks) (sym q) make) ms distinct chosen untaken there
 
-      module _ (v : Vec (String Global) Global) (q : p.shape ≡ shape.Required v) where
-        abbrev required_keyword : KeywordOver K R N
-        required_keyword = keyword.Required (record { required = v; location = p.location })
+      properties_counted : length n ≡ length (members d)
+      properties_counted = ap length (shape_is P h refl q).2 ∙ length-map (members d) (λ e. e.0)
 
-        pub required_built : (ms : Members) (Q : Path) → P // codes "required" ≡ Q // codes "required" → MemberIsBuilt o answers ms (required_keyword ∷ []) (codes "required", d) Q a b
-        required_built =
-            member_built P h refl
-            (subst (λ x. MakesMember o answers x p.location p.nodes.items (required_keyword ∷ [])) (sym q) (makes_required o answers v p.location p.nodes.items))
-
-        pub required_is_formed : IsRequired (P // codes "required") d required_keyword
-        required_is_formed = let s = stands P h refl in ((subst (IsShape o (codes "required") d) q s.shape).2, s.place)
-
-    module _ (h : IsPart o answers p c (codes "properties") d (P // codes "properties") a b) where
-      properties_shape : (n : List Name) × (p.shape ≡ shape.Properties n)
-      properties_shape = only_properties p.shape (shape_named o p.shape (codes "properties") d (stands P h refl).shape refl)
-
-      pub no_other_properties : ((n : List Name) → p.shape ≡ shape.Properties n → ⊥) → ⊥
-      no_other_properties f = f properties_shape.0 properties_shape.1
-
-      pub properties_memory : {m : AllocError} (e : BuildError) → e ≡ Memory m → RefusesMember o (codes "properties") d (P // codes "properties") a b e
-      properties_memory = memory_after P h refl
-
-      module _ (n : List Name) (q : p.shape ≡ shape.Properties n) (ms : Members) (r : Planned) (chosen : r ≡ plan_of ms) (free : r.restricted ≡ false) where
-        untaken : is_taken r (codes "properties") ≡ false
-        untaken = (λ i. (free i && true) || (r.condition && false)) ∙ and-false r.condition
-
-        pub properties_built : {ks : List (KeywordOver K R N)} → MakesClaims o answers (shape.Properties n) p.location p.nodes.items P r ks
-            → has_repeat (map (λ m. m.0) (listed ms)) ≡ false → lookup_name (codes "properties") (listed ms) ≡ Some d → ClaimsAreBuilt o answers ms ks (codes "properties", d) P a b
-        properties_built {ks} make distinct there =
-            claims_built P h refl (subst (λ x. MakesClaims o answers x p.location p.nodes.items P r ks) (sym q) make) ms distinct chosen untaken there
-
-        properties_counted : length n ≡ length (members d)
-        properties_counted = ap length (shape_is P h refl q).2 ∙ length-map (members d) (λ e. e.0)
-
-        pub properties_is_formed : (k : KeywordOver K R N) → IsProperties P p.location (length n) r.fused_pair k → IsProperties P (P // codes "properties")
-            (length (members d)) (plan_of ms).fused_pair k
-        properties_is_formed k = subst (λ T. T) (λ i. IsProperties P ((stands P h refl).place i) (properties_counted i) ((chosen i).fused_pair) k)
-
-    module _ (h : IsPart o answers p c (codes "dependentRequired") d (P // codes "dependentRequired") a b) where
-      pub no_other_dependent_required : ((n : List Name) (v : Vec (Vec (String Global) Global) Global) → p.shape ≡ shape.DependentRequired n v → ⊥) → ⊥
-      no_other_dependent_required f =
-          let r = only_dependent_required p.shape (shape_named o p.shape (codes "dependentRequired") d (stands P h refl).shape refl) in f r.0 r.1 r.2
-
-    module _ (h : IsPart o answers p c (codes "dependentSchemas") d (P // codes "dependentSchemas") a b) where
-      pub no_other_dependent_schemas : ((n : List Name) → p.shape ≡ shape.DependentSchemas n → ⊥) → ⊥
-      no_other_dependent_schemas f =
-          let r = only_dependent_schemas p.shape (shape_named o p.shape (codes "dependentSchemas") d (stands P h refl).shape refl) in f r.0 r.1
-
-    module _ (h : IsPart o answers p c (codes "dependencies") d (P // codes "dependencies") a b) where
-      pub no_other_dependencies : ((n : List Name) (v : Vec (Option (Vec (String Global) Global)) Global) → p.shape ≡ shape.Dependencies n v → ⊥) → ⊥
-      no_other_dependencies f = let r = only_dependencies p.shape (shape_named o p.shape (codes "dependencies") d (stands P h refl).shape refl) in f r.0 r.1 r.2
-
-    module _ (h : IsPart o answers p c (codes "propertyDependencies") d (P // codes "propertyDependencies") a b) where
-      pub no_other_property_dependencies : ((n : List Name) (v : Vec (List Name) Global) → p.shape ≡ shape.PropertyDependencies n v → ⊥) → ⊥
-      no_other_property_dependencies f =
-          let r = only_property_dependencies p.shape (shape_named o p.shape (codes "propertyDependencies") d (stands P h refl).shape refl) in f r.0 r.1 r.2
+      pub properties_is_formed : (k : KeywordOver K R N) → IsProperties P p.location (length n) r.fused_pair k → IsProperties P (P // codes "properties")
+          (length (members d)) (plan_of ms).fused_pair k
+      properties_is_formed k = subst (λ T. T) (λ i. IsProperties P ((stands P h refl).place i) (properties_counted i) ((chosen i).fused_pair) k)
 
 -- ---- patterns, where nothing is restricted
 
@@ -398,8 +326,8 @@ module _ {K R N : Type 0} {o : Kit K R} {answers : N → Answers} where
     alone_stands : PartStands o answers (known_of no_members) p (codes "patternProperties", d) P
     alone_stands = stands_there P h no_members (patterns_known c no_members none refl)
 
-    pub no_other_pattern_properties : ((v : Vec (CompiledPattern R) Global) (t : Table) → p.shape ≡ shape.PatternProperties v t → ⊥) → ⊥
-    no_other_pattern_properties f = let r = only_pattern_properties p.shape (shape_named o p.shape (codes "patternProperties") d alone_stands.shape refl) in f r.0 r.1 r.2
+    pub patterns_named : pattern_properties ≡ which_of p.shape
+    patterns_named = shape_named o p.shape (codes "patternProperties") d alone_stands.shape refl
 
     pub pattern_properties_memory : {m : AllocError} (e : BuildError) → e ≡ Memory m → RefusesFreeMember o (codes "patternProperties") d (P // codes "patternProperties") a b e
     pattern_properties_memory e q ms Q f free = memory_there P h ms (patterns_known c ms none free) e q Q f

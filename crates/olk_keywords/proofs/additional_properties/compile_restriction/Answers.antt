@@ -1,12 +1,9 @@
 use Rattle.olk_base.specs.Kit.{kit}
-use Rattle.std.specs.Prelude.{codes, is_some, length, zip, option_map}
-use Rattle.std.proofs.Common.{rules, [], ◌∷◌, refl, ◌∙◌, subst}
+use Rattle.std.specs.Prelude.{codes}
+use Rattle.std.proofs.Common.{rules, [], ◌∷◌, refl, ◌∙◌}
 use Rattle.std.proofs.lemmas.Result.{IfOk-from_err}
 use Rattle.serde_json.specs.View.{view, members_view}
 use Rattle.olk_meaning.specs.Conditions.{known_of}
-use Rattle.olk_meaning.specs.Plans.{planned}
-use Rattle.olk_make.specs.Forms.{IsAdditionalProperties}
-use Rattle.olk_make.specs.Making.{MakesRestriction}
 use Rattle.olk_keywords.proofs.Together.{left_by, first_refused, second_refused, third_refused, memory_lost}
 use Rattle.olk_keywords.proofs.AdditionalProperties.{others_known, declared_there, patterns_there, restriction_is_built, restriction_is_formed}
 use Rattle.olk_keywords.proofs.additional_properties.compile_restriction.Goals as goal
@@ -68,9 +65,7 @@ returns g c = record {
         (declared_there c.compile_member.ensures.place c.in_ok-properties.ensures.builds.0)
         (patterns_there (c.compile_properties.ensures.place ∙ c.compile_member.ensures.place) c.in_ok-patterns.ensures.builds.0) c.of-plan.ensures.plan
         (c.in_ok-make.field-0 ∷ []) c.of-plan.ensures.distinct
-        (subst (λ Q. MakesRestriction (kit g.L.Leaf.Leaf g.M.Engine.RegexEngine) g.N.BuiltNode.answers c.in_ok-location.field-0.location c.pop.result
-        (record { properties = c.in_ok-properties.properties; patterns = c.in_ok-patterns.patterns }) Q (planned c.of-plan.result) (c.in_ok-make.field-0 ∷ []))
-        (c.compile_patterns.ensures.place ∙ c.compile_properties.ensures.place ∙ c.compile_member.ensures.place) c.in_ok-make.ensures.makes),
+        (rw (c.compile_patterns.ensures.place, c.compile_properties.ensures.place, c.compile_member.ensures.place) at c.in_ok-make.ensures.makes),
     tt,
   );
   form = restriction_is_formed (kit g.L.Leaf.Leaf g.M.Engine.RegexEngine) g.N.BuiltNode.answers
@@ -78,9 +73,7 @@ returns g c = record {
       (record { properties = c.in_ok-properties.properties; patterns = c.in_ok-patterns.patterns })
       (declared_there c.compile_member.ensures.place c.in_ok-properties.ensures.builds.0)
       (patterns_there (c.compile_properties.ensures.place ∙ c.compile_member.ensures.place) c.in_ok-patterns.ensures.builds.0) c.of-plan.ensures.plan c.in_ok-make.field-0
-      (subst (λ Q. IsAdditionalProperties Q c.in_ok-location.field-0.location (is_some c.pop.result) (option_map (λ m. length m.names) c.in_ok-properties.properties)
-      (option_map (λ x. length (zip x.patterns.items x.nodes.items)) c.in_ok-patterns.patterns) (planned c.of-plan.result).fused_one c.in_ok-make.field-0)
-      (c.compile_patterns.ensures.place ∙ c.compile_properties.ensures.place ∙ c.compile_member.ensures.place) c.in_ok-make.ensures.form);
+      (rw (c.compile_patterns.ensures.place, c.compile_properties.ensures.place, c.compile_member.ensures.place) at c.in_ok-make.ensures.form);
   place = c.compile_patterns.ensures.place ∙ c.compile_properties.ensures.place ∙ c.compile_member.ensures.place;
   same_meter = c.compile_patterns.ensures.same_meter ∙ c.compile_properties.ensures.same_meter ∙ c.compile_member.ensures.same_meter;
 }

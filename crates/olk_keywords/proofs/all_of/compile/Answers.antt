@@ -2,12 +2,12 @@ use Rattle.std.specs.Prelude.{codes}
 use Rattle.std.proofs.Common.{refl}
 use Rattle.olk_base.specs.Kit.{kit}
 use Rattle.serde_json.specs.View.{view}
-use Rattle.olk_keywords.proofs.Modules.{all_of_built, all_of_is_formed, refuses_member}
+use Rattle.olk_keywords.proofs.Modules.{built_of_shape, all_of_shape, all_of_is_formed, refuses_member}
 use Rattle.olk_keywords.proofs.all_of.compile.Goals as goal
 
 pub returns-in-Ok-clause-gives : goal.returns-in-Ok-clause-gives
 returns-in-Ok-clause-gives g c =
-    (all_of_built _ c.in-Ok.ensures.built c.make.ensures.makes, tt)
+    (built_of_shape _ c.in-Ok.ensures.built refl (all_of_shape _ c.in-Ok.ensures.built) c.make.ensures.makes, tt)
 
 pub returns-in-Ok-clause-form : goal.returns-in-Ok-clause-form
 returns-in-Ok-clause-form g c =

@@ -2,12 +2,12 @@ use Rattle.std.specs.Prelude.{codes}
 use Rattle.std.proofs.Common.{refl}
 use Rattle.serde_json.specs.View.{view}
 use Rattle.olk_base.specs.Kit.{kit}
-use Rattle.olk_keywords.proofs.Modules.{no_other_dependent_schemas, keys_of_shape, built_of_shape, memory_after, refuses_member}
+use Rattle.olk_keywords.proofs.Modules.{named, no_other_dependent_schemas, keys_of_shape, built_of_shape, memory_after, refuses_member}
 use Rattle.olk_keywords.proofs.dependencies.compile_dependent_schemas.Goals as goal
 
 pub unreachable-requires : goal.unreachable-requires
 unreachable-requires g c =
-    no_other_dependent_schemas _ c.in-Ok.ensures.built c.in_default.not-DependentSchemas
+    no_other_dependent_schemas _ c.in_default.not-DependentSchemas (named _ c.in-Ok.ensures.built refl refl)
 
 pub returns-in-Ok-make_schemas-clause-gives : goal.returns-in-Ok-make_schemas-clause-gives
 returns-in-Ok-make_schemas-clause-gives g c = (

@@ -1,13 +1,13 @@
 use Rattle.std.proofs.Common.{refl, rules}
 use Rattle.serde_json.specs.View.{view, members_view}
 use Rattle.olk_base.specs.Kit.{kit}
-use Rattle.olk_keywords.proofs.Modules.{none_known, no_other_pattern_properties, pattern_properties_built, pattern_properties_is_formed, pattern_properties_memory, refuses_free_member}
+use Rattle.olk_keywords.proofs.Modules.{none_known, no_other_pattern_properties, patterns_named, pattern_properties_built, pattern_properties_is_formed, pattern_properties_memory, refuses_free_member}
 use Rattle.olk_keywords.proofs.pattern_properties.compile.Goals as goal
 
 pub unreachable-requires : goal.unreachable-requires
 unreachable-requires g c =
-    no_other_pattern_properties
-    (none_known (members_view c.args.parent.now.entries) (search rules)) _ c.in-Ok.ensures.built c.in_default.not-PatternProperties
+    no_other_pattern_properties _ c.in_default.not-PatternProperties
+    (patterns_named (none_known (members_view c.args.parent.now.entries) (search rules)) _ c.in-Ok.ensures.built)
 
 pub returns-in-Ok-make-clause-gives : goal.returns-in-Ok-make-clause-gives
 returns-in-Ok-make-clause-gives g c = (

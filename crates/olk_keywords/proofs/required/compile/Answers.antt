@@ -2,11 +2,11 @@ use Rattle.std.specs.Prelude.{codes}
 use Rattle.std.proofs.Common.{refl}
 use Rattle.serde_json.specs.View.{view}
 use Rattle.olk_base.specs.Kit.{kit}
-use Rattle.olk_keywords.proofs.Modules.{no_other_required, required_built, required_is_formed, refuses_member}
+use Rattle.olk_keywords.proofs.Modules.{named, no_other_required, required_built, required_is_formed, refuses_member}
 use Rattle.olk_keywords.proofs.required.compile.Goals as goal
 
 pub unreachable-requires : goal.unreachable-requires
-unreachable-requires g c = no_other_required _ c.in-Ok.ensures.built c.in_default.not-Required
+unreachable-requires g c = no_other_required _ c.in_default.not-Required (named _ c.in-Ok.ensures.built refl refl)
 
 pub returns-in-Required-clause-gives : goal.returns-in-Required-clause-gives
 returns-in-Required-clause-gives g c =
