@@ -43,7 +43,8 @@ pub(crate) fn show_each<'a, N: Located<'a>>(
         (shown_of outcome.new)) }
 {
     let mut children: Vec<EvaluationNode<'a>> = Vec::with_capacity(
-        outcome.allocator(), schemas.len(),
+        outcome.allocator(),
+        schemas.len(),
     )?;
     for schema in schemas {
         add_child(schema, node, path, ctx, &mut children)?;
