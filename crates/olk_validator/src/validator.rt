@@ -191,9 +191,9 @@ impl<K: Leaf, R: RegexEngine> Validator<K, R> {
             → valid_tree (evaluated e)
             ≡ accepts (world K.Leaf R.RegexEngine) ctx.old.answer S (view instance.now)) }
     {
-        let instance = Node::Value(instance);
+        let node = Node::Value(instance);
         let mut path = InstancePath::new(alloc);
-        let outcome = self.root.evaluate(alloc, instance, &mut path, ctx)?;
+        let outcome = self.root.evaluate(alloc, node, &mut path, ctx)?;
         let location = self.root.location().as_str();
         let root = EvaluationNode::new(location, String::new(alloc), outcome);
         Ok(Evaluation::new(root))
