@@ -388,11 +388,19 @@ fn fill<'a>(
     tree: &str,
     place: &'a str,
 ) -> Result<String, AllocError> {
-    outcome.annotate(vec_of_one(alloc, place)?);
+    outcome.annotate(Vec::new(alloc));
+    outcome.annotate_also(place)?;
     if has_error(tree, place) {
         mark(alloc, outcome)?;
     }
     String::from_str(alloc, "/i")
+}
+
+/// Puts the nodes below a result, which is invalid where one of them is.
+fn put_below<'a>(outcome: &mut EvaluationResult<'a>, nodes: Vec<EvaluationNode<'a>>) {
+    let are_valid = nodes.iter().all(|node| node.valid());
+    outcome.children = nodes;
+    outcome.mark_invalid_unless(are_valid);
 }
 
 /// Adds a node that annotates its place, with the error of the tree there.
@@ -404,7 +412,7 @@ fn push_node<'a>(
     children: Vec<EvaluationNode<'a>>,
 ) -> Result<(), AllocError> {
     let mut outcome = EvaluationResult::valid_empty(alloc);
-    outcome.take_children(children);
+    put_below(&mut outcome, children);
     let path = fill(alloc, &mut outcome, tree, place)?;
     push(nodes, EvaluationNode::new(place, path, outcome))
 }
@@ -525,7 +533,7 @@ fn above_one(alloc: Global) -> Result<String, AllocError> {
     let mut nodes = Vec::new(alloc);
     push_node(alloc, &mut nodes, "node", "/oneOf/0", Vec::new(alloc))?;
     let mut outcome = EvaluationResult::valid_empty(alloc);
-    outcome.take_children(nodes);
+    put_below(&mut outcome, nodes);
     parts(alloc, "/oneOf", outcome)
 }
 

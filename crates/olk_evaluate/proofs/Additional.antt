@@ -1,10 +1,11 @@
 -- What is shown beside `additionalProperties`, of what is collected.
-use Rattle.std.proofs.Common.{◌≡◌, Bool, true, false, not, ◌&&◌, ◌||◌, cond, List, [], ◌∷◌, ◌++◌, map, Vec, Global, Option, Some, None, is_none, is_some, refl, sym, ap, subst, ◌∙◌}
-use Rattle.std.specs.List.{flat_map, list_all}
+use mathlib.Core.Bool.{beq}
+use Rattle.std.proofs.Common.{◌≡◌, Bool, true, false, not, ◌&&◌, ◌||◌, cond, List, [], ◌∷◌, ◌++◌, map, Vec, Global, Option, Some, None, is_none, is_some, refl, sym, ap, subst, append_assoc, ◌∙◌}
+use Rattle.std.specs.List.{flat_map}
 use Rattle.std.proofs.lemmas.List.Folds.{list_all-append}
 use Rattle.std.proofs.lemmas.List.{map-append}
 use Rattle.std.proofs.lemmas.Simd.{map-map}
-use Rattle.std.proofs.Math.Bool.{and_assoc, and-true, and_comm}
+use Rattle.std.proofs.Math.Bool.{and_assoc, and_comm}
 use Rattle.olk_spec.proofs.Walks.{and_middle}
 use Rattle.serde_json.specs.Data.{Data, Members, object}
 use Rattle.serde_json.specs.Find.{as_object}
@@ -14,7 +15,7 @@ use Rattle.olk_spec.specs.Faults.{Fault}
 use Rattle.olk_spec.specs.Reports.{unexpected_faults, required_faults}
 use Rattle.olk_spec.specs.Schemas.{listed, members, has}
 use Rattle.olk_spec.specs.Accepts.{missing}
-use Rattle.olk_spec.specs.Tree.{Tree, node, no_tree, described, is_valid, result, plain, erring}
+use Rattle.olk_spec.specs.Tree.{Tree, node, no_tree, described, result, plain, erring}
 use Rattle.olk_base.specs.declared.pattern.CompiledPattern.{CompiledPattern}
 use Rattle.olk_tree.specs.Questions.{Question, every}
 use Rattle.olk_tree.specs.Additional.{Sides, matching_from, at_name, nodes_matching, nodes_asked, is_additional, is_unexpected, faults_of_unexpected, additional_names, matched_names, additional_annotation, matches_child, additional_tree, repeats, member_means, additional_means, sides_of, mapped_places, patterns_in, has_neighbours, required_text, required_place}
@@ -24,15 +25,13 @@ use Rattle.olk_tree.specs.declared.properties_map.PropertiesMap.{PropertiesMap}
 use Rattle.olk_tree.specs.declared.additional_properties.RequiredName.{RequiredName}
 use Rattle.olk_tree.specs.declared.additional_properties.AdditionalProperties as validator
 use Rattle.olk_tree.proofs.Members_met.{object_is}
-use Rattle.olk_reports.specs.Evaluations.{Shown, shown, node_at, tree_of}
-use Rattle.olk_reports.specs.declared.evaluation.EvaluationNode.{EvaluationNode}
-use Rattle.olk_evaluate.specs.Wanted.{Wanted, IsShown, AreShown, AddsTrees, AddsShown, wanted, refused, lacking_trees, trees_of}
+use Rattle.olk_reports.specs.Evaluations.{AddsErrors, Shown, shown, nothing_shown, annotated, with_below, node_at}
+use Rattle.olk_evaluate.specs.Wanted.{Wanted, IsShown, ShowsMore, wanted, accepted, refused, lacking_trees}
 use Rattle.olk_check.proofs.Together.{each_is_all}
-use Rattle.olk_evaluate.specs.Additional.{Collects, names_of, nodes_wanted, members_found, matches_shown, rest_annotation, named_faults, faults_without_rest, Completes, HasPlaces}
+use Rattle.olk_evaluate.specs.Additional.{Collects, names_of, nodes_wanted, members_found, matches_shown, rest_annotation, named_faults, faults_without_rest, annotated_if, places_wanted, Completes}
 use Rattle.olk_evaluate.specs.declared.additional_members.Collected.{Collected}
-use Rattle.olk_evaluate.proofs.Children.{trees_wanted, all_wanted, same_trees, shown_as, shows_nothing}
-use Rattle.olk_evaluate.proofs.Members.{shown_append}
-use Rattle.olk_evaluate.proofs.OwnErrors.{all_there, complete_shown}
+use Rattle.olk_evaluate.proofs.Children.{trees_wanted, all_wanted, same_trees, shown_as, shows_nothing, shows_none, shows_both, shows_valid, from_nothing}
+use Rattle.olk_evaluate.proofs.OwnErrors.{adds_none, all_there, complete_shown}
 use Rattle.olk_evaluate.proofs.Patterns.{no_object, nothing_each}
 
 -- ---- names, trees and verdicts of the members
@@ -60,29 +59,73 @@ each_if f false xs = nothing_each xs
 
 -- ---- behind the children
 
-pub has_places : {R N : Type 0} {k : validator.AdditionalProperties R N} {r : Option RequiredName} {ns : List Name} {v w : Data} {P Q : Path} {old mid new : List EvaluationNode}
-    → AddsTrees (matches_shown ns P Q) old mid → P ≡ k.patterns_location
-    → AddsShown (refused (lacking_trees (required_text r) v w (required_place r) Q)) mid new → k.required ≡ r → HasPlaces k ns v w Q old new
-has_places {ns = ns} {v} {w} {Q = Q} found place more is = record {
-  matches = found.nodes;
-  missing = more.nodes;
-  parts = more.added ∙ ap (λ l. l ++ more.nodes) found.added;
-  matched = found.trees ∙ ap (λ P. matches_shown ns P Q) place;
-  lacking = subst (λ r. AreShown (refused (lacking_trees (required_text r) v w (required_place r) Q)) (trees_of more.nodes)) (sym is) more.shown;
-}
+pub has_places : {R N : Type 0} (k : validator.AdditionalProperties R N) (ns : List Name) (v w : Data) {P : Path} (Q : Path) {r : Option RequiredName} {a b c : Shown}
+    → ShowsMore (accepted (matches_shown ns P Q)) a b → P ≡ k.patterns_location → ShowsMore (refused (lacking_trees (required_text r) v w (required_place r) Q)) b c → k.required ≡ r
+    → ShowsMore (places_wanted k ns v w Q) a c
+has_places k ns v w Q {a = a} {b} {c} found place more is =
+    shows_both (subst (λ P. ShowsMore (accepted (matches_shown ns P Q)) a b) place found) (subst (λ r. ShowsMore (refused (lacking_trees (required_text r) v w (required_place r) Q)) b c) (sym is) more)
+
+-- ---- completed by the rest, or by errors where there is none
+
+-- where just one neighbour stands there, names are annotated only if there are some
+module _ (ns : List Name) where
+  abbrev annotated_beside : Bool → Bool → Bool → Option (List Name)
+  annotated_beside p q none = cond (cond p q (not q) || not none) (Some ns) None
+
+  beside_one : (p q none : Bool) → not (beq p q) ≡ true → annotated_beside p q none ≡ cond none None (Some ns)
+  beside_one true true none e = cc
+  beside_one true false true e = refl
+  beside_one true false false e = refl
+  beside_one false true true e = refl
+  beside_one false true false e = refl
+  beside_one false false none e = cc
+
+  beside_none_or_both : (p q none : Bool) → not (beq p q) ≡ false → annotated_beside p q none ≡ Some ns
+  beside_none_or_both true true none e = refl
+  beside_none_or_both true false none e = cc
+  beside_none_or_both false true none e = cc
+  beside_none_or_both false false none e = refl
+
+module _ {R N : Type 0} (k : validator.AdditionalProperties R N) (ns : List Name) (xs : List (Name × Data)) (v : Data) (s : Shown) {r : Shown} where
+  completed : {rest : N} → k.rest ≡ Some rest → r ≡ annotated_if (rest_annotation k ns) s → Completes k ns xs v s r
+  completed is e P Q = by k.rest (ap is_some is)
+    where
+      by : (o : Option N) → is_some o ≡ true → AddsErrors (cond (is_some o) [] (faults_without_rest k ns xs v P Q)) (annotated_if (cond (is_some o) (rest_annotation k ns) None) s) r
+      by None some = cc
+      by (Some n) some = subst (λ z. AddsErrors [] z r) e (adds_none r)
+
+  pub completed_beside_one : {rest : N} {p q none : Bool} → k.rest ≡ Some rest → p ≡ is_some k.properties → q ≡ is_some k.patterns → not (beq p q) ≡ true → none ≡ is_empty ns
+      → r ≡ annotated_if (cond none None (Some ns)) s → Completes k ns xs v s r
+  completed_beside_one {p = p} {q} {none} rest is_p is_q one empty e =
+      completed rest (e ∙ ap (λ a. annotated_if a s) (sym (beside_one ns p q none one) ∙ (λ i. annotated_beside ns (is_p i) (is_q i) (empty i))))
+
+  pub completed_beside_none_or_both : {rest : N} {p q : Bool} → k.rest ≡ Some rest → p ≡ is_some k.properties → q ≡ is_some k.patterns → not (beq p q) ≡ false → r ≡ annotated ns s → Completes k ns xs v s r
+  completed_beside_none_or_both {p = p} {q} rest is_p is_q others e =
+      completed rest (e ∙ ap (λ a. annotated_if a s) (sym (beside_none_or_both ns p q (is_empty ns) others) ∙ (λ i. annotated_beside ns (is_p i) (is_q i) (is_empty ns))))
+
+  pub completed_without_rest : {b : Bool} → k.rest ≡ None → b ≡ has_neighbours k → ((P Q : Path) → AddsErrors (cond b (named_faults ns v P Q) (unexpected_faults false xs v P Q)) s r) → Completes k ns xs v s r
+  completed_without_rest is beside errors P Q = by k.rest (ap is_some is)
+    where
+      by : (o : Option N) → is_some o ≡ false → AddsErrors (cond (is_some o) [] (faults_without_rest k ns xs v P Q)) (annotated_if (cond (is_some o) (rest_annotation k ns) None) s) r
+      by None none = subst (λ c. AddsErrors (cond c (named_faults ns v P Q) (unexpected_faults false xs v P Q)) s r) beside (errors P Q)
+      by (Some n) none = cc
 
 -- ---- trees that are to be valid
-
-abbrev accepted : List Tree → List Wanted
-accepted = map (λ t. (t, true))
 
 all_accepted : (ts : List Tree) → all_wanted (accepted ts) ≡ true
 all_accepted [] = refl
 all_accepted (t ∷ ts) = all_accepted ts
 
-matches_are_shown : (ns : List Name) (P Q : Path) → AreShown (accepted (matches_shown ns P Q)) (matches_shown ns P Q)
-matches_are_shown [] P Q = tt
-matches_are_shown (n ∷ ns) P Q = (record { like = (refl, refl, refl, refl, tt, tt); verdict = refl }, tt)
+pub no_match_shown : (ns : List Name) (P Q : Path) (s : Shown) → true ≡ is_empty ns → ShowsMore (accepted (matches_shown ns P Q)) s s
+no_match_shown [] P Q s e = shows_none s
+no_match_shown (n ∷ ns) P Q s e = cc
+
+-- a node is put below old, and its result annotated then
+pub some_matches_shown : (ns : List Name) (P Q R : Path) {s r old new : Shown} → Q ≡ R → false ≡ is_empty ns → s ≡ nothing_shown → r ≡ annotated ns s → new ≡ with_below (node_at P Q r ∷ []) old
+    → ShowsMore (accepted (matches_shown ns P R)) old new
+some_matches_shown [] P Q R same e none names below = cc
+some_matches_shown (n ∷ ns) P Q R {old = old} same e none names below =
+    shows_valid (record { like = (refl, refl, refl, refl, tt, tt); verdict = refl }) (below ∙ (λ i. with_below (node_at P (same i) ((names ∙ ap (annotated (n ∷ ns)) none) i) ∷ []) old)) refl
 
 faults_emptiness : (b : Bool) (xs : List (Name × Data)) (v : Data) (P Q : Path) → is_empty (unexpected_faults b xs v P Q) ≡ is_empty xs
 faults_emptiness b [] v P Q = refl
@@ -194,7 +237,7 @@ module _ {R N : Type 0} (answers : R → Name → Says) (t : N → Bool → Data
         by (Some p) (Some q) ns h = refl
 
   -- of an object
-  module _ (ms : Members) (c : Collected) (collects : Collects (members_found answers t m u Q k (listed ms)) c) where
+  module _ (costs : R → Bool) (ms : Members) (c : Collected) {o s : Shown} (collects : Collects (members_found answers t m u Q k (listed ms)) c o s) where
     abbrev members_wanted : List Wanted
     members_wanted = (members_found answers t m u Q k (listed ms)).wanted
 
@@ -224,57 +267,48 @@ module _ {R N : Type 0} (answers : R → Name → Says) (t : N → Bool → Data
     matches_are : (P : Path) → matches_shown (names_of c.matched.items) P Q ≡ matches_child answers S u (object ms) Q has_properties has_patterns P
     matches_are P = ap (λ ns. matches_shown ns P Q) (collects.matched ∙ names_matched (listed ms)) ∙ matches_there (object ms) P
 
-    module _ (matches missing_child : List EvaluationNode) (matches_shown_here : trees_of matches ≡ matches_here)
-        (names : List Name) (place : Path) (all : List EvaluationNode) (parts : all ≡ c.children.items ++ matches ++ missing_child) where
-      abbrev lacking : List Tree
-      lacking = lacking_trees names (object ms) (object ms) place Q
+    abbrev lacking : List Tree
+    lacking = lacking_trees (required_text k.required) (object ms) (object ms) (required_place k.required) Q
 
-      abbrev all_wants : List Wanted
-      all_wants = members_wanted ++ accepted matches_here ++ refused lacking
+    abbrev all_wants : List Wanted
+    all_wants = members_wanted ++ (accepted matches_here ++ refused lacking)
 
-      trees_are : trees_wanted all_wants ≡ flat_map (λ x. map (λ e. t e u x.1 (Q // x.0)) (nodes_at x)) (listed ms) ++ matches_child answers S u
-          (object ms) Q has_properties has_patterns k.patterns_location ++ lacking
-      trees_are = map-append (λ w. w.0) (members_wanted ++ accepted matches_here) (refused lacking)
-          ∙ ap (λ l. l ++ trees_wanted (refused lacking)) (map-append (λ w. w.0) members_wanted (accepted matches_here))
-          ∙ (λ i. trees_there (listed ms) i ++ (same_trees true matches_here ∙ matches_are k.patterns_location) i ++ same_trees false lacking i)
+    trees_are : trees_wanted all_wants ≡ flat_map (λ x. map (λ e. t e u x.1 (Q // x.0)) (nodes_at x)) (listed ms) ++ matches_child answers S u
+        (object ms) Q has_properties has_patterns k.patterns_location ++ lacking
+    trees_are = map-append (λ w. w.0) members_wanted (accepted matches_here ++ refused lacking)
+        ∙ ap (λ l. trees_wanted members_wanted ++ l) (map-append (λ w. w.0) (accepted matches_here) (refused lacking))
+        ∙ sym (append_assoc (trees_wanted members_wanted) (trees_wanted (accepted matches_here)) (trees_wanted (refused lacking)))
+        ∙ (λ i. trees_there (listed ms) i ++ (same_trees true matches_here ∙ matches_are k.patterns_location) i ++ same_trees false lacking i)
 
-      abbrev tree_of_all : Data → Tree
-      tree_of_all w = additional_tree answers S u w Q has_properties has_patterns k.location k.patterns_location (λ n. t n u) (missing_trees names w place Q)
+    wants_verdict : all_wanted all_wants ≡ (all_wanted members_wanted && is_empty (missing (required_text k.required) (object ms)))
+    wants_verdict = list_all-append (λ w. w.1) members_wanted (accepted matches_here ++ refused lacking)
+        ∙ ap (λ b. all_wanted members_wanted && b) (list_all-append (λ w. w.1) (accepted matches_here) (refused lacking)
+        ∙ (λ i. all_accepted matches_here i && all_there (required_text k.required) (object ms) (object ms) (required_place k.required) Q i))
 
-      module _ (lacks : AreShown (refused lacking) (trees_of missing_child)) {s r : Shown} (same : s ≡ shown (list_all is_valid (trees_of all)) None [] (trees_of all))
-          (completes : Completes k (names_of c.additional.items) (listed ms) (object ms) s r) where
-        children_are : AreShown all_wants (trees_of all)
-        children_are =
-            subst (AreShown all_wants) (sym (ap trees_of parts ∙ map-append tree_of (c.children.items ++ matches) missing_child
-            ∙ ap (λ l. l ++ trees_of missing_child) (map-append tree_of c.children.items matches)))
-            (shown_append (members_wanted ++ accepted matches_here) (refused lacking) (trees_of c.children.items ++ trees_of matches) (trees_of missing_child)
-            (shown_append members_wanted (accepted matches_here) (trees_of c.children.items) (trees_of matches) collects.shown
-            (subst (AreShown (accepted matches_here)) (sym matches_shown_here) (matches_are_shown (names_of c.matched.items) k.patterns_location Q))) lacks)
+    abbrev Fits : Data → Shown → Type 0
+    Fits w r = IsShown (
+      additional_tree answers S u w Q has_properties has_patterns k.location k.patterns_location (λ n. t n u) (missing_trees (required_text k.required) w (required_place k.required) Q),
+      (additional_means answers costs m S w).accepts u && is_empty (missing (required_text k.required) w),
+    ) (node_at k.location Q r)
 
-        wants_verdict : all_wanted all_wants ≡ (all_wanted members_wanted && is_empty (missing names (object ms)))
-        wants_verdict = list_all-append (λ w. w.1) (members_wanted ++ accepted matches_here) (refused lacking)
-            ∙ (λ i. (list_all-append (λ w. w.1) members_wanted (accepted matches_here) ∙ ap (λ b. all_wanted members_wanted && b) (all_accepted matches_here) ∙ and-true (all_wanted members_wanted)) i
-            && all_there names (object ms) (object ms) place Q i)
-
-        object_shown : (costs : R → Bool) → repeats (object ms) ≡ false
-            → IsShown (tree_of_all (object ms), (additional_means answers costs m S (object ms)).accepts u && is_empty (missing names (object ms))) (node_at k.location Q r)
-        object_shown costs distinct = shown_as
-            (complete_shown k.location Q (faults_here k.location) annotation_here all_wants (trees_of all) same (completes k.location Q) children_are)
-            (λ i. result k.location Q (annotation_is i) false (described (faults_are k.location i)) (trees_are i))
-            ((λ i. (ap is_empty (faults_are k.location) ∙ faults_emptiness (has_neighbours k) (filter_once (λ x. is_unexpected answers S u x.0) (listed ms))
-            (object ms) k.location Q) i && wants_verdict i)
-            ∙ sym (and_assoc (is_empty (filter_once (λ x. is_unexpected answers S u x.0) (listed ms))) (all_wanted members_wanted) (is_empty (missing names (object ms))))
-            ∙ ap (λ b. b && is_empty (missing names (object ms))) (members_accepted costs (listed ms) ∙ ap (λ q. q.accepts u) (each_is_all answers costs m S (object ms) distinct)))
+    module _ (none : o ≡ nothing_shown) {q r : Shown} where
+      object_shown : ShowsMore (places_wanted k (names_of c.matched.items) (object ms) (object ms) Q) s q → Completes k (names_of c.additional.items) (listed ms) (object ms) q r
+          → repeats (object ms) ≡ false → Fits (object ms) r
+      object_shown places completes distinct =
+          let all : ShowsMore all_wants o q = shows_both collects.shown places in
+          shown_as (complete_shown k.location Q (faults_here k.location) annotation_here all_wants all.added (from_nothing none all) (completes k.location Q) all.shown)
+          (λ i. result k.location Q (annotation_is i) false (described (faults_are k.location i)) (trees_are i))
+          ((λ i. (ap is_empty (faults_are k.location) ∙ faults_emptiness (has_neighbours k) (filter_once (λ x. is_unexpected answers S u x.0) (listed ms))
+          (object ms) k.location Q) i && wants_verdict i)
+          ∙ sym (and_assoc (is_empty (filter_once (λ x. is_unexpected answers S u x.0) (listed ms))) (all_wanted members_wanted) (is_empty (missing (required_text k.required) (object ms))))
+          ∙ ap (λ b. b && is_empty (missing (required_text k.required) (object ms))) (members_accepted costs (listed ms) ∙ ap (λ q. q.accepts u) (each_is_all answers costs m S (object ms) distinct)))
 
       -- of v, which is that object
-      module _ (v : Data) (is : Some ms ≡ as_object v) (lacks : AreShown (refused (lacking_trees names v (object ms) place Q)) (trees_of missing_child)) {s r : Shown}
-          (same : s ≡ shown (list_all is_valid (trees_of all)) None [] (trees_of all)) (completes : Completes k (names_of c.additional.items) (listed ms) v s r) where
-        pub additional_shown : (costs : R → Bool) → repeats (object ms) ≡ false
-            → IsShown (tree_of_all v, (additional_means answers costs m S v).accepts u && is_empty (missing names v)) (node_at k.location Q r)
-        additional_shown costs distinct =
-            subst (λ w. AreShown (refused (lacking_trees names w (object ms) place Q)) (trees_of missing_child) → Completes k (names_of c.additional.items) (listed ms) w s r
-            → IsShown (tree_of_all w, (additional_means answers costs m S w).accepts u && is_empty (missing names w)) (node_at k.location Q r)) (object_is v ms is)
-            (λ l d. object_shown l same d costs distinct) lacks completes
+      pub additional_shown : (v : Data) → Some ms ≡ as_object v → ShowsMore (places_wanted k (names_of c.matched.items) v (object ms) Q) s q
+          → Completes k (names_of c.additional.items) (listed ms) v q r → repeats (object ms) ≡ false → Fits v r
+      additional_shown v is places completes distinct =
+          subst (λ w. ShowsMore (places_wanted k (names_of c.matched.items) w (object ms) Q) s q → Completes k (names_of c.additional.items) (listed ms) w q r → Fits w r) (object_is v ms is)
+          (λ p d. object_shown p d distinct) places completes
 
 -- of what is no object
 module _ {R N : Type 0} (answers : R → Name → Says) (S : Sides R N) (u : Bool) (P M Q : Path) (names : List Name) (place : Path) (v : Data) (none : None ≡ as_object v) where

@@ -1,26 +1,26 @@
 -- Children beside those that are wanted.
-use Rattle.std.proofs.Common.{◌≡◌, ℕ, ◌==◌, arith, Bool, true, false, not, ◌&&◌, List, [], ◌∷◌, ◌++◌, map, length, get_or, Option, None, append_assoc, refl, sym, ap, subst, ◌∙◌}
+use Rattle.std.proofs.Common.{Vec, vec_len, Global, ◌≡◌, ℕ, ◌<◌, ◌+◌, length-append, ◌==◌, arith, Bool, true, false, not, ◌&&◌, List, [], ◌∷◌, ◌++◌, map, length, get_or, Option, None, append_assoc, refl, sym, ap, subst, ◌∙◌}
 use Rattle.std.specs.List.{list_all}
+use Rattle.std.specs.Vec.{with_item}
 use Rattle.std.proofs.lemmas.Bool.Decides.{nat_tests}
 use Rattle.std.proofs.lemmas.List.{append-nil, map-append}
+use Rattle.std.proofs.lemmas.List.Folds.{list_all-append}
 use Rattle.std.proofs.lemmas.Simd.{map-map}
-use Rattle.std.proofs.Math.Bool.{and-true}
+use Rattle.std.proofs.Math.Bool.{and-true, and-false, and_assoc}
 use Rattle.std.proofs.Math.ListN.{set}
 use Rattle.std.proofs.Math.Seq.{set-append_seam, get_or-append_seam}
 use Rattle.olk_spec.proofs.Refused_trees.{same_validity}
 use Rattle.olk_spec.specs.Names.{Name, Path, filter_once, put_if, is_empty}
 use Rattle.olk_spec.specs.Tree.{Tree, Trees, trees_from, IsLikeTree, AreLikeTrees, AreTold, Described, is_valid, result_node, result, plain}
-use Rattle.olk_reports.specs.Evaluations.{AddsEmptyAt, Shown, shown, shown_of, nothing_shown, with_children, called_invalid, node_at, result_of, tree_of, with_result}
+use Rattle.olk_reports.specs.Evaluations.{AddsEmptyAt, Shown, shown, shown_of, nothing_shown, called_invalid, node_at, result_of, tree_of, with_result, with_below, with_nodes, valid_if}
+use Rattle.olk_reports.proofs.Evaluations.{shown_over}
 use Rattle.olk_reports.specs.declared.evaluation.EvaluationNode.{EvaluationNode}
-use Rattle.olk_reports.specs.declared.evaluation.EvaluationResult.{EvaluationResult}
+use Rattle.olk_reports.specs.declared.evaluation.EvaluationResult.{EvaluationResult, out-EvaluationResult, out-roll-EvaluationResult}
 use Rattle.serde_json.specs.Data.{Data, string}
 use Rattle.olk_spec.specs.Schemas.{members}
-use Rattle.olk_base.specs.Lawful.{Asking}
 use Rattle.olk_tree.specs.Questions.{Question, every}
 use Rattle.olk_tree.specs.Shown.{branch_trees, name_trees}
-use Rattle.olk_evaluate.specs.Shows.{Kept}
-use Rattle.olk_evaluate.proofs.Shows.{kept_same, kept_then, as_before}
-use Rattle.olk_evaluate.specs.Wanted.{Wanted, AreShown, IsShown, ShowsAll, ShowsThese, ShowsMore, ShowsOne, ShowsEach, wanted, each_wanted, trees_of}
+use Rattle.olk_evaluate.specs.Wanted.{Wanted, AreShown, IsShown, ShowsMore, wanted, each_wanted, with_children}
 
 -- whether a list is empty, by its length
 pub emptiness_of : {X Y : Type 0} (f : X → Y) (xs : List X) {n : ℕ} {b : Bool} → n ≡ length xs → b ≡ (n == 0) → b ≡ is_empty (map f xs)
@@ -97,70 +97,111 @@ result_shown P Q a refuses ds own ws cs {s} e told h = record {
       ∙ (λ i. told_emptiness ds own told i && not refuses && all_valid ws cs h i);
 }
 
--- ---- one child after another
+-- ---- children more
 
--- of all, what is left is still to show; p and q are the path at the start and now, a and b the context
-pub record Showing {X : Type 0} (each : Bool → Path → X → Wanted) (all left : List X) (cs : List EvaluationNode) (p q : Path) (a b : Asking) : Type 0 where
-  pub goes_on : (more : List Tree) → AreShown (map (each a.answer p) left) more → AreShown (map (each a.answer p) all) (trees_of cs ++ more)
-  pub kept : Kept p q a b
+pub no_children : (s : Shown) → with_children [] s ≡ s
+no_children (shown b a es us) = λ i. shown (and-true b i) a es (append-nil us i)
 
-module _ {X : Type 0} {each : Bool → Path → X → Wanted} {all left : List X} {p : Path} {a : Asking} where
-  pub showing_start : {cs : List EvaluationNode} → cs ≡ [] → left ≡ all → Showing each all left cs p p a a
-  showing_start none whole = record {
-    goes_on = λ more h. subst (AreShown (map (each a.answer p) all)) (ap (λ l. trees_of l ++ more) (sym none)) (subst (λ l. AreShown (map (each a.answer p) l) more) whole h);
-    kept = kept_same;
-  }
+pub more_children : (ts us : List Tree) (s : Shown) → with_children us (with_children ts s) ≡ with_children (ts ++ us) s
+more_children ts us (shown b a es cs) = λ i. shown
+    ((and_assoc b (list_all is_valid ts) (list_all is_valid us) ∙ ap (λ c. b && c) (sym (list_all-append is_valid ts us))) i) a es (append_assoc cs ts us i)
 
-  module _ {xs : List EvaluationNode} {q : Path} {b : Asking} (loop : Showing each all left xs p q a b) where
-    pub showing_more : {x : X} {rest : List X} {ys : List EvaluationNode} {s : Path} {c : Asking} → left ≡ x ∷ rest → ShowsMore (each b.answer q x) xs ys → Kept q s b c
-        → Showing each all rest ys p s a c
-    showing_more {x} next m kept = record {
-      goes_on = λ more k.
-          subst (AreShown (map (each a.answer p) all)) (sym (ap (λ l. l ++ more) (ap trees_of m.added ∙ map-append tree_of xs (m.child ∷ [])) ∙ append_assoc (trees_of xs) (tree_of m.child ∷ []) more))
-          (loop.goes_on (tree_of m.child ∷ more) (subst (λ l. AreShown (map (each a.answer p) l) (tree_of m.child ∷ more)) (sym next)
-          (as_before (λ u Q. IsShown (each u Q x) (tree_of m.child)) loop.kept m.shown, k)));
-      kept = kept_then loop.kept kept;
-    }
+pub shown_append : (ws vs : List Wanted) (ts us : List Tree) → AreShown ws ts → AreShown vs us → AreShown (ws ++ vs) (ts ++ us)
+shown_append [] vs [] us h k = k
+shown_append [] vs (t ∷ ts) us h k = absurd h
+shown_append (w ∷ ws) vs [] us h k = absurd h
+shown_append (w ∷ ws) vs (t ∷ ts) us h k = (h.0, shown_append ws vs ts us h.1 k)
 
-    pub showing_none : {rest : List X} {s : Path} {c : Asking} → left ≡ rest → Kept q s b c → Showing each all rest xs p s a c
-    showing_none same kept = record {
-      goes_on = λ more k. loop.goes_on more (subst (λ l. AreShown (map (each a.answer p) l) more) (sym same) k);
-      kept = kept_then loop.kept kept;
-    }
+pub shows_none : (s : Shown) → ShowsMore [] s s
+shows_none s = record { added = []; is = sym (no_children s); shown = tt }
 
-    pub showing_end : left ≡ [] → AreShown (map (each a.answer p) all) (trees_of xs)
-    showing_end none = subst (AreShown (map (each a.answer p) all)) (append-nil (trees_of xs)) (loop.goes_on [] (subst (λ l. AreShown (map (each a.answer p) l) []) (sym none) tt))
+pub shows_both : {ws vs : List Wanted} {a b c : Shown} → ShowsMore ws a b → ShowsMore vs b c → ShowsMore (ws ++ vs) a c
+shows_both {ws} {vs} {a} h k = record {
+  added = h.added ++ k.added;
+  is = k.is ∙ ap (with_children k.added) h.is ∙ more_children h.added k.added a;
+  shown = shown_append ws vs h.added k.added h.shown k.shown;
+}
+
+-- below a result that shows nothing yet
+pub from_nothing : {ws : List Wanted} {s r : Shown} → s ≡ nothing_shown → (h : ShowsMore ws s r) → r ≡ shown (list_all is_valid h.added) None [] h.added
+from_nothing none h = h.is ∙ ap (with_children h.added) none
 
 -- of those that pass, one is next, or it is not among them
 pub those_next : {X : Type 0} (f : X → Bool) {left rest : List X} {x : X} {b : Bool} → left ≡ x ∷ rest → b ≡ f x → filter_once f left ≡ put_if b x (filter_once f rest)
 those_next f {rest = rest} {x} next e = ap (filter_once f) next ∙ ap (λ b. put_if b x (filter_once f rest)) (sym e)
 
--- what stands at its places
-pub shown_there : {w : Wanted} {P R Q S : Path} (s : Shown) {t : Tree} → t ≡ node_at P Q s → P ≡ R → Q ≡ S → IsShown w (node_at R S s) → IsShown w t
-shown_there {w} s e p q h = subst (IsShown w) (sym (e ∙ (λ i. node_at (p i) (q i) s))) h
+-- ---- a node that is put behind the others, and its result written then
 
--- a node that is put behind the others, and its result written then
+-- what is shown at places that have other names
+pub shown_there : {w : Wanted} {P R Q S : Path} (s : Shown) → P ≡ R → Q ≡ S → IsShown w (node_at R S s) → IsShown w (node_at P Q s)
+shown_there {w} s p q h = subst (IsShown w) (λ i. node_at (sym p i) (sym q i) s) h
+
 module _ {P Q : Path} {xs ys : List EvaluationNode} (h : AddsEmptyAt P Q xs ys) (i : ℕ) (at : EvaluationNode) (last : i ≡ length xs) (there : at ≡ get_or ys i at) where
   last_is : at ≡ h.node
   last_is = there ∙ (λ j. get_or (h.added j) (last j) at) ∙ get_or-append_seam xs h.node [] at
 
-  pub empty_last : shown_of (result_of at) ≡ nothing_shown
+  empty_last : shown_of (result_of at) ≡ nothing_shown
   empty_last = ap (λ n. shown_of (result_of n)) last_is ∙ h.empty
 
-  pub written_last : (r : EvaluationResult) → set ys i (with_result at r) ≡ xs ++ with_result h.node r ∷ []
+  written_last : (r : EvaluationResult) → set ys i (with_result at r) ≡ xs ++ with_result h.node r ∷ []
   written_last r = (λ j. set (h.added j) (last j) (with_result (last_is j) r)) ∙ set-append_seam xs h.node [] (with_result h.node r)
 
-  pub shows_last : {w : Wanted} {R S : Path} (r : EvaluationResult) → P ≡ R → Q ≡ S → IsShown w (node_at R S (shown_of r)) → ShowsMore w xs (set ys i (with_result at r))
-  shows_last r p q is = record { child = with_result h.node r; added = written_last r; shown = shown_there (shown_of r) (h.places r) p q is }
+-- where the others are the nodes below a result
+pub is_below : {P Q : Path} (o : EvaluationResult) (ns : Vec EvaluationNode Global) → AddsEmptyAt P Q (out-EvaluationResult o).children.items ns.items → {i : ℕ} → i ≡ vec_len (out-EvaluationResult o).children
+    → i < vec_len (out-EvaluationResult (with_nodes o ns)).children
+is_below o ns h {i} last =
+    let more : length ns.items ≡ length (out-EvaluationResult o).children.items + 1 = ap length h.added ∙ length-append (out-EvaluationResult o).children.items (h.node ∷ []) in
+    let ends : i ≡ length (out-EvaluationResult o).children.items = last ∙ (out-EvaluationResult o).children.ok.0 in
+    let len : vec_len ns ≡ length ns.items = ns.ok.0 in
+    let below : i < vec_len ns = omega arith in
+    subst (λ r. i < vec_len r.children) (sym (out-roll-EvaluationResult record (out-EvaluationResult o) { children = ns })) below
 
-pub one_shown : {w : Wanted} {xs ys : List EvaluationNode} → xs ≡ [] → (h : ShowsMore w xs ys) → trees_of ys ≡ tree_of h.child ∷ []
-one_shown none h = ap trees_of (h.added ∙ ap (λ l. l ++ h.child ∷ []) none)
+module _ {P Q : Path} (o : EvaluationResult) (ns : Vec EvaluationNode Global) (h : AddsEmptyAt P Q (out-EvaluationResult o).children.items ns.items) (i : ℕ) (at : EvaluationNode)
+    (last : i ≡ length (out-EvaluationResult o).children.items) (there : at ≡ get_or (out-EvaluationResult (with_nodes o ns)).children.items i at) where
+  there_now : at ≡ get_or ns.items i at
+  there_now = there ∙ ap (λ x. get_or x.children.items i at) (out-roll-EvaluationResult record (out-EvaluationResult o) { children = ns })
 
--- ---- results of children
+  pub empty_below : shown_of (result_of at) ≡ nothing_shown
+  empty_below = empty_last h i at last there_now
 
-module _ (ns : List EvaluationNode) {s r : Shown} (empty : s ≡ nothing_shown) (h : r ≡ with_children (trees_of ns) s) where
-  pub over_children : r ≡ shown (list_all is_valid (trees_of ns)) None [] (trees_of ns)
-  over_children = h ∙ ap (with_children (trees_of ns)) empty
+  pub tree_written : (r : EvaluationResult) → tree_of (with_result at r) ≡ node_at P Q (shown_of r)
+  tree_written r = ap (λ n. tree_of (with_result n r)) (last_is h i at last there_now) ∙ h.places r
+
+  pub below_written : (r : EvaluationResult)
+      → shown_of (with_nodes (with_nodes o ns) (with_item (out-EvaluationResult (with_nodes o ns)).children i (with_result at r))) ≡ with_below (node_at P Q (shown_of r) ∷ []) (shown_of o)
+  below_written r = rw out-roll-EvaluationResult (shown_over o (with_item ns i (with_result at r)) (node_at P Q (shown_of r) ∷ []) (ap (map tree_of) (written_last h i at last there_now r)
+      ∙ map-append tree_of (out-EvaluationResult o).children.items (with_result h.node r ∷ []) ∙ ap (λ t. map tree_of (out-EvaluationResult o).children.items ++ t ∷ []) (h.places r)))
+
+-- the same nodes, with more room
+module _ (o : EvaluationResult) (ns : Vec EvaluationNode Global) (same : ns.items ≡ (out-EvaluationResult o).children.items) where
+  nothing_below : (s : Shown) → with_below [] s ≡ s
+  nothing_below (shown b a es us) = λ i. shown b a es (append-nil us i)
+
+  pub same_shown : shown_of (with_nodes o ns) ≡ shown_of o
+  same_shown = shown_over o ns [] (ap (map tree_of) same ∙ sym (append-nil (map tree_of (out-EvaluationResult o).children.items))) ∙ nothing_below (shown_of o)
+
+  pub with_room : {ws : List Wanted} {r : Shown} → ShowsMore ws (shown_of (with_nodes o ns)) r → ShowsMore ws (shown_of o) r
+  with_room {ws} {r} h = subst (λ s. ShowsMore ws s r) same_shown h
+
+-- it is a child once the result is as valid
+judged_below : (t : Tree) (o : Shown) (v : Bool) → v ≡ is_valid t → valid_if v (with_below (t ∷ []) o) ≡ with_children (t ∷ []) o
+judged_below t (shown b a es us) v e = λ i. shown (b && (e ∙ sym (and-true (is_valid t))) i) a es (us ++ t ∷ [])
+
+valid_below : (t : Tree) (o : Shown) → true ≡ is_valid t → with_below (t ∷ []) o ≡ with_children (t ∷ []) o
+valid_below t (shown b a es us) valid = λ i. shown ((sym (and-true b) ∙ ap (λ c. b && (c && true)) valid) i) a es (us ++ t ∷ [])
+
+invalid_below : (t : Tree) (o : Shown) → false ≡ is_valid t → with_below (t ∷ []) (called_invalid o) ≡ with_children (t ∷ []) o
+invalid_below t (shown b a es us) invalid = λ i. shown ((sym (and-false b) ∙ ap (λ c. b && (c && true)) invalid) i) a es (us ++ t ∷ [])
+
+module _ {w : Wanted} {t : Tree} {o r : Shown} (h : IsShown w t) where
+  pub shows_judged : {v : Bool} → r ≡ valid_if v (with_below (t ∷ []) o) → v ≡ is_valid t → ShowsMore (w ∷ []) o r
+  shows_judged {v} is valid = record { added = t ∷ []; is = is ∙ judged_below t o v valid; shown = (h, tt) }
+
+  pub shows_valid : r ≡ with_below (t ∷ []) o → true ≡ is_valid t → ShowsMore (w ∷ []) o r
+  shows_valid is valid = record { added = t ∷ []; is = is ∙ valid_below t o valid; shown = (h, tt) }
+
+  pub shows_invalid : {m : Shown} → m ≡ called_invalid o → r ≡ with_below (t ∷ []) m → false ≡ is_valid t → ShowsMore (w ∷ []) o r
+  shows_invalid first is invalid = record { added = t ∷ []; is = is ∙ ap (with_below (t ∷ [])) first ∙ invalid_below t o invalid; shown = (h, tt) }
 
 -- valid exactly if all children are
 pub plain_shown : (P Q : Path) (ws : List Wanted) {cs : List Tree} {s : Shown} → AreShown ws cs → s ≡ shown (list_all is_valid cs) None [] cs
@@ -171,15 +212,6 @@ plain_shown P Q ws {cs} h e = result_shown P Q None false [] [] ws cs e tt h
 pub shows_nothing : (P Q : Path) {s : Shown} {t : Tree} {b : Bool} → s ≡ shown true None [] [] → t ≡ plain P Q [] → b ≡ true → IsShown (t, b) (node_at P Q s)
 shows_nothing P Q h e f = shown_as (plain_shown P Q [] {cs = []} tt h) (sym e) (sym f)
 
--- where some accept, these; where none does, all, refused
-pub accepting_these : (all : List Wanted) (cs : List Tree) {s : Shown} → false ≡ is_empty cs → s ≡ shown (list_all is_valid cs) None [] cs → ShowsThese all cs s
-accepting_these all [] e is = cc
-accepting_these all (c ∷ cs) e is = is
-
-pub refusing_these : (all : List Wanted) (cs : List Tree) {s r : Shown} → true ≡ is_empty cs → ShowsAll all s → r ≡ called_invalid s → ShowsThese all cs r
-refusing_these all [] e h is = record { children = h.children; is = is ∙ ap called_invalid h.is; shown = h.shown }
-refusing_these all (c ∷ cs) e h is = cc
-
 module _ {N : Type 0} (t : N → Bool → Data → Path → Tree) (m : N → Data → Question) (u : Bool) (v : Data) (Q : Path) where
   pub branches_wanted : (ns : List N) → trees_wanted (each_wanted t m u ns v Q) ≡ branch_trees (λ n. t n u) v Q ns
   branches_wanted ns = map-map (λ w. w.0) (λ n. wanted t m u n v Q) ns
@@ -188,16 +220,16 @@ module _ {N : Type 0} (t : N → Bool → Data → Path → Tree) (m : N → Dat
   every_wanted [] = refl
   every_wanted (n ∷ ns) = ap (λ b. (m n v).accepts u && b) (every_wanted ns)
 
-  module _ {s : Shown} where
-    pub shows_each : (ns : List N) {cs : List Tree} → AreShown (each_wanted t m u ns v Q) cs → s ≡ shown (list_all is_valid cs) None [] cs → ShowsEach t m u ns v Q s
-    shows_each ns h e P = shown_as (plain_shown P Q (each_wanted t m u ns v Q) h e) (ap (plain P Q) (branches_wanted ns)) (every_wanted ns)
+  -- what each of these nodes shows, and nothing else
+  abbrev pub ShowsEach : List N → Shown → Type 0
+  ShowsEach ns s = (P : Path) → IsShown (plain P Q (branch_trees (λ n. t n u) v Q ns), (every (λ n. m n v) ns).accepts u) (node_at P Q s)
 
-    -- where there is no branch
-    pub shows_none : (ns : List N) → ns ≡ [] → s ≡ shown true None [] [] → ShowsEach t m u ns v Q s
-    shows_none ns none h = shows_each ns {cs = []} (subst (λ l. AreShown (each_wanted t m u l v Q) []) (sym none) tt) h
+  pub shows_each : (ns : List N) {s r : Shown} → s ≡ nothing_shown → ShowsMore (each_wanted t m u ns v Q) s r → ShowsEach ns r
+  shows_each ns none h P = shown_as (plain_shown P Q (each_wanted t m u ns v Q) h.shown (from_nothing none h)) (ap (plain P Q) (branches_wanted ns)) (every_wanted ns)
 
-    pub shows_the_one : (n : N) → ShowsOne (wanted t m u n v Q) s → ShowsEach t m u (n ∷ []) v Q s
-    shows_the_one n h = shows_each (n ∷ []) {cs = h.child ∷ []} (h.shown, tt) (h.is ∙ ap (λ b. shown b None [] (h.child ∷ [])) (sym (and-true (is_valid h.child))))
+  -- where there is no branch
+  pub shows_no_branch : (ns : List N) {s : Shown} → ns ≡ [] → s ≡ nothing_shown → ShowsEach ns s
+  shows_no_branch ns {s} empty none = shows_each ns none (subst (λ l. ShowsMore (each_wanted t m u l v Q) s s) (sym empty) (shows_none s))
 
 module _ {N : Type 0} (t : N → Bool → Data → Path → Tree) (m : N → Data → Question) (u : Bool) (n : N) (P Q : Path) where
   -- what is wanted of the names of members
@@ -209,12 +241,12 @@ module _ {N : Type 0} (t : N → Bool → Data → Path → Tree) (m : N → Dat
   names_verdicts (x ∷ ms) = ap (λ b. (m n (string x.0)).accepts u && b) (names_verdicts ms)
 
   -- a child for each name of w, which is v
-  pub names_shown : (v w : Data) → w ≡ v → {cs : List Tree} {s : Shown} → AreShown (names_wanted (members w)) cs → s ≡ shown (list_all is_valid cs) None [] cs
-      → IsShown (plain P Q (name_trees (λ k. t k u) v Q n), (every (λ x. m n (string x.0)) (members v)).accepts u) (node_at P Q s)
-  names_shown v w same h e = shown_as (plain_shown P Q (names_wanted (members w)) h e)
+  pub names_shown : (v w : Data) → w ≡ v → {s r : Shown} → s ≡ nothing_shown → ShowsMore (names_wanted (members w)) s r
+      → IsShown (plain P Q (name_trees (λ k. t k u) v Q n), (every (λ x. m n (string x.0)) (members v)).accepts u) (node_at P Q r)
+  names_shown v w same none h = shown_as (plain_shown P Q (names_wanted (members w)) h.shown (from_nothing none h))
       (ap (plain P Q) (map-map (λ x. x.0) (λ x. wanted t m u n (string x.0) Q) (members w)) ∙ ap (λ d. plain P Q (name_trees (λ k. t k u) d Q n)) same)
       (names_verdicts (members w) ∙ ap (λ d. (every (λ x. m n (string x.0)) (members d)).accepts u) same)
 
   -- where there is no member
-  pub no_name_shown : (v : Data) → members v ≡ [] → AreShown (names_wanted (members v)) []
-  no_name_shown v none = subst (λ ms. AreShown (names_wanted ms) []) (sym none) tt
+  pub no_name_shown : (v : Data) → members v ≡ [] → (s : Shown) → ShowsMore (names_wanted (members v)) s s
+  no_name_shown v none s = subst (λ ms. ShowsMore (names_wanted ms) s s) (sym none) (shows_none s)

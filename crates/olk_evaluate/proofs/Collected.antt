@@ -1,6 +1,6 @@
 -- What is collected of members, one after another.
-use Rattle.std.proofs.Common.{◌≡◌, ℕ, ◌+◌, Bool, true, false, not, ◌&&◌, ◌||◌, cond, List, [], ◌∷◌, ◌++◌, map, Option, Some, None, is_none, is_some, option_map, option_to_list, drop, append_assoc, refl, sym, ap, subst, ◌∙◌}
-use Rattle.std.proofs.lemmas.List.{append-nil, map-append}
+use Rattle.std.proofs.Common.{◌≡◌, ℕ, Bor, ◌+◌, Bool, true, false, not, ◌&&◌, ◌||◌, cond, List, [], ◌∷◌, ◌++◌, map, Option, Some, None, is_none, is_some, option_map, option_to_list, drop, append_assoc, refl, sym, ap, subst, ◌∙◌}
+use Rattle.std.proofs.lemmas.List.{append-nil}
 use Rattle.serde_json.specs.Data.{Data}
 use Rattle.olk_spec.specs.Names.{Name, Path, put_if, is_empty}
 use Rattle.olk_spec.specs.World.{Says, reads_as}
@@ -11,13 +11,13 @@ use Rattle.olk_base.specs.declared.pattern.CompiledPattern.{CompiledPattern}
 use Rattle.olk_tree.specs.Questions.{Question}
 use Rattle.olk_tree.specs.Additional.{known_at, known_or, is_matched_by, matching_from, sides_of}
 use Rattle.olk_tree.specs.declared.additional_properties.AdditionalProperties.{AdditionalProperties}
-use Rattle.olk_reports.specs.Evaluations.{tree_of}
-use Rattle.olk_evaluate.specs.Wanted.{Wanted, AreShown, ShowsMore, trees_of}
-use Rattle.olk_evaluate.specs.Additional.{Found, Collects, CollectsMore, names_of, nodes_wanted, declared_found, match_found, rest_found, member_found, found_at, members_found}
+use Rattle.olk_reports.specs.Evaluations.{Shown}
+use Rattle.olk_evaluate.specs.Wanted.{Wanted, ShowsMore}
+use Rattle.olk_evaluate.specs.Additional.{Found, Collects, CollectsMore, names_of, nodes_wanted, member_found}
 use Rattle.olk_evaluate.specs.declared.additional_members.Collected.{Collected}
 use Rattle.olk_evaluate.specs.Shows.{Kept}
-use Rattle.olk_evaluate.proofs.Members.{shown_append}
-use Rattle.olk_evaluate.proofs.Shows.{kept_same, kept_then, as_before}
+use Rattle.olk_evaluate.proofs.Children.{shows_none, shows_both}
+use Rattle.olk_evaluate.proofs.Shows.{kept_then, as_before}
 
 abbrev pub nothing_found : Found
 nothing_found = record { wanted = []; additional = []; matched = [] }
@@ -25,77 +25,38 @@ nothing_found = record { wanted = []; additional = []; matched = [] }
 abbrev pub both_found : Found → Found → Found
 both_found f g = record { wanted = f.wanted ++ g.wanted; additional = f.additional ++ g.additional; matched = f.matched ++ g.matched }
 
-pub collects_nothing : (a : Collected) → CollectsMore nothing_found a a
-collects_nothing a =
-    record {
-      additional = sym (append-nil (names_of a.additional.items));
-      matched = sym (append-nil (names_of a.matched.items));
-      added = [];
-      children = sym (append-nil (trees_of a.children.items));
-      shown = tt;
-    }
+pub collects_nothing : (a : Collected) (s : Shown) → CollectsMore nothing_found a a s s
+collects_nothing a s = record { additional = sym (append-nil (names_of a.additional.items)); matched = sym (append-nil (names_of a.matched.items)); shown = shows_none s }
 
 -- one more list behind two
 behind : {X : Type 0} {all before : List X} (xs ys zs : List X) → before ≡ xs ++ ys → all ≡ before ++ zs → all ≡ xs ++ (ys ++ zs)
 behind xs ys zs h k = k ∙ ap (λ l. l ++ zs) h ∙ append_assoc xs ys zs
 
-pub collects_both : {f g : Found} {a b c : Collected} → CollectsMore f a b → CollectsMore g b c → CollectsMore (both_found f g) a c
+pub collects_both : {f g : Found} {a b c : Collected} {s r q : Shown} → CollectsMore f a b s r → CollectsMore g b c r q → CollectsMore (both_found f g) a c s q
 collects_both {f} {g} {a} h k = record {
   additional = behind (names_of a.additional.items) f.additional g.additional h.additional k.additional;
   matched = behind (names_of a.matched.items) f.matched g.matched h.matched k.matched;
-  added = h.added ++ k.added;
-  children = behind (trees_of a.children.items) h.added k.added h.children k.children;
-  shown = shown_append f.wanted g.wanted h.added k.added h.shown k.shown;
+  shown = shows_both h.shown k.shown;
 }
-
--- one child more, and such names
-pub collects_child : {w : Wanted} {ns ms : List Name} {a b : Collected}
-    → names_of b.additional.items ≡ names_of a.additional.items ++ ns → names_of b.matched.items ≡ names_of a.matched.items ++ ms → ShowsMore w a.children.items b.children.items
-    → CollectsMore (record { wanted = w ∷ []; additional = ns; matched = ms }) a b
-collects_child {a = a} additional matched more =
-    record {
-      additional = additional;
-      matched = matched;
-      added = tree_of more.child ∷ [];
-      children = ap trees_of more.added
-          ∙ map-append tree_of a.children.items (more.child ∷ []);
-      shown = (more.shown, tt);
-    }
-
--- no child more, and such names
-pub collects_name : {ns ms : List Name} {a b : Collected} → names_of b.additional.items ≡ names_of a.additional.items ++ ns → names_of b.matched.items ≡ names_of a.matched.items ++ ms
-    → b.children.items ≡ a.children.items → CollectsMore (record { wanted = []; additional = ns; matched = ms }) a b
-collects_name {a = a} additional matched same =
-    record { additional = additional; matched = matched; added = []; children = ap trees_of same ∙ sym (append-nil (trees_of a.children.items)); shown = tt }
-
-pub collects_no_match : (shows : Bool) (a : Collected) → CollectsMore (record { wanted = []; additional = []; matched = cond shows [] [] }) a a
-collects_no_match true a = collects_nothing a
-collects_no_match false a = collects_nothing a
 
 -- ---- what is left adds up to all
 
-pub record Leaves (all left : Found) (old new : Collected) : Type 0 where
-  pub goes_on : (end : Collected) → CollectsMore left new end → CollectsMore all old end
+pub record Grows (all left : Found) (old new : Collected) (s r : Shown) : Type 0 where
+  pub goes_on : (end : Collected) (q : Shown) → CollectsMore left new end r q → CollectsMore all old end s q
 
-module _ {all : Found} {a b : Collected} where
-  pub leaves_more : {left rest : Found} {c : Collected} (here : Found) → both_found here rest ≡ left → Leaves all left a b → CollectsMore here b c → Leaves all rest a c
-  leaves_more here parts h k = record { goes_on = λ end l. h.goes_on end (subst (λ f. CollectsMore f b end) parts (collects_both k l)) }
+module _ {all : Found} {a b : Collected} {s r : Shown} where
+  grows_more : {left rest : Found} {c : Collected} {q : Shown} (here : Found) → both_found here rest ≡ left → Grows all left a b s r → CollectsMore here b c r q → Grows all rest a c s q
+  grows_more here parts h k = record { goes_on = λ end e l. h.goes_on end e (subst (λ f. CollectsMore f b end r e) parts (collects_both k l)) }
 
-  pub leaves_nothing : {left : Found} → left ≡ nothing_found → Leaves all left a b → CollectsMore all a b
-  leaves_nothing none h = h.goes_on b (subst (λ f. CollectsMore f b b) (sym none) (collects_nothing b))
-
-  pub leaves_last : {left : Found} {c : Collected} (here : Found) → left ≡ here → Leaves all left a b → CollectsMore here b c → CollectsMore all a c
-  leaves_last {c = c} here last h k = h.goes_on c (subst (λ f. CollectsMore f b c) (sym last) k)
-
-pub leaves_all : {f : Found} {a : Collected} → Leaves f f a a
-leaves_all = record { goes_on = λ end k. k }
+  grows_last : {left : Found} {c : Collected} {q : Shown} (here : Found) → left ≡ here → Grows all left a b s r → CollectsMore here b c r q → CollectsMore all a c s q
+  grows_last {c = c} {q} here last h k = h.goes_on c q (subst (λ f. CollectsMore f b c r q) (sym last) k)
 
 -- what is collected from nothing
-pub collects_all : {f : Found} {a b : Collected} → a.children.items ≡ [] → a.additional.items ≡ [] → a.matched.items ≡ [] → CollectsMore f a b → Collects f b
-collects_all {f} {a} {b} no_child no_name no_match h = record {
+pub collects_all : {f : Found} {a b : Collected} {o s r : Shown} → a.additional.items ≡ [] → a.matched.items ≡ [] → CollectsMore f a b s r → ShowsMore f.wanted o r → Collects f b o r
+collects_all {f} no_name no_match h shown = record {
   additional = h.additional ∙ ap (λ l. names_of l ++ f.additional) no_name;
   matched = h.matched ∙ ap (λ l. names_of l ++ f.matched) no_match;
-  shown = subst (AreShown f.wanted) (sym (h.children ∙ ap (λ l. trees_of l ++ h.added) no_child)) h.shown;
+  shown = shown;
 }
 
 -- ---- a member
@@ -125,14 +86,17 @@ module _ {R N : Type 0} (w : Member R N) where
   abbrev wanted_of : List N → List Wanted
   wanted_of = nodes_wanted w.tree w.means w.asking.answer w.path w.name w.value
 
+  -- what is declared at its name
   abbrev pub declared_here : Found
-  declared_here = declared_found w.tree w.means w.asking.answer w.path w.name w.value w.declared
+  declared_here = record { wanted = wanted_of (option_to_list (option_map (λ f. f.1) w.declared)); additional = []; matched = [] }
 
+  -- a pattern's node, if the pattern matches
   abbrev pub match_here : N → Bool → Found
-  match_here = match_found w.tree w.means w.asking.answer w.path w.name w.value (is_none w.keyword.properties)
+  match_here e b = record { wanted = wanted_of (put_if b e []); additional = []; matched = cond (is_none w.keyword.properties) (put_if b w.name []) [] }
 
+  -- the rest, where nothing else speaks of it
   abbrev pub rest_here : Found
-  rest_here = rest_found w.tree w.means w.asking.answer w.path w.name w.value w.keyword.rest
+  rest_here = record { wanted = wanted_of (option_to_list w.keyword.rest); additional = w.name ∷ []; matched = [] }
 
   -- what is left, where these nodes are asked and something else speaks of it or nothing does
   abbrev left_with : Bool → Bool → List N → Found
@@ -152,7 +116,8 @@ module _ {R N : Type 0} (w : Member R N) where
   pub after_declared : both_found declared_here (patterns_left (is_some w.declared) 0 (sides_of w.keyword).patterns) ≡ all_found
   after_declared = by w.declared (matching 0 (sides_of w.keyword).patterns)
     where
-      by : (d : Option (ℕ × N)) (ns : List N) → both_found (declared_found w.tree w.means w.asking.answer w.path w.name w.value d) (left_with (is_none w.keyword.properties) (is_some d) ns)
+      by : (d : Option (ℕ × N)) (ns : List N) → both_found (record { wanted = wanted_of (option_to_list (option_map (λ f. f.1) d)); additional = []; matched = [] })
+          (left_with (is_none w.keyword.properties) (is_some d) ns)
           ≡ record {
             wanted = wanted_of (option_to_list (option_map (λ f. f.1) d) ++ (ns ++ cond (is_none d && is_empty ns) (option_to_list w.keyword.rest) []));
             additional = put_if (is_none d && is_empty ns) w.name [];
@@ -161,8 +126,8 @@ module _ {R N : Type 0} (w : Member R N) where
       by None ns = refl
       by (Some f) ns = refl
 
-  match_or_not : (shows spoken b : Bool) (e : N) (ns : List N) → both_found (match_found w.tree w.means w.asking.answer w.path w.name w.value shows e b)
-      (left_with shows (spoken || b) ns) ≡ left_with shows spoken (put_if b e ns)
+  match_or_not : (shows spoken b : Bool) (e : N) (ns : List N)
+      → both_found (record { wanted = wanted_of (put_if b e []); additional = []; matched = cond shows (put_if b w.name []) [] }) (left_with shows (spoken || b) ns) ≡ left_with shows spoken (put_if b e ns)
   match_or_not true true true e ns = refl
   match_or_not true true false e ns = refl
   match_or_not true false true e ns = refl
@@ -194,69 +159,57 @@ module _ {R N : Type 0} (w : Member R N) where
     left_to_rest none is = ap (patterns_left spoken i) none ∙ ap (λ b. left_with (is_none w.keyword.properties) b []) is ∙ rest_at_end (is_none w.keyword.properties)
 
 -- what is declared and the patterns before i are done
-pub record OnTheWay {R N : Type 0} (w : Member R N) (spoken : Bool) (i : ℕ) (P : Path) (b : Asking) (old new : Collected) : Type 0 where
+pub record OnTheWay {R N : Type 0} (w : Member R N) (spoken : Bool) (i : ℕ) (P : Path) (b : Asking) (old new : Collected) (s r : Shown) : Type 0 where
   pub kept : Kept w.path P w.asking b
-  pub leaves : Leaves (all_found w) (patterns_left w spoken i (drop i (sides_of w.keyword).patterns)) old new
+  pub grows : Grows (all_found w) (patterns_left w spoken i (drop i (sides_of w.keyword).patterns)) old new s r
 
-module _ {R N : Type 0} {w : Member R N} where
-  pub declared_done : {spoken : Bool} {P : Path} {b : Asking} {old new : Collected} → spoken ≡ is_some w.declared → CollectsMore (declared_here w) old new
-      → Kept w.path P w.asking b → OnTheWay w spoken 0 P b old new
-  declared_done is h kept = record {
+module _ {R N : Type 0} {w : Member R N} {s r : Shown} where
+  pub declared_done : {spoken : Bool} {P : Path} {b : Asking} {old : Collected} → spoken ≡ is_some w.declared
+      → ShowsMore (nodes_wanted w.tree w.means w.asking.answer w.path w.name w.value (option_to_list (option_map (λ f. f.1) w.declared))) s r
+      → Kept w.path P w.asking b → OnTheWay w spoken 0 P b old old s r
+  declared_done {old = old} is shown kept = record {
     kept = kept;
-    leaves = leaves_more (declared_here w) (ap (λ s. both_found (declared_here w) (patterns_left w s 0 (sides_of w.keyword).patterns)) is ∙ after_declared w) leaves_all h;
+    grows = grows_more (declared_here w) (ap (λ s. both_found (declared_here w) (patterns_left w s 0 (sides_of w.keyword).patterns)) is ∙ after_declared w) (record { goes_on = λ end q k. k })
+        (record { additional = sym (append-nil (names_of old.additional.items)); matched = sym (append-nil (names_of old.matched.items)); shown = shown });
   }
 
-  module _ {spoken : Bool} {i : ℕ} {P : Path} {b : Asking} {old new : Collected} (loop : OnTheWay w spoken i P b old new) where
-    pub pattern_done : {e : CompiledPattern R × N} {known : Says} {shows matches : Bool} {S : Path} {c : Asking} {newer : Collected}
+  module _ {spoken : Bool} {i : ℕ} {P : Path} {b : Asking} {old new : Collected} (loop : OnTheWay w spoken i P b old new s r) where
+    name_if : (shows matches : Bool) → cond (matches && shows) (w.name ∷ []) [] ≡ cond shows (put_if matches w.name []) []
+    name_if true true = refl
+    name_if true false = refl
+    name_if false true = refl
+    name_if false false = refl
+
+    pub pattern_done : {e : CompiledPattern R × N} {known : Says} {shows matches : Bool} {S : Path} {c : Asking} {newer : Collected} {q : Shown}
         → drop i (sides_of w.keyword).patterns ≡ e ∷ drop (i + 1) (sides_of w.keyword).patterns → known ≡ known_at (sides_of w.keyword) w.declared i
-        → matches ≡ reads_as b.answer (known_or known (pattern_answers w.answers e.0 w.name))
-        → shows ≡ is_none w.keyword.properties → CollectsMore (match_found w.tree w.means b.answer P w.name w.value shows e.1 matches) new newer
-        → Kept P S b c → OnTheWay w (spoken || matches) (i + 1) S c old newer
-    pattern_done {e} {known} {shows} {matches} {newer = newer} next is verdict shown found kept = record {
+        → matches ≡ reads_as b.answer (known_or known (pattern_answers w.answers e.0 w.name)) → shows ≡ is_none w.keyword.properties
+        → ShowsMore (nodes_wanted w.tree w.means b.answer P w.name w.value (put_if matches e.1 [])) r q
+        → newer.additional.items ≡ new.additional.items → names_of newer.matched.items ≡ names_of new.matched.items ++ cond (matches && shows) (w.name ∷ []) []
+        → Kept P S b c → OnTheWay w (spoken || matches) (i + 1) S c old newer s q
+    pattern_done {e} {known} {shows} {matches} {q = q} next is verdict shown found same names kept = record {
       kept = kept_then loop.kept kept;
-      leaves = leaves_more (match_here w e.1 matches)
+      grows = grows_more (match_here w e.1 matches)
           (after_pattern w spoken i next (verdict ∙ (λ j. reads_as (loop.kept.only.answer j) (known_or (is j) (pattern_answers w.answers e.0 w.name)))))
-          loop.leaves
-          (as_before (λ u Q. CollectsMore (match_found w.tree w.means u Q w.name w.value (is_none w.keyword.properties) e.1 matches) new newer) loop.kept
-          (subst (λ z. CollectsMore (match_found w.tree w.means b.answer P w.name w.value z e.1 matches) new newer) shown found));
+          loop.grows (record {
+            additional = ap names_of same ∙ sym (append-nil (names_of new.additional.items));
+            matched = names ∙ ap (λ l. names_of new.matched.items ++ l) (name_if shows matches ∙ ap (λ b. cond b (put_if matches w.name []) []) shown);
+            shown = as_before (λ u Q. ShowsMore (nodes_wanted w.tree w.means u Q w.name w.value (put_if matches e.1 [])) r q) loop.kept found;
+          });
     }
 
-    pub patterns_done : drop i (sides_of w.keyword).patterns ≡ [] → spoken ≡ true → CollectsMore (all_found w) old new
-    patterns_done none is = leaves_nothing (spoken_of w spoken i none is) loop.leaves
+    pub patterns_done : drop i (sides_of w.keyword).patterns ≡ [] → spoken ≡ true → CollectsMore (all_found w) old new s r
+    patterns_done none is = grows_last nothing_found (spoken_of w spoken i none is) loop.grows (collects_nothing new r)
 
-    pub rest_done : {newer : Collected} → drop i (sides_of w.keyword).patterns ≡ [] → spoken ≡ false
-        → CollectsMore (rest_found w.tree w.means b.answer P w.name w.value w.keyword.rest) new newer → CollectsMore (all_found w) old newer
-    rest_done {newer} none is found = leaves_last (rest_here w) (left_to_rest w spoken i none is) loop.leaves
-        (as_before (λ u Q. CollectsMore (rest_found w.tree w.means u Q w.name w.value w.keyword.rest) new newer) loop.kept found)
+    pub rest_done : {newer : Collected} {q : Shown} → drop i (sides_of w.keyword).patterns ≡ [] → spoken ≡ false
+        → names_of newer.additional.items ≡ names_of new.additional.items ++ w.name ∷ [] → newer.matched.items ≡ new.matched.items
+        → ShowsMore (nodes_wanted w.tree w.means b.answer P w.name w.value (option_to_list w.keyword.rest)) r q → CollectsMore (all_found w) old newer s q
+    rest_done {q = q} none is name same found = grows_last (rest_here w) (left_to_rest w spoken i none is) loop.grows (record {
+      additional = name;
+      matched = ap names_of same ∙ sym (append-nil (names_of new.matched.items));
+      shown = as_before (λ u Q. ShowsMore (nodes_wanted w.tree w.means u Q w.name w.value (option_to_list w.keyword.rest)) r q) loop.kept found;
+    })
 
--- ---- members
-
-pub record Walk (R N : Type 0) : Type 0 where
-  pub answers : R → Name → Says
-  pub tree : N → Bool → Data → Path → Tree
-  pub means : N → Data → Question
-  pub keyword : AdditionalProperties R N
-
--- what is found at members, with the answer of the context
-abbrev pub found_in : {R N : Type 0} → Walk R N → Asking → Path → List (Name × Data) → Found
-found_in w a Q xs = members_found w.answers w.tree w.means a.answer Q w.keyword xs
-
-pub record Walking {R N : Type 0} (w : Walk R N) (all left : List (Name × Data)) (Q P : Path) (a b : Asking) (old new : Collected) : Type 0 where
-  pub kept : Kept Q P a b
-  pub leaves : Leaves (found_in w a Q all) (found_in w a Q left) old new
-
-module _ {R N : Type 0} {w : Walk R N} {all : List (Name × Data)} {Q : Path} {a : Asking} where
-  pub walk_begins : {left : List (Name × Data)} {old : Collected} → left ≡ all → Walking w all left Q Q a a old old
-  walk_begins {old = old} whole = record { kept = kept_same; leaves = subst (λ l. Leaves (found_in w a Q all) (found_in w a Q l) old old) (sym whole) leaves_all }
-
-  module _ {left : List (Name × Data)} {P : Path} {b : Asking} {old new : Collected} (loop : Walking w all left Q P a b old new) where
-    pub member_done : {x : Name × Data} {more : List (Name × Data)} {S : Path} {c : Asking} {newer : Collected} → left ≡ x ∷ more
-        → CollectsMore (found_at w.answers w.tree w.means b.answer P w.keyword x) new newer → Kept P S b c → Walking w all more Q S a c old newer
-    member_done {x} {more} {newer = newer} next found kept = record {
-      kept = kept_then loop.kept kept;
-      leaves = leaves_more (found_at w.answers w.tree w.means a.answer Q w.keyword x) (ap (found_in w a Q) (sym next)) loop.leaves
-          (as_before (λ u R. CollectsMore (found_at w.answers w.tree w.means u R w.keyword x) new newer) loop.kept found);
-    }
-
-    pub members_done : left ≡ [] → old.children.items ≡ [] → old.additional.items ≡ [] → old.matched.items ≡ [] → Collects (found_in w a Q all) new
-    members_done none no_child no_name no_match = collects_all no_child no_name no_match (leaves_nothing (ap (found_in w a Q) none) loop.leaves)
+-- what stands at a name, as it is lent and as it is
+pub same_nodes : {N : Type 0} (d : Option (ℕ × Bor N)) → option_to_list (option_map (λ f. f.1.now) d) ≡ option_to_list (option_map {T = ℕ × N} (λ f. f.1) (option_map (λ f. (f.0, f.1.now)) d))
+same_nodes None = refl
+same_nodes (Some f) = refl

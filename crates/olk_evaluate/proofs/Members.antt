@@ -20,91 +20,55 @@ use Rattle.olk_tree.specs.Shown.{properties_tree, missing_trees}
 use Rattle.olk_tree.specs.Visited.{Declared, declared_as, members_declared}
 use Rattle.olk_tree.proofs.Members_met.{means_nothing, object_is}
 use Rattle.olk_check.proofs.Missing.{lacks_nothing}
-use Rattle.olk_reports.specs.Evaluations.{Shown, shown, node_at, tree_of}
-use Rattle.olk_reports.specs.declared.evaluation.EvaluationNode.{EvaluationNode}
-use Rattle.olk_base.specs.Lawful.{Asking}
-use Rattle.olk_evaluate.specs.Shows.{Kept}
-use Rattle.olk_evaluate.proofs.Shows.{kept_same, kept_then, as_before}
-use Rattle.olk_evaluate.specs.Wanted.{Wanted, IsShown, AreShown, ShowsMore, refused, lacking_trees, trees_of}
+use Rattle.olk_reports.specs.Evaluations.{Shown, shown, nothing_shown, annotated, with_names, node_at}
+use Rattle.olk_evaluate.specs.Wanted.{Wanted, IsShown, AreShown, ShowsMore, refused, lacking_trees, with_children}
 use Rattle.olk_evaluate.specs.Members.{HasMet, MeetsMore, wanted_at}
-use Rattle.olk_evaluate.specs.declared.properties.Met.{Met}
-use Rattle.olk_evaluate.proofs.Children.{trees_wanted, all_wanted, same_trees, shown_as, result_shown, shows_nothing, all_valid}
+use Rattle.olk_evaluate.proofs.Children.{trees_wanted, all_wanted, same_trees, shown_as, shown_append, result_shown, shows_nothing, all_valid, no_children, more_children}
 use Rattle.olk_evaluate.proofs.OwnErrors.{all_there}
 
-abbrev pub names_in : Met → List Name
-names_in m = map (λ n. n.now) m.names.items
-
-pub shown_append : (ws vs : List Wanted) (ts us : List Tree) → AreShown ws ts → AreShown vs us → AreShown (ws ++ vs) (ts ++ us)
-shown_append [] vs [] us h k = k
-shown_append [] vs (t ∷ ts) us h k = absurd h
-shown_append (w ∷ ws) vs [] us h k = absurd h
-shown_append (w ∷ ws) vs (t ∷ ts) us h k = (h.0, shown_append ws vs ts us h.1 k)
-
 -- ---- one member after another
+
+no_names : (s : Shown) → with_names [] s ≡ s
+no_names (shown b None es ts) = refl
+no_names (shown b (Some ns) es ts) = λ i. shown b (Some (append-nil ns i)) es ts
+
+more_names : (ns ms : List Name) (s : Shown) → with_names ms (with_names ns s) ≡ with_names (ns ++ ms) s
+more_names ns ms (shown b None es ts) = refl
+more_names ns ms (shown b (Some ls) es ts) = λ i. shown b (Some (append_assoc ls ns ms i)) es ts
+
+names_apart : (ts : List Tree) (ns : List Name) (s : Shown) → with_children ts (with_names ns s) ≡ with_names ns (with_children ts s)
+names_apart ts ns (shown b a es us) = refl
 
 module _ {N : Type 0} where
   abbrev declared_names : List (Declared N) → List Name
   declared_names = map (λ d. d.name)
 
   module _ {want : Declared N → Wanted} where
-    pub meets_nothing : (a : Met) → MeetsMore want [] a a
-    meets_nothing a = record { names = sym (append-nil (names_in a)); added = []; children = sym (append-nil (trees_of a.children.items)); shown = tt }
+    pub meets_nothing : (s : Shown) → MeetsMore want [] s s
+    meets_nothing s = record { added = []; is = sym (ap (with_names []) (no_children s) ∙ no_names s); shown = tt }
 
-    meets_both : {ds es : List (Declared N)} {a b c : Met} → MeetsMore want ds a b → MeetsMore want es b c → MeetsMore want (ds ++ es) a c
+    pub meets_both : {ds es : List (Declared N)} {a b c : Shown} → MeetsMore want ds a b → MeetsMore want es b c → MeetsMore want (ds ++ es) a c
     meets_both {ds} {es} {a} h k = record {
-      names =
-          k.names ∙ ap (λ l. l ++ declared_names es) h.names ∙ append_assoc (names_in a) (declared_names ds) (declared_names es)
-          ∙ ap (λ l. names_in a ++ l) (sym (map-append (λ d. d.name) ds es));
       added = h.added ++ k.added;
-      children = k.children ∙ ap (λ l. l ++ k.added) h.children ∙ append_assoc (trees_of a.children.items) h.added k.added;
+      is =
+          k.is ∙ ap (λ s. with_names (declared_names es) (with_children k.added s)) h.is
+          ∙ ap (with_names (declared_names es)) (names_apart k.added (declared_names ds) (with_children h.added a))
+          ∙ more_names (declared_names ds) (declared_names es) (with_children k.added (with_children h.added a))
+          ∙ (λ i. with_names (sym (map-append (λ d. d.name) ds es) i) (more_children h.added k.added a i));
       shown = subst (λ ws. AreShown ws (h.added ++ k.added)) (sym (map-append want ds es)) (shown_append (map want ds) (map want es) h.added k.added h.shown k.shown);
     }
 
-    pub meets_one : {a b : Met} {d : Declared N} → names_in b ≡ names_in a ++ d.name ∷ [] → ShowsMore (want d) a.children.items b.children.items → MeetsMore want (d ∷ []) a b
-    meets_one {a} names more = record {
-      names = names;
-      added = tree_of more.child ∷ [];
-      children = ap trees_of more.added ∙ map-append tree_of a.children.items (more.child ∷ []);
-      shown = (more.shown, tt);
+    pub meets_one : {a m b : Shown} {d : Declared N} → m ≡ with_names (d.name ∷ []) a → ShowsMore (want d ∷ []) m b → MeetsMore want (d ∷ []) a b
+    meets_one {a} {d = d} names more = record {
+      added = more.added;
+      is = more.is ∙ ap (with_children more.added) names ∙ names_apart more.added (d.name ∷ []) a;
+      shown = more.shown;
     }
 
     -- what is met from nothing
-    pub meets_all : {ds : List (Declared N)} {a b : Met} → a.names.items ≡ [] → a.children.items ≡ [] → MeetsMore want ds a b → HasMet want ds b
-    meets_all {ds} no_name no_child h = record {
-      names = h.names ∙ ap (λ l. map (λ n. n.now) l ++ declared_names ds) no_name;
-      shown = subst (AreShown (map want ds)) (sym (h.children ∙ ap (λ l. trees_of l ++ h.added) no_child)) h.shown;
-    }
-
-one_each : {X : Type 0} (xs : List X) → flat_map (λ x. x ∷ []) xs ≡ xs
-one_each [] = refl
-one_each (x ∷ xs) = ap (λ l. x ∷ l) (one_each xs)
-
--- of all, what is left is still to meet; p and q are the path at the start and now, a and b the context
-pub record Meeting {X N : Type 0} (want : Bool → Path → Declared N → Wanted) (met_at : Bool → X → List (Declared N)) (all left : List X) (old new : Met) (p q : Path) (a b : Asking) : Type 0 where
-  pub goes_on : (end : Met) → MeetsMore (want a.answer p) (flat_map (met_at a.answer) left) new end → MeetsMore (want a.answer p) (flat_map (met_at a.answer) all) old end
-  pub kept : Kept p q a b
-
-module _ {X N : Type 0} {want : Bool → Path → Declared N → Wanted} {met_at : Bool → X → List (Declared N)} {all left : List X} {p : Path} {a : Asking} {old : Met} where
-  pub meeting_start : left ≡ all → Meeting want met_at all left old old p p a a
-  meeting_start whole = record { goes_on = λ end h. subst (λ l. MeetsMore (want a.answer p) (flat_map (met_at a.answer) l) old end) whole h; kept = kept_same }
-
-  module _ {new : Met} {q : Path} {b : Asking} (loop : Meeting want met_at all left old new p q a b) where
-    pub meeting_more : {x : X} {rest : List X} {newer : Met} {s : Path} {c : Asking} → left ≡ x ∷ rest → MeetsMore (want b.answer q) (met_at b.answer x) new newer → Kept q s b c
-        → Meeting want met_at all rest old newer p s a c
-    meeting_more {x} {newer = newer} next found kept = record {
-      goes_on = λ end h. loop.goes_on end (subst (λ l. MeetsMore (want a.answer p) (flat_map (met_at a.answer) l) new end) (sym next)
-          (meets_both (as_before (λ u Q. MeetsMore (want u Q) (met_at u x) new newer) loop.kept found) h));
-      kept = kept_then loop.kept kept;
-    }
-
-    pub meeting_none : {rest : List X} {s : Path} {c : Asking} → left ≡ rest → Kept q s b c → Meeting want met_at all rest old new p s a c
-    meeting_none same kept = record {
-      goes_on = λ end h. loop.goes_on end (subst (λ l. MeetsMore (want a.answer p) (flat_map (met_at a.answer) l) new end) (sym same) h);
-      kept = kept_then loop.kept kept;
-    }
-
-    pub meeting_end : left ≡ [] → MeetsMore (want a.answer p) (flat_map (met_at a.answer) all) old new
-    meeting_end none = loop.goes_on new (subst (λ l. MeetsMore (want a.answer p) (flat_map (met_at a.answer) l) new new) (sym none) (meets_nothing new))
+    pub met_alone : {ds : List (Declared N)} {o s r : Shown} → o ≡ nothing_shown → s ≡ annotated [] o → (h : MeetsMore want ds s r)
+        → r ≡ shown (list_all is_valid h.added) (Some (declared_names ds)) [] h.added
+    met_alone {ds} none e h = h.is ∙ ap (λ x. with_names (declared_names ds) (with_children h.added x)) (e ∙ ap (annotated []) none)
 
 -- ---- the tree of `properties`
 
@@ -133,13 +97,14 @@ module _ {N : Type 0} (t : N → Bool → Data → Path → Tree) (m : N → Dat
   wanted_each (d ∷ ds) = ap (λ b. (m d.node d.value).accepts u && b) (wanted_each ds)
 
   -- all that is met, which is these members; what is shown is valid exactly if each is accepted
-  pub all_met : {ds es : List (Declared N)} {b : Met} {q : Question} → ds ≡ es → every (λ d. m d.node d.value) ds ≡ q → HasMet (wanted_at t m u Q) (flat_map (λ d. d ∷ []) ds) b
-      → HasMet (wanted_at t m u Q) es b × list_all is_valid (trees_of b.children.items) ≡ q.accepts u
-  all_met {ds} {es} {b} same asked h =
-      let met : HasMet (wanted_at t m u Q) ds b = subst (λ l. HasMet (wanted_at t m u Q) l b) (one_each ds) h in (
-        subst (λ l. HasMet (wanted_at t m u Q) l b) same met,
-        all_valid (map (wanted_at t m u Q) ds) (trees_of b.children.items) met.shown ∙ wanted_each ds ∙ ap (λ p. p.accepts u) asked,
-      )
+  pub all_met : {ds es : List (Declared N)} {o s r : Shown} {q : Question} → ds ≡ es → every (λ d. m d.node d.value) ds ≡ q → o ≡ nothing_shown → s ≡ annotated [] o
+      → MeetsMore (wanted_at t m u Q) ds s r → HasMet (wanted_at t m u Q) es (q.accepts u) r
+  all_met {ds} {r = r} {q} same asked none e h = subst (λ l. HasMet (wanted_at t m u Q) l (q.accepts u) r) same record {
+    children = h.added;
+    is = met_alone none e h;
+    shown = h.shown;
+    valid = all_valid (map (wanted_at t m u Q) ds) h.added h.shown ∙ wanted_each ds ∙ ap (λ p. p.accepts u) asked;
+  }
 
   module _ (es : List (Name × N)) where
     -- the names that are met, and the trees that are wanted there
@@ -192,37 +157,36 @@ module _ {N : Type 0} (t : N → Bool → Data → Path → Tree) (m : N → Dat
           (ap (λ b. b && (properties_mean m es v).accepts u) (sym (lacks_nothing ns v none)))
 
     -- an object
-    module _ (P : Path) (v : Data) (ms : Members) (is : Some ms ≡ as_object v) (met : Met) (h : HasMet (wanted_at t m u Q) (members_declared es (listed ms)) met) where
+    module _ (P : Path) (v : Data) (ms : Members) (is : Some ms ≡ as_object v) {s : Shown}
+        (h : HasMet (wanted_at t m u Q) (members_declared es (listed ms)) ((properties_mean m es (object ms)).accepts u) s) where
       abbrev wanted_in : List Wanted
       wanted_in = map (wanted_at t m u Q) (members_declared es (listed ms))
 
       -- the members' children, and others behind them
-      beside : (extra : List Wanted) (cs : List Tree) {s : Shown} → AreShown (wanted_in ++ extra) cs → s ≡ shown (list_all is_valid cs) (Some (names_in met)) [] cs
-          → IsShown (properties_tree tree_at v Q P es (trees_wanted extra), all_wanted (wanted_in ++ extra)) (node_at P Q s)
-      beside extra cs shows e = shown_as (result_shown P Q (Some (names_in met)) false [] [] (wanted_in ++ extra) cs e tt shows)
-          ((λ i. result P Q (Some ((h.names ∙ names_there (listed ms)) i)) false []
+      beside : (extra : List Wanted) (cs : List Tree) {r : Shown} → AreShown (wanted_in ++ extra) cs → r ≡ shown (list_all is_valid cs) (Some (declared_names (members_declared es (listed ms)))) [] cs
+          → IsShown (properties_tree tree_at v Q P es (trees_wanted extra), all_wanted (wanted_in ++ extra)) (node_at P Q r)
+      beside extra cs shows e = shown_as (result_shown P Q (Some (declared_names (members_declared es (listed ms)))) false [] [] (wanted_in ++ extra) cs e tt shows)
+          ((λ i. result P Q (Some (names_there (listed ms) i)) false []
           ((map-append (λ w. w.0) wanted_in extra ∙ ap (λ l. l ++ trees_wanted extra) (trees_there (listed ms))) i))
           ∙ ap (λ w. properties_tree tree_at w Q P es (trees_wanted extra)) (object_is v ms is)) refl
 
-      module _ (verdict : list_all is_valid (trees_of met.children.items) ≡ (properties_mean m es (object ms)).accepts u) where
-        as_meant : all_wanted wanted_in ≡ (properties_mean m es v).accepts u
-        as_meant = sym (all_valid wanted_in (trees_of met.children.items) h.shown) ∙ verdict ∙ ap (λ w. (properties_mean m es w).accepts u) (object_is v ms is)
+      as_meant : all_wanted wanted_in ≡ (properties_mean m es v).accepts u
+      as_meant = sym (all_valid wanted_in h.children h.shown) ∙ h.valid ∙ ap (λ w. (properties_mean m es w).accepts u) (object_is v ms is)
 
-        -- the members' children alone
-        pub alone_shown : {s : Shown} → s ≡ shown (list_all is_valid (trees_of met.children.items)) (Some (names_in met)) [] (trees_of met.children.items)
-            → IsShown (properties_tree tree_at v Q P es [], (properties_mean m es v).accepts u) (node_at P Q s)
-        alone_shown e = shown_as (beside [] (trees_of met.children.items) (subst (λ ws. AreShown ws (trees_of met.children.items)) (sym (append-nil wanted_in)) h.shown) e)
-            refl (ap all_wanted (append-nil wanted_in) ∙ as_meant)
+      -- the members' children alone
+      pub alone_shown : IsShown (properties_tree tree_at v Q P es [], (properties_mean m es v).accepts u) (node_at P Q s)
+      alone_shown = shown_as (beside [] h.children (subst (λ ws. AreShown ws h.children) (sym (append-nil wanted_in)) h.shown) h.is)
+          refl (ap all_wanted (append-nil wanted_in) ∙ as_meant)
 
-        -- and one for names that are missing
-        pub beside_shown : (ns : List Name) (place : Path) (cs more : List EvaluationNode) {s : Shown} → AreShown (refused (lacking_trees ns v (object ms) place Q)) (trees_of more)
-            → cs ≡ met.children.items ++ more → s ≡ shown (list_all is_valid (trees_of cs)) (Some (names_in met)) [] (trees_of cs)
-            → IsShown (properties_tree tree_at v Q P es (missing_trees ns v place Q), is_empty (missing ns v) && (properties_mean m es v).accepts u) (node_at P Q s)
-        beside_shown ns place cs more lacks parts e =
-            let lacking : List Wanted = refused (lacking_trees ns v (object ms) place Q) in
-            shown_as (beside lacking (trees_of cs) (subst (AreShown (wanted_in ++ lacking)) (sym (ap trees_of parts ∙ map-append tree_of met.children.items more))
-            (shown_append wanted_in lacking (trees_of met.children.items) (trees_of more) h.shown lacks)) e)
-            (ap (properties_tree tree_at v Q P es) (same_trees false (lacking_trees ns v (object ms) place Q) ∙ ap (λ w. lacking_trees ns v w place Q) (object_is v ms is)))
-            (list_all-append (λ w. w.1) wanted_in lacking
-            ∙ (λ i. as_meant i && (all_there ns v (object ms) place Q ∙ ap (λ w. is_empty (missing ns w)) (object_is v ms is)) i)
-            ∙ and_comm ((properties_mean m es v).accepts u) (is_empty (missing ns v)))
+      -- and one for names that are missing
+      pub beside_shown : (ns : List Name) (place : Path) {r : Shown} → ShowsMore (refused (lacking_trees ns v (object ms) place Q)) s r
+          → IsShown (properties_tree tree_at v Q P es (missing_trees ns v place Q), is_empty (missing ns v) && (properties_mean m es v).accepts u) (node_at P Q r)
+      beside_shown ns place more =
+          let lacking : List Wanted = refused (lacking_trees ns v (object ms) place Q) in
+          shown_as (beside lacking (h.children ++ more.added) (shown_append wanted_in lacking h.children more.added h.shown more.shown)
+          (more.is ∙ ap (with_children more.added) h.is
+          ∙ ap (λ b. shown b (Some (declared_names (members_declared es (listed ms)))) [] (h.children ++ more.added)) (sym (list_all-append is_valid h.children more.added))))
+          (ap (properties_tree tree_at v Q P es) (same_trees false (lacking_trees ns v (object ms) place Q) ∙ ap (λ w. lacking_trees ns v w place Q) (object_is v ms is)))
+          (list_all-append (λ w. w.1) wanted_in lacking
+          ∙ (λ i. as_meant i && (all_there ns v (object ms) place Q ∙ ap (λ w. is_empty (missing ns w)) (object_is v ms is)) i)
+          ∙ and_comm ((properties_mean m es v).accepts u) (is_empty (missing ns v)))

@@ -5,12 +5,12 @@ use Rattle.std.proofs.Math.Bool.{and-true}
 use Rattle.serde_json.specs.Data.{Data}
 use Rattle.olk_spec.specs.Names.{Path, filter_once, put_if}
 use Rattle.olk_spec.specs.Tree.{Tree, is_valid, plain, result}
-use Rattle.olk_reports.specs.Evaluations.{Shown, shown, errored, node_at}
+use Rattle.olk_reports.specs.Evaluations.{Shown, shown, nothing_shown, errored, node_at}
 use Rattle.olk_tree.specs.Questions.{Question, how_many}
 use Rattle.olk_tree.specs.Shown.{branch_trees, several_accept, any_of_tree, one_of_tree}
 use Rattle.olk_tree.proofs.OneOf.{several_is_some, several_is_not_one, several_is_more, count_those}
-use Rattle.olk_evaluate.specs.Wanted.{AreShown, ShowsAccepting, ShowsThese, wanted, each_wanted, IsShown}
-use Rattle.olk_evaluate.proofs.Children.{shown_as, result_shown, plain_shown, branches_wanted}
+use Rattle.olk_evaluate.specs.Wanted.{AreShown, ShowsAccepting, ShowsMore, ShowsThese, wanted, each_wanted, IsShown}
+use Rattle.olk_evaluate.proofs.Children.{all_valid, shown_as, result_shown, plain_shown, branches_wanted, from_nothing}
 use Rattle.olk_evaluate.proofs.Branches.{accepts_here, acceptors_pass}
 
 module _ {N : Type 0} (t : N → Bool → Data → Path → Tree) (m : N → Data → Question) (u : Bool) (v : Data) (P Q : Path) where
@@ -82,16 +82,16 @@ module _ {N : Type 0} (t : N → Bool → Data → Path → Tree) (m : N → Dat
         by (c ∷ d ∷ cs) those n is = several_accepting ns (c ∷ d ∷ cs) those (omega arith) (told ∙ ap (errored several_accept) is)
 
 -- one branch alone
-module _ {N : Type 0} (t : N → Bool → Data → Path → Tree) (m : N → Data → Question) (u : Bool) (v : Data) (P Q : Path) (n : N) {c : Tree} {s : Shown}
-    (h : IsShown (wanted t m u n v Q) c) (e : s ≡ shown (is_valid c) None [] (c ∷ [])) where
+module _ {N : Type 0} (t : N → Bool → Data → Path → Tree) (m : N → Data → Question) (u : Bool) (v : Data) (P Q : Path) (n : N) {o s : Shown}
+    (none : o ≡ nothing_shown) (h : ShowsMore (wanted t m u n v Q ∷ []) o s) where
   single_shown : (tree : Bool → Tree) → tree true ≡ plain P Q (t n u v Q ∷ []) → tree false ≡ result P Q None true [] (t n u v Q ∷ [])
       → IsShown (tree ((m n v).accepts u), (m n v).accepts u) (node_at P Q s)
-  single_shown tree accepted refused = by ((m n v).accepts u) h.verdict
+  single_shown tree accepted refused = by ((m n v).accepts u) refl
     where
-      by : (b : Bool) → is_valid c ≡ b → IsShown (tree b, b) (node_at P Q s)
-      by true valid = shown_as (plain_shown P Q (wanted t m u n v Q ∷ []) {cs = c ∷ []} (h, tt) (e ∙ ap (λ b. shown b None [] (c ∷ [])) (sym (and-true (is_valid c)))))
-          (sym accepted) (and-true ((m n v).accepts u) ∙ sym h.verdict ∙ valid)
-      by false valid = shown_as (result_shown P Q None true [] [] (wanted t m u n v Q ∷ []) (c ∷ []) (e ∙ ap (λ b. shown b None [] (c ∷ [])) valid) tt (h, tt)) (sym refused) refl
+      by : (b : Bool) → (m n v).accepts u ≡ b → IsShown (tree b, b) (node_at P Q s)
+      by true accepts = shown_as (plain_shown P Q (wanted t m u n v Q ∷ []) h.shown (from_nothing none h)) (sym accepted) (and-true ((m n v).accepts u) ∙ accepts)
+      by false refuses = shown_as (result_shown P Q None true [] [] (wanted t m u n v Q ∷ []) h.added
+          (from_nothing none h ∙ ap (λ b. shown b None [] h.added) (all_valid (wanted t m u n v Q ∷ []) h.added h.shown ∙ and-true ((m n v).accepts u) ∙ refuses)) tt h.shown) (sym refused) refl
 
   pub one_of_shown : IsShown (one_of_tree (λ k. t k u) v Q (λ k. (m k v).accepts u) P (n ∷ []), (m n v).accepts u) (node_at P Q s)
   one_of_shown = single_shown (λ b. one_of_tree (λ k. t k u) v Q (λ k. b) P (n ∷ [])) refl refl

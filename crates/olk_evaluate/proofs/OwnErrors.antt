@@ -19,10 +19,10 @@ use Rattle.olk_spec.specs.Schemas.{has, listed, members}
 use Rattle.olk_spec.specs.Accepts.{missing}
 use Rattle.olk_tree.specs.Maps.{texts_of}
 use Rattle.olk_tree.specs.OwnFaults.{fault_if_agrees, unless}
-use Rattle.olk_reports.specs.Evaluations.{Shown, shown, errored, errored_by, AddsErrors, node_at}
-use Rattle.olk_evaluate.specs.Wanted.{Wanted, IsShown, AreShown, refused, lacking_trees, HasTexts}
+use Rattle.olk_reports.specs.Evaluations.{Shown, shown, nothing_shown, called_invalid, errored, errored_by, with_below, AddsErrors, node_at}
+use Rattle.olk_evaluate.specs.Wanted.{Wanted, IsShown, AreShown, ShowsMore, refused, lacking_trees, HasTexts}
 use Rattle.olk_evaluate.specs.Additional.{annotated_if, named_faults, names_of}
-use Rattle.olk_evaluate.proofs.Children.{emptiness_of, trees_wanted, all_wanted, shown_as, result_shown, valid_shown}
+use Rattle.olk_evaluate.proofs.Children.{emptiness_of, trees_wanted, all_wanted, shown_as, result_shown, valid_shown, shows_invalid, shows_none}
 
 -- ---- errors more
 
@@ -200,22 +200,25 @@ module _ (k : Name) where
 
 -- ---- a child for names that are missing
 
-lacking_one : (b : Bool) (t r : Tree) → true ≡ not b → IsShown (t, b) r → AreShown (refused (put_if (not b) t [])) (r ∷ [])
-lacking_one false t r e h = (h, tt)
-lacking_one true t r e h = cc
+taken : (b : Bool) → true ≡ not b → b ≡ false
+taken true e = cc
+taken false e = refl
 
 module _ (ns : List Name) (v w : Data) (P Q : Path) where
   abbrev lacking_faults : List Fault
   lacking_faults = map (λ n. fault (Required n) v Q P) (missing ns w)
 
-  pub none_lacking : false ≡ not (is_empty (missing ns w)) → AreShown (refused (lacking_trees ns v w P Q)) []
-  none_lacking e = subst (λ b. AreShown (refused (put_if b (erring P Q lacking_faults) [])) []) e tt
+  pub none_lacking : (s : Shown) → false ≡ not (is_empty (missing ns w)) → ShowsMore (refused (lacking_trees ns v w P Q)) s s
+  none_lacking s e = subst (λ b. ShowsMore (refused (put_if b (erring P Q lacking_faults) [])) s s) e (shows_none s)
 
-  pub some_lacking : {s r : Shown} {t : Tree} → true ≡ not (is_empty (missing ns w)) → s ≡ shown true None [] [] → AddsErrors lacking_faults s r
-      → t ≡ node_at P Q r → AreShown (refused (lacking_trees ns v w P Q)) (t ∷ [])
-  some_lacking {t = t} e none h place = lacking_one (is_empty (missing ns w)) (erring P Q lacking_faults) t e
-      (subst (IsShown (erring P Q lacking_faults, is_empty (missing ns w))) (sym place)
-      (shown_as (erring_shown P Q lacking_faults none h) refl (same_emptiness (λ n. fault (Required n) v Q P) (missing ns w))))
+  -- old has been called invalid, and then a node put below, whose errors have been written
+  pub some_lacking : {s r old mid new : Shown} → true ≡ not (is_empty (missing ns w)) → s ≡ nothing_shown → AddsErrors lacking_faults s r
+      → mid ≡ called_invalid old → new ≡ with_below (node_at P Q r ∷ []) mid → ShowsMore (refused (lacking_trees ns v w P Q)) old new
+  some_lacking {r = r} {old} {new = new} e none h invalid below =
+      let child : IsShown (erring P Q lacking_faults, false) (node_at P Q r)
+      = shown_as (erring_shown P Q lacking_faults none h) refl (same_emptiness (λ n. fault (Required n) v Q P) (missing ns w) ∙ taken (is_empty (missing ns w)) e) in
+      subst (λ b. ShowsMore (refused (put_if b (erring P Q lacking_faults) [])) old new) e
+      (shows_invalid child invalid below (sym child.verdict))
 
   lacking_wanted : (b : Bool) (t : Tree) → list_all (λ x. x.1) (refused (put_if (not b) t [])) ≡ b
   lacking_wanted true t = refl
@@ -229,14 +232,14 @@ module _ (n : Name) (v : Data) (ms : Members) (P Q : Path) where
   abbrev lacks_if : Bool → Bool
   lacks_if has = not (is_empty (put_if (not has) n []))
 
-  pub not_lacking : true ≡ has n (object ms) → AreShown (refused (lacking_trees (n ∷ []) v (object ms) P Q)) []
-  not_lacking e = none_lacking (n ∷ []) v (object ms) P Q (ap lacks_if e)
+  pub not_lacking : (s : Shown) → true ≡ has n (object ms) → ShowsMore (refused (lacking_trees (n ∷ []) v (object ms) P Q)) s s
+  not_lacking s e = none_lacking (n ∷ []) v (object ms) P Q s (ap lacks_if e)
 
-  pub one_lacking : {s r : Shown} {t : Tree} → false ≡ has n (object ms) → s ≡ shown true None [] [] → AddsErrors (fault (Required n) v Q P ∷ []) s r
-      → t ≡ node_at P Q r → AreShown (refused (lacking_trees (n ∷ []) v (object ms) P Q)) (t ∷ [])
-  one_lacking {s} {r} e none h place = some_lacking (n ∷ []) v (object ms) P Q (ap lacks_if e) none
-      (subst (λ b. AddsErrors (map (λ k. fault (Required k) v Q P) (put_if (not b) n [])) s r) e h) place
+  pub one_lacking : {s r old mid new : Shown} → false ≡ has n (object ms) → s ≡ nothing_shown → AddsErrors (fault (Required n) v Q P ∷ []) s r
+      → mid ≡ called_invalid old → new ≡ with_below (node_at P Q r ∷ []) mid → ShowsMore (refused (lacking_trees (n ∷ []) v (object ms) P Q)) old new
+  one_lacking {s} {r} e none h = some_lacking (n ∷ []) v (object ms) P Q (ap lacks_if e) none (subst (λ b. AddsErrors (map (λ k. fault (Required k) v Q P) (put_if (not b) n [])) s r) e h)
 
-pub same_lacking : {a b c d : Name} {P R Q S : Path} (v w : Data) (ts : List Tree) → a ≡ c → b ≡ d → P ≡ R → Q ≡ S → AreShown (refused (lacking_trees (a ∷ b ∷ []) v w P Q)) ts
-    → AreShown (refused (lacking_trees (c ∷ d ∷ []) v w R S)) ts
-same_lacking v w ts e f g h = subst (λ l. AreShown (refused l) ts) (λ i. lacking_trees (e i ∷ f i ∷ []) v w (g i) (h i))
+-- under other names
+pub same_lacking : {ns ks : List Name} {P R Q S : Path} {s r : Shown} (v w : Data) → ns ≡ ks → P ≡ R → Q ≡ S → ShowsMore (refused (lacking_trees ns v w P Q)) s r
+    → ShowsMore (refused (lacking_trees ks v w R S)) s r
+same_lacking {s = s} {r} v w e f g = subst (λ l. ShowsMore (refused l) s r) (λ i. lacking_trees (e i) v w (f i) (g i))

@@ -1,6 +1,6 @@
 -- Members that are met because patterns match their names.
 use Rattle.std.proofs.Common.{◌≡◌, Bool, true, false, ◌&&◌, cond, List, [], ◌∷◌, ◌++◌, map, Some, None, refl, sym, ap, subst, ◌∙◌}
-use Rattle.std.specs.List.{flat_map, list_all}
+use Rattle.std.specs.List.{flat_map}
 use Rattle.std.proofs.lemmas.List.{append-nil, map-append}
 use Rattle.std.proofs.Math.Bool.{and-true}
 use Rattle.serde_json.specs.Data.{Data, Members, object}
@@ -8,7 +8,7 @@ use Rattle.serde_json.specs.Find.{as_object}
 use Rattle.olk_spec.specs.Names.{Name, Path, ◌//◌, filter_once, put_if}
 use Rattle.olk_spec.specs.World.{Says}
 use Rattle.olk_spec.specs.Schemas.{members, is_object}
-use Rattle.olk_spec.specs.Tree.{Tree, is_valid, result}
+use Rattle.olk_spec.specs.Tree.{Tree, result}
 use Rattle.olk_base.specs.declared.pattern.CompiledPattern.{CompiledPattern}
 use Rattle.olk_tree.specs.Questions.{Question, always, conditional, every}
 use Rattle.olk_tree.specs.Matched.{is_match, matched, match_question}
@@ -18,13 +18,12 @@ use Rattle.olk_tree.specs.Visited.{Declared, declared_as}
 use Rattle.olk_tree.proofs.Questions.{every-flat_map}
 use Rattle.olk_tree.proofs.Members_met.{no_members, object_is}
 use Rattle.olk_tree.proofs.Patterns.{patterns_nothing}
-use Rattle.olk_reports.specs.Evaluations.{Shown, shown, node_at}
-use Rattle.olk_evaluate.specs.Wanted.{Wanted, IsShown, trees_of}
-use Rattle.olk_evaluate.specs.Members.{HasMet, MeetsMore, wanted_at}
+use Rattle.olk_reports.specs.Evaluations.{Shown, shown, nothing_shown, annotated, node_at}
+use Rattle.olk_evaluate.specs.Wanted.{Wanted, IsShown}
+use Rattle.olk_evaluate.specs.Members.{MeetsMore, wanted_at}
 use Rattle.olk_evaluate.specs.Patterns.{matches_of, matches_of_all}
-use Rattle.olk_evaluate.specs.declared.properties.Met.{Met}
 use Rattle.olk_evaluate.proofs.Children.{trees_wanted, shown_as, result_shown, shows_nothing, those_next}
-use Rattle.olk_evaluate.proofs.Members.{names_in, wanted_each}
+use Rattle.olk_evaluate.proofs.Members.{met_alone, wanted_each}
 
 pub nothing_each : {X B : Type 0} (xs : List X) → flat_map (λ x. let none : List B = [] in none) xs ≡ []
 nothing_each [] = refl
@@ -100,19 +99,19 @@ module _ {R N : Type 0} (answers : R → Name → Says) (t : N → Bool → Data
             ∙ nothing_each es
 
     -- of an object
-    pub patterns_shown : (v : Data) (ms : Members) → Some ms ≡ as_object v → {met : Met} → HasMet (wanted_at t m u Q) (matches_of_all answers u es (object ms)) met → (costs : R → Bool) (P : Path)
-        → {s : Shown} → s ≡ shown (list_all is_valid (trees_of met.children.items)) (Some (names_in met)) [] (trees_of met.children.items)
-        → IsShown (patterns_tree (λ n. t n u) v Q answers u P es, (patterns_mean answers costs m es v).accepts u) (node_at P Q s)
-    patterns_shown v ms is {met} h costs P e = shown_as
-        (result_shown P Q (Some (names_in met)) false [] [] (map (wanted_at t m u Q) (matches_of_all answers u es (object ms))) (trees_of met.children.items) e tt h.shown)
-        ((λ i. result P Q (Some ((h.names ∙ names_of_all (object ms) es) i)) false [] (trees_of_all (object ms) es i))
+    pub patterns_shown : (v : Data) (ms : Members) → Some ms ≡ as_object v → {o s r : Shown} → o ≡ nothing_shown → s ≡ annotated [] o
+        → MeetsMore (wanted_at t m u Q) (matches_of_all answers u es (object ms)) s r → (costs : R → Bool) (P : Path)
+        → IsShown (patterns_tree (λ n. t n u) v Q answers u P es, (patterns_mean answers costs m es v).accepts u) (node_at P Q r)
+    patterns_shown v ms is none e h costs P = shown_as
+        (result_shown P Q (Some (map (λ d. d.name) (matches_of_all answers u es (object ms)))) false [] [] (map (wanted_at t m u Q) (matches_of_all answers u es (object ms))) h.added (met_alone none e h) tt h.shown)
+        ((λ i. result P Q (Some (names_of_all (object ms) es i)) false [] (trees_of_all (object ms) es i))
         ∙ ap (λ w. patterns_tree (λ n. t n u) w Q answers u P es) (object_is v ms is))
         (wanted_each t m u Q (matches_of_all answers u es (object ms)) ∙ patterns_accepted (object ms) costs es ∙ ap (λ w. (patterns_mean answers costs m es w).accepts u) (object_is v ms is))
 
 -- ---- one pattern
 
 module _ {R N : Type 0} (answers : R → Name → Says) (u : Bool) (p : CompiledPattern R) (n : N) (v : Data) where
-  pub meets_matched : {want : Declared N → Wanted} {a b : Met} → MeetsMore want (matches_of answers u p n v) a b → MeetsMore want (matches_of_all answers u ((p, n) ∷ []) v) a b
+  pub meets_matched : {want : Declared N → Wanted} {a b : Shown} → MeetsMore want (matches_of answers u p n v) a b → MeetsMore want (matches_of_all answers u ((p, n) ∷ []) v) a b
   meets_matched {want} {a} {b} h = subst (λ ds. MeetsMore want ds a b) (sym (append-nil (matches_of answers u p n v))) h
 
   pub mean_of_one : (costs : R → Bool) (m : N → Data → Question) → (patterns_mean answers costs m ((p, n) ∷ []) v).accepts u ≡ (matched_mean answers costs m p n v).accepts u

@@ -1,6 +1,6 @@
 -- One showing after another.
 use mathlib.Core.Path.{subst₂}
-use Rattle.std.proofs.Common.{Bool, Result, IfOk, IsErr, refl, ◌∙◌}
+use Rattle.std.proofs.Common.{◌≡◌, Bool, List, [], ◌∷◌, Result, IfOk, IsErr, refl, sym, subst, ◌∙◌}
 use Rattle.std.proofs.lemmas.Result.{IfOk-from_err, IfOk-weaker}
 use Rattle.olk_spec.specs.Names.{Path}
 use Rattle.olk_base.specs.Lawful.{Asking}
@@ -36,3 +36,30 @@ module _ {T E : Type 0} {r : Result T E} {p q : Path} {a b : Asking} {Then : T �
   -- the same behind other calls
   pub shows_then : {o : Path} {z : Asking} {So : T → Type 0} → Kept o p z a → Shows r p q a b So → ((x : T) → So x → Then x) → Shows r o q z b Then
   shows_then {So = So} k h f = record { shown = IfOk-weaker r So Then f h.shown; kept = kept_then k h.kept }
+
+-- ---- loops
+
+-- of all, what is left is still to be done, and then old is new as More says; p and q are the path at the start and now, a and b the context
+pub record Leaves {X S : Type 0} (More : Bool → Path → List X → S → S → Type 0) (all left : List X) (old new : S) (p q : Path) (a b : Asking) : Type 0 where
+  pub goes_on : (end : S) → More a.answer p left new end → More a.answer p all old end
+  pub kept : Kept p q a b
+
+module _ {X S : Type 0} {More : Bool → Path → List X → S → S → Type 0} {all left : List X} {p : Path} {a : Asking} {old : S} where
+  pub leaves_all : left ≡ all → Leaves More all left old old p p a a
+  leaves_all whole = record { goes_on = λ end. subst (λ l. More a.answer p l old end) whole; kept = kept_same }
+
+  module _ {new : S} {q : Path} {b : Asking} (loop : Leaves More all left old new p q a b) where
+    -- one is done
+    pub leaves_rest : {x : X} {rest : List X} {newer : S} {s : Path} {c : Asking}
+        → left ≡ x ∷ rest → ((end : S) → More b.answer q rest newer end → More b.answer q (x ∷ rest) new end) → Kept q s b c → Leaves More all rest old newer p s a c
+    leaves_rest {x} {rest} {newer} next done kept = record {
+      goes_on = λ end k. loop.goes_on end (subst (λ l. More a.answer p l new end) (sym next)
+          (as_before (λ u Q. (More u Q rest newer end → More u Q (x ∷ rest) new end)) loop.kept (done end) k));
+      kept = kept_then loop.kept kept;
+    }
+
+    pub leaves_same : {rest : List X} {s : Path} {c : Asking} → left ≡ rest → Kept q s b c → Leaves More all rest old new p s a c
+    leaves_same same kept = record { goes_on = λ end k. loop.goes_on end (subst (λ l. More a.answer p l new end) (sym same) k); kept = kept_then loop.kept kept }
+
+    pub leaves_none : left ≡ [] → More a.answer p [] new new → More a.answer p all old new
+    leaves_none none nothing = loop.goes_on new (subst (λ l. More a.answer p l new new) (sym none) nothing)

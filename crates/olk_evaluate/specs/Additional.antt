@@ -1,5 +1,5 @@
 -- What is met of the members beside `additionalProperties`, and what is shown of it.
-use Rattle.std.specs.Prelude.{◌≡◌, ℕ, Bool, true, false, not, ◌&&◌, ◌||◌, cond, List, [], ◌∷◌, ◌++◌, map, Option, Some, None, is_none, is_some, option_map, option_to_list}
+use Rattle.std.specs.Prelude.{◌≡◌, ℕ, Bool, true, false, not, ◌&&◌, ◌||◌, cond, List, [], ◌++◌, map, Option, Some, None, is_none, is_some, option_map, option_to_list}
 use denote.Ref.{Bor}
 use Rattle.std.specs.List.{flat_map}
 use Rattle.serde_json.specs.Data.{Data}
@@ -12,8 +12,7 @@ use Rattle.olk_reports.specs.Evaluations.{AddsErrors, Shown, annotated}
 use Rattle.olk_tree.specs.Questions.{Question}
 use Rattle.olk_tree.specs.Additional.{matching_from, at_name, sides_of, has_neighbours, required_text, required_place}
 use Rattle.olk_tree.specs.declared.additional_properties.AdditionalProperties as validator
-use Rattle.olk_reports.specs.declared.evaluation.EvaluationNode.{EvaluationNode}
-use Rattle.olk_evaluate.specs.Wanted.{Wanted, AreShown, wanted, refused, lacking_trees, trees_of}
+use Rattle.olk_evaluate.specs.Wanted.{Wanted, ShowsMore, wanted, accepted, refused, lacking_trees}
 use Rattle.olk_evaluate.specs.declared.additional_members.Collected.{Collected}
 
 abbrev pub names_of : List (Bor (List ℕ)) → List Name
@@ -27,36 +26,22 @@ pub record Found : Type 0 where
   pub additional : List Name
   pub matched : List Name
 
--- what is found is collected
-pub record Collects (f : Found) (c : Collected) : Type 0 where
+-- what is found is collected and shown
+pub record Collects (f : Found) (c : Collected) (s r : Shown) : Type 0 where
   pub additional : names_of c.additional.items ≡ f.additional
   pub matched : names_of c.matched.items ≡ f.matched
-  pub shown : AreShown f.wanted (trees_of c.children.items)
+  pub shown : ShowsMore f.wanted s r
 
--- what is collected grows by what is found
-pub record CollectsMore (f : Found) (old new : Collected) : Type 0 where
+-- what is collected and shown grows by what is found
+pub record CollectsMore (f : Found) (old new : Collected) (s r : Shown) : Type 0 where
   pub additional : names_of new.additional.items ≡ names_of old.additional.items ++ f.additional
   pub matched : names_of new.matched.items ≡ names_of old.matched.items ++ f.matched
-  pub added : List Tree
-  pub children : trees_of new.children.items ≡ trees_of old.children.items ++ added
-  pub shown : AreShown f.wanted added
+  pub shown : ShowsMore f.wanted s r
 
 module _ {N : Type 0} (t : N → Bool → Data → Path → Tree) (m : N → Data → Question) (u : Bool) (Q : Path) (n : Name) (x : Data) where
   -- what nodes are to show of a member
   abbrev pub nodes_wanted : List N → List Wanted
   nodes_wanted ns = map (λ e. wanted t m u e x (Q // n)) ns
-
-  -- what is declared at its name
-  abbrev pub declared_found : Option (ℕ × N) → Found
-  declared_found d = record { wanted = nodes_wanted (option_to_list (option_map (λ f. f.1) d)); additional = []; matched = [] }
-
-  -- a pattern's node, if the pattern matches; whether matches are shown
-  abbrev pub match_found : Bool → N → Bool → Found
-  match_found shows e b = record { wanted = nodes_wanted (put_if b e []); additional = []; matched = cond shows (put_if b n []) [] }
-
-  -- the rest, where nothing else speaks of it
-  abbrev pub rest_found : Option N → Found
-  rest_found o = record { wanted = nodes_wanted (option_to_list o); additional = n ∷ []; matched = [] }
 
 -- a member, with what is declared at its name
 module _ {R N : Type 0} (answers : R → Name → Says) (u : Bool) (k : validator.AdditionalProperties R N) (d : Option (ℕ × N)) (n : Name) where
@@ -94,13 +79,9 @@ module _ {R N : Type 0} (answers : R → Name → Says) (t : N → Bool → Data
 abbrev pub matches_shown : List Name → Path → Path → List Tree
 matches_shown ns P Q = put_if (not (is_empty ns)) (node P Q true (Some ns) [] no_tree) []
 
--- behind old, what patterns match at their place, and what is missing of v, which w is the object of, at the place of `required`
-pub record HasPlaces {R N : Type 0} (k : validator.AdditionalProperties R N) (ns : List Name) (v w : Data) (Q : Path) (old new : List EvaluationNode) : Type 0 where
-  pub matches : List EvaluationNode
-  pub missing : List EvaluationNode
-  pub parts : new ≡ old ++ matches ++ missing
-  pub matched : trees_of matches ≡ matches_shown ns k.patterns_location Q
-  pub lacking : AreShown (refused (lacking_trees (required_text k.required) v w (required_place k.required) Q)) (trees_of missing)
+-- what patterns match at their place, and what is missing of v, which w is the object of, at the place of `required`
+abbrev pub places_wanted : {R N : Type 0} → validator.AdditionalProperties R N → List Name → Data → Data → Path → List Wanted
+places_wanted k ns v w Q = accepted (matches_shown ns k.patterns_location Q) ++ refused (lacking_trees (required_text k.required) v w (required_place k.required) Q)
 
 abbrev pub annotated_if : Option (List Name) → Shown → Shown
 annotated_if None s = s

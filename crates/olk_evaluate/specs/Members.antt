@@ -1,26 +1,28 @@
 -- The members that `properties` and `patternProperties` meet.
-use Rattle.std.specs.Prelude.{◌≡◌, ◌++◌, Bool, List, map}
+use Rattle.std.specs.Prelude.{◌≡◌, Bool, List, [], map, Some}
+use Rattle.std.specs.List.{list_all}
 use Rattle.serde_json.specs.Data.{Data}
 use Rattle.olk_spec.specs.Names.{Path, ◌//◌}
-use Rattle.olk_spec.specs.Tree.{Tree}
+use Rattle.olk_spec.specs.Tree.{Tree, is_valid}
+use Rattle.olk_reports.specs.Evaluations.{Shown, shown, with_names}
 use Rattle.olk_tree.specs.Questions.{Question}
 use Rattle.olk_tree.specs.Visited.{Declared}
-use Rattle.olk_evaluate.specs.Wanted.{Wanted, AreShown, wanted, trees_of}
-use Rattle.olk_evaluate.specs.declared.properties.Met.{Met}
+use Rattle.olk_evaluate.specs.Wanted.{Wanted, AreShown, wanted, with_children}
 
 module _ {N : Type 0} where
   -- what is wanted of the value of a declared member
   abbrev pub wanted_at : (N → Bool → Data → Path → Tree) → (N → Data → Question) → Bool → Path → Declared N → Wanted
   wanted_at t m u Q d = wanted t m u d.node d.value (Q // d.name)
 
-  -- the names of these members, and what is wanted of their values
-  pub record HasMet (want : Declared N → Wanted) (ds : List (Declared N)) (m : Met) : Type 0 where
-    pub names : map (λ n. n.now) m.names.items ≡ map (λ d. d.name) ds
-    pub shown : AreShown (map want ds) (trees_of m.children.items)
+  -- the names of these members are annotated, and what is wanted of their values are the children; with this verdict
+  pub record HasMet (want : Declared N → Wanted) (ds : List (Declared N)) (verdict : Bool) (s : Shown) : Type 0 where
+    pub children : List Tree
+    pub is : s ≡ shown (list_all is_valid children) (Some (map (λ d. d.name) ds)) [] children
+    pub shown : AreShown (map want ds) children
+    pub valid : list_all is_valid children ≡ verdict
 
-  -- the members of new are those of old, and then these
-  pub record MeetsMore (want : Declared N → Wanted) (ds : List (Declared N)) (old new : Met) : Type 0 where
-    pub names : map (λ n. n.now) new.names.items ≡ map (λ n. n.now) old.names.items ++ map (λ d. d.name) ds
+  -- new is old with these members met too
+  pub record MeetsMore (want : Declared N → Wanted) (ds : List (Declared N)) (old new : Shown) : Type 0 where
     pub added : List Tree
-    pub children : trees_of new.children.items ≡ trees_of old.children.items ++ added
+    pub is : new ≡ with_names (map (λ d. d.name) ds) (with_children added old)
     pub shown : AreShown (map want ds) added

@@ -1,16 +1,14 @@
 -- What an evaluation is to show, and what it shows.
-use Rattle.std.specs.Prelude.{◌≡◌, ⊤, ℕ, length, Bool, false, not, List, [], ◌∷◌, ◌++◌, map, None, IsPermutation}
+use Rattle.std.specs.Prelude.{◌≡◌, ⊤, ℕ, length, Bool, true, false, not, ◌&&◌, List, [], ◌∷◌, ◌++◌, map, None, IsPermutation}
 use Rattle.serde_json.specs.Data.{Data}
 use Rattle.std.specs.List.{list_all}
 use Rattle.olk_spec.specs.Names.{Name, Text, Path, filter_once, put_if, is_empty}
 use Rattle.olk_spec.specs.Faults.{fault, Required}
-use Rattle.olk_spec.specs.Tree.{Tree, IsLikeTree, is_valid, Described, plain, erring}
+use Rattle.olk_spec.specs.Tree.{Tree, IsLikeTree, is_valid, Described, erring}
 use Rattle.olk_spec.specs.Accepts.{missing}
-use Rattle.olk_reports.specs.Evaluations.{Shown, shown, tree_of, node_at}
-use Rattle.olk_reports.specs.declared.evaluation.EvaluationNode.{EvaluationNode}
+use Rattle.olk_reports.specs.Evaluations.{Shown, shown, node_at}
 use Rattle.olk_tree.specs.Bodies.{body_means, body_tree}
-use Rattle.olk_tree.specs.Questions.{Question, every}
-use Rattle.olk_tree.specs.Shown.{branch_trees}
+use Rattle.olk_tree.specs.Questions.{Question}
 use Rattle.olk_tree.specs.declared.node.Body.{Body}
 
 -- a tree, and whether it is to be valid
@@ -27,34 +25,17 @@ AreShown [] (t ∷ ts) = ⊥
 AreShown (w ∷ ws) [] = ⊥
 AreShown (w ∷ ws) (t ∷ ts) = IsShown w t × AreShown ws ts
 
-abbrev pub trees_of : List EvaluationNode → List Tree
-trees_of = map tree_of
+-- these children more, and invalid where one of them is
+abbrev pub with_children : List Tree → Shown → Shown
+with_children ts (shown b a es us) = shown (b && list_all is_valid ts) a es (us ++ ts)
 
--- the nodes of new are those of old, and then one that shows what is wanted
-pub record ShowsMore (w : Wanted) (old new : List EvaluationNode) : Type 0 where
-  pub child : EvaluationNode
-  pub added : new ≡ old ++ child ∷ []
-  pub shown : IsShown w (tree_of child)
+-- new is old with children more, which show what is wanted
+pub record ShowsMore (ws : List Wanted) (old new : Shown) : Type 0 where
+  pub added : List Tree
+  pub is : new ≡ with_children added old
+  pub shown : AreShown ws added
 
--- the nodes of new are those of old, and then some that have these trees
-pub record AddsTrees (ts : List Tree) (old new : List EvaluationNode) : Type 0 where
-  pub nodes : List EvaluationNode
-  pub added : new ≡ old ++ nodes
-  pub trees : trees_of nodes ≡ ts
-
--- and then some that show what is wanted
-pub record AddsShown (ws : List Wanted) (old new : List EvaluationNode) : Type 0 where
-  pub nodes : List EvaluationNode
-  pub added : new ≡ old ++ nodes
-  pub shown : AreShown ws (trees_of nodes)
-
--- children that show what is wanted, and nothing else
-pub record ShowsAll (ws : List Wanted) (s : Shown) : Type 0 where
-  pub children : List Tree
-  pub is : s ≡ shown (list_all is_valid children) None [] children
-  pub shown : AreShown ws children
-
--- the same, but refused
+-- children that show what is wanted, and nothing else, refused
 pub record ShowsRefusing (ws : List Wanted) (s : Shown) : Type 0 where
   pub children : List Tree
   pub is : s ≡ shown false None [] children
@@ -65,12 +46,6 @@ abbrev pub ShowsThese : List Wanted → List Tree → Shown → Type 0
 ShowsThese all [] s = ShowsRefusing all s
 ShowsThese all (t ∷ ts) s = s ≡ shown (list_all is_valid (t ∷ ts)) None [] (t ∷ ts)
 
--- what the one child shows, and nothing else
-pub record ShowsOne (w : Wanted) (s : Shown) : Type 0 where
-  pub child : Tree
-  pub is : s ≡ shown (is_valid child) None [] (child ∷ [])
-  pub shown : IsShown w child
-
 module _ {N : Type 0} (t : N → Bool → Data → Path → Tree) (m : N → Data → Question) (u : Bool) where
   -- what a node is to show of a value at a path
   abbrev pub wanted : N → Data → Path → Wanted
@@ -78,10 +53,6 @@ module _ {N : Type 0} (t : N → Bool → Data → Path → Tree) (m : N → Dat
 
   abbrev pub each_wanted : List N → Data → Path → List Wanted
   each_wanted ns v Q = map (λ n. wanted n v Q) ns
-
-  -- what each of these nodes shows, and nothing else
-  abbrev pub ShowsEach : List N → Data → Path → Shown → Type 0
-  ShowsEach ns v Q s = (P : Path) → IsShown (plain P Q (branch_trees (λ n. t n u) v Q ns), (every (λ n. m n v) ns).accepts u) (node_at P Q s)
 
   -- what those of these nodes show that accept, which are so many; where there is none, what each shows, refused
   pub record ShowsAccepting (ns : List N) (v : Data) (Q : Path) (count : ℕ) (s : Shown) : Type 0 where
@@ -93,6 +64,10 @@ module _ {N : Type 0} (t : N → Bool → Data → Path → Tree) (m : N → Dat
   -- what a body shows
   abbrev pub ShowsBody : Body N → Data → Path → Shown → Type 0
   ShowsBody b v Q s = (P : Path) → IsShown (body_tree (λ n. t n u) P b v Q, (body_means m b v).accepts u) (node_at P Q s)
+
+-- trees that are to be valid
+abbrev pub accepted : List Tree → List Wanted
+accepted = map (λ t. (t, true))
 
 -- trees that are to be invalid
 abbrev pub refused : List Tree → List Wanted

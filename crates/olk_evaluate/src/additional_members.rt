@@ -1,47 +1,34 @@
 //! What `additionalProperties` and its neighbours meet of the members of an object.
-ghost use Rattle.std.specs.Prelude.{◌≡◌, ◌++◌, ◌∷◌, [], cond, option_map, is_none, IfOk, OnOk};
+ghost use Rattle.std.specs.Prelude.{◌≡◌, ◌++◌, ◌∷◌, [], cond, option_map, option_to_list, OnOk};
 ghost use Rattle.serde_json.specs.View.{view, members_view};
 ghost use Rattle.olk_base.specs.Compiled.{pattern_answers};
+ghost use Rattle.olk_spec.specs.Names.{put_if};
 ghost use Rattle.olk_spec.specs.Schemas.{listed};
 ghost use Rattle.olk_spec.specs.World.{reads_as};
+ghost use Rattle.olk_reports.specs.Evaluations.{shown_of};
 ghost use Rattle.olk_tree.specs.Additional.{known_or};
 ghost use Rattle.olk_tree.specs.Tables.{known_says};
-ghost use Rattle.olk_evaluate.specs.Additional.{Collects, CollectsMore, declared_found, match_found, rest_found, member_found, members_found, names_of};
+ghost use Rattle.olk_evaluate.specs.Additional.{Collects, CollectsMore, member_found, members_found, names_of, nodes_wanted};
 ghost use Rattle.olk_evaluate.specs.Shows.{Shows};
+ghost use Rattle.olk_evaluate.specs.Wanted.{ShowsMore};
 
 use crate::Located;
 use crate::properties::add_child_below;
 use olk_base::{CompiledPattern, RegexEngine, ValidationContext};
 use olk_check::matches_unless_known;
 use olk_paths::InstancePath;
-use olk_reports::EvaluationNode;
+use olk_reports::EvaluationResult;
 use olk_tree::additional_properties::AdditionalProperties;
 use serde_json::{Map, Value};
-use std::alloc::{AllocError, Global};
+use std::alloc::AllocError;
 
-/// What is collected of the members of an object.
+/// Names that are collected of the members of an object.
 #[derive(Drop)]
 pub(crate) struct Collected<'a> {
-    pub(crate) children: Vec<EvaluationNode<'a>>,
-    /// The names that nothing else speaks of.
+    /// Those that nothing else speaks of.
     pub(crate) additional: Vec<&'a str>,
-    /// A name for each match that is shown.
+    /// One for each match that is shown.
     pub(crate) matched: Vec<&'a str>,
-}
-
-impl<'a> Collected<'a> {
-    /// Nothing yet, with room for so many children.
-    fn with_capacity(alloc: Global, capacity: usize) -> Result<Collected<'a>, AllocError>
-        ensures children { IfOk result (λ c. c.children.items ≡ []) }
-        ensures additional { IfOk result (λ c. c.additional.items ≡ []) }
-        ensures matched { IfOk result (λ c. c.matched.items ≡ []) }
-    {
-        Ok(Collected {
-            children: Vec::with_capacity(alloc, capacity)?,
-            additional: Vec::new(alloc),
-            matched: Vec::new(alloc),
-        })
-    }
 }
 
 /// The name behind these, where it is shown.
@@ -58,23 +45,35 @@ fn push_if<'a>(names: &mut Vec<&'a str>, name: &'a str, is_shown: bool) -> Resul
 
 /// What is met of the members, in their order.
 pub(crate) fn collect<'a, R: RegexEngine, N: Located<'a>>(
-    alloc: Global,
     keyword: &'a AdditionalProperties<R, N>,
     members: &'a Map<String, Value>,
     path: &mut InstancePath,
     ctx: &mut ValidationContext,
+    outcome: &mut EvaluationResult<'a>,
 ) -> Result<Collected<'a>, AllocError>
     ensures { Shows result path.old path.new ctx.old ctx.new (λ c. Collects
         (members_found R.answers N.tree N.means ctx.old.answer path.old keyword.now
-        (listed (members_view members.now.entries))) c) }
+        (listed (members_view members.now.entries))) c (shown_of outcome.old) (shown_of outcome.new)) }
 {
-    let mut collected: Collected<'a> = Collected::with_capacity(alloc, members.len())?;
+    outcome.children.reserve_exact(members.len())?;
+    let mut collected: Collected<'a> = Collected {
+        additional: Vec::new(outcome.allocator()),
+        matched: Vec::new(outcome.allocator()),
+    };
     let mut hint = 0;
     for (name, value) in members {
         let name = name.as_str();
         let (next, declared) = keyword.declared_from(hint, name);
         hint = next;
-        collect_member(keyword, declared, (name, value), path, ctx, &mut collected)?;
+        collect_member(
+            keyword,
+            declared,
+            (name, value),
+            path,
+            ctx,
+            outcome,
+            &mut collected,
+        )?;
     }
     Ok(collected)
 }
@@ -87,97 +86,92 @@ fn collect_member<'a, R: RegexEngine, N: Located<'a>>(
     member: (&'a str, &'a Value),
     path: &mut InstancePath,
     ctx: &mut ValidationContext,
+    outcome: &mut EvaluationResult<'a>,
     collected: &mut Collected<'a>,
 ) -> Result<(), AllocError>
     ensures { Shows result path.old path.new ctx.old ctx.new (λ _. CollectsMore
         (member_found R.answers N.tree N.means ctx.old.answer path.old keyword.now
         (option_map (λ f. (f.0, f.1.now)) declared.entry)
         member.entry.0.now (view member.entry.1.now))
-        collected.old collected.new) }
+        collected.old collected.new (shown_of outcome.old) (shown_of outcome.new)) }
 {
-    collect_declared(declared, member, path, ctx, collected)?;
+    show_declared(declared, member, path, ctx, outcome)?;
     let are_shown = keyword.properties.is_none();
     let mut spoken = declared.is_some();
     for (index, entry) in keyword.patterns().iter().enumerate() {
         let known = keyword.known(declared, index);
-        let is_match = collect_if_matched(entry, known, are_shown, member, path, ctx, collected)?;
+        let is_match = show_if_matched(entry, known, member, path, ctx, outcome)?;
+        push_if(&mut collected.matched, member.0, is_match & are_shown)?;
         spoken |= is_match;
     }
     if spoken {
         return Ok(());
     }
-    collect_additional(&keyword.rest, member, path, ctx, collected)
+    collected.additional.push(member.0)?;
+    show_rest(&keyword.rest, member, path, ctx, outcome)
 }
 
 /// What is declared at a member's name, if anything is.
 #[inline(always)]
-fn collect_declared<'a, N: Located<'a>>(
+fn show_declared<'a, N: Located<'a>>(
     declared: Option<(usize, &'a N)>,
     member: (&'a str, &'a Value),
     path: &mut InstancePath,
     ctx: &mut ValidationContext,
-    collected: &mut Collected<'a>,
+    outcome: &mut EvaluationResult<'a>,
 ) -> Result<(), AllocError>
-    ensures { Shows result path.old path.new ctx.old ctx.new (λ _. CollectsMore
-        (declared_found N.tree N.means ctx.old.answer path.old
+    ensures { Shows result path.old path.new ctx.old ctx.new (λ _. ShowsMore
+        (nodes_wanted N.tree N.means ctx.old.answer path.old
         member.entry.0.now (view member.entry.1.now)
-        (option_map (λ f. (f.0, f.1.now)) declared.entry))
-        collected.old collected.new) }
+        (option_to_list (option_map (λ f. f.1.now) declared.entry)))
+        (shown_of outcome.old) (shown_of outcome.new)) }
 {
     match declared {
-        Some((_, subschema)) => {
-            add_child_below(subschema, member, path, ctx, &mut collected.children)
-        }
+        Some((_, subschema)) => add_child_below(subschema, member, path, ctx, outcome),
         None => Ok(()),
     }
 }
 
 /// A pattern's node, if the pattern matches the member's name, and whether it does.
 #[inline(always)]
-fn collect_if_matched<'a, R: RegexEngine, N: Located<'a>>(
+fn show_if_matched<'a, R: RegexEngine, N: Located<'a>>(
     entry: &'a (CompiledPattern<R>, N),
     known: Option<bool>,
-    is_shown: bool,
     member: (&'a str, &'a Value),
     path: &mut InstancePath,
     ctx: &mut ValidationContext,
-    collected: &mut Collected<'a>,
+    outcome: &mut EvaluationResult<'a>,
 ) -> Result<bool, AllocError>
     ensures { Shows result path.old path.new ctx.old ctx.new (λ b.
         b ≡ reads_as ctx.old.answer
         (known_or (known_says known) (pattern_answers R.answers entry.now.0 member.entry.0.now))
-        × CollectsMore (match_found N.tree N.means ctx.old.answer path.old
-        member.entry.0.now (view member.entry.1.now) is_shown entry.now.1 b)
-        collected.old collected.new) }
+        × ShowsMore (nodes_wanted N.tree N.means ctx.old.answer path.old
+        member.entry.0.now (view member.entry.1.now) (put_if b entry.now.1 []))
+        (shown_of outcome.old) (shown_of outcome.new)) }
 {
     if !matches_unless_known(known, &entry.0, member.0, ctx) {
         return Ok(false);
     }
-    add_child_below(&entry.1, member, path, ctx, &mut collected.children)?;
-    push_if(&mut collected.matched, member.0, is_shown)?;
+    add_child_below(&entry.1, member, path, ctx, outcome)?;
     Ok(true)
 }
 
-/// A member that nothing else speaks of: its name, and what the rest shows of it, if there is a
-/// rest.
+/// What the rest shows of a member, if there is a rest.
 #[inline(always)]
-fn collect_additional<'a, N: Located<'a>>(
+fn show_rest<'a, N: Located<'a>>(
     rest: &'a Option<N>,
     member: (&'a str, &'a Value),
     path: &mut InstancePath,
     ctx: &mut ValidationContext,
-    collected: &mut Collected<'a>,
+    outcome: &mut EvaluationResult<'a>,
 ) -> Result<(), AllocError>
-    ensures { Shows result path.old path.new ctx.old ctx.new (λ _. CollectsMore
-        (rest_found N.tree N.means ctx.old.answer path.old
-        member.entry.0.now (view member.entry.1.now) rest.now)
-        collected.old collected.new) }
+    ensures { Shows result path.old path.new ctx.old ctx.new (λ _. ShowsMore
+        (nodes_wanted N.tree N.means ctx.old.answer path.old
+        member.entry.0.now (view member.entry.1.now) (option_to_list rest.now))
+        (shown_of outcome.old) (shown_of outcome.new)) }
 {
-    collected.additional.push(member.0)?;
     match rest {
-        Some(subschema) => {
-            add_child_below(subschema, member, path, ctx, &mut collected.children)
-        }
+        Some(subschema) => add_child_below(subschema, member, path, ctx, outcome),
         None => Ok(()),
     }
 }

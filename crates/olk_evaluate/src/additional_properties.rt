@@ -8,8 +8,8 @@ ghost use Rattle.olk_spec.specs.Reports.{unexpected_faults};
 ghost use Rattle.olk_spec.specs.Schemas.{listed};
 ghost use Rattle.olk_reports.specs.Evaluations.{AddsErrors, shown_of};
 ghost use Rattle.olk_tree.specs.Visited.{object_of};
-ghost use Rattle.olk_evaluate.specs.Additional.{matches_shown, names_of, named_faults, Completes, HasPlaces};
-ghost use Rattle.olk_evaluate.specs.Wanted.{AddsTrees};
+ghost use Rattle.olk_evaluate.specs.Additional.{matches_shown, names_of, named_faults, places_wanted, Completes};
+ghost use Rattle.olk_evaluate.specs.Wanted.{ShowsMore, accepted};
 
 use crate::additional_members::collect;
 use crate::required::add_missing_name;
@@ -45,18 +45,14 @@ impl<'a, R: RegexEngine, N: Located<'a>> Show<'a> for AdditionalProperties<R, N>
         ctx: &mut ValidationContext,
         outcome: &mut EvaluationResult<'a>,
     ) -> Result<(), AllocError> {
-        match node.as_object() {
-            Some(members) => {
-                law_of_names(members);
-                let collected = collect(outcome.allocator(), self, members, path, ctx)?;
-                let mut children = collected.children;
-                let matched = collected.matched;
-                add_places(self, matched, members, node, path, &mut children)?;
-                outcome.take_children(children);
-                complete(self, outcome, collected.additional, members, node)
-            }
-            None => Ok(()),
-        }
+        let Some(members) = node.as_object() else {
+            return Ok(());
+        };
+        law_of_names(members);
+        let collected = collect(self, members, path, ctx, outcome)?;
+        let matched = collected.matched;
+        add_places(self, matched, members, node, path, outcome)?;
+        complete(self, outcome, collected.additional, members, node)
     }
 }
 
@@ -68,16 +64,16 @@ fn add_places<'a, R, N>(
     members: &Map<String, Value>,
     node: Node<'a>,
     path: &InstancePath,
-    children: &mut Vec<EvaluationNode<'a>>,
+    outcome: &mut EvaluationResult<'a>,
 ) -> Result<(), AllocError>
-    ensures { OnOk result (HasPlaces keyword.now (names_of matched.entry.items)
-        (data_of node.entry) (object_of members.now.entries) path.now
-        children.old.items children.new.items) }
+    ensures { OnOk result (ShowsMore (places_wanted keyword.now (names_of matched.entry.items)
+        (data_of node.entry) (object_of members.now.entries) path.now)
+        (shown_of outcome.old) (shown_of outcome.new)) }
 {
     let at_patterns = keyword.patterns_location.as_str();
-    add_matches(matched, at_patterns, path, children)?;
+    add_matches(matched, at_patterns, path, outcome)?;
     match &keyword.required {
-        Some(required) => add_missing_name(required, members, node, path, children),
+        Some(required) => add_missing_name(required, members, node, path, outcome),
         None => Ok(()),
     }
 }
@@ -87,18 +83,18 @@ fn add_matches<'a>(
     matched: Vec<&'a str>,
     location: &'a str,
     path: &InstancePath,
-    children: &mut Vec<EvaluationNode<'a>>,
+    outcome: &mut EvaluationResult<'a>,
 ) -> Result<(), AllocError>
-    ensures { OnOk result (AddsTrees
-        (matches_shown (names_of matched.entry.items) location.now path.now)
-        children.old.items children.new.items) }
+    ensures { OnOk result (ShowsMore
+        (accepted (matches_shown (names_of matched.entry.items) location.now path.now))
+        (shown_of outcome.old) (shown_of outcome.new)) }
 {
     if matched.is_empty() {
         return Ok(());
     }
-    let last = children.len();
-    EvaluationNode::push_at(children, location, path.as_str())?;
-    children[last].result.annotate(matched);
+    let last = outcome.children.len();
+    EvaluationNode::push_at(&mut outcome.children, location, path.as_str())?;
+    outcome.children[last].result.annotate(matched);
     Ok(())
 }
 

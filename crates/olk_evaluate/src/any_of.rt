@@ -10,9 +10,9 @@ use crate::{Located, Show};
 use olk_base::{Node, ValidationContext};
 use olk_check::IsValid;
 use olk_paths::InstancePath;
-use olk_reports::{EvaluationNode, EvaluationResult};
+use olk_reports::EvaluationResult;
 use olk_tree::any_of::{AnyOf, SingleAnyOf};
-use std::alloc::{AllocError, Global};
+use std::alloc::AllocError;
 
 /// A child for each branch that accepts; where there is none, a child for each branch (JSON Schema
 /// 2020-12 Core, 10.2.1.2).
@@ -71,19 +71,16 @@ pub(crate) fn show_accepting<'a, N: Located<'a>>(
         N.tree N.means ctx.old.answer
         schemas.now.items (data_of node.entry) path.old count (shown_of outcome.new)) }
 {
-    let mut accepting: Vec<EvaluationNode<'a>> = Vec::new(outcome.allocator());
     for schema in schemas {
         if !schema.is_valid(node, ctx) {
             continue;
         }
-        add_child(schema, node, path, ctx, &mut accepting)?;
+        add_child(schema, node, path, ctx, outcome)?;
     }
-    let count = accepting.len();
-    if accepting.is_empty() {
+    let count = outcome.children.len();
+    if count == 0 {
         show_each(schemas, node, path, ctx, outcome)?;
         outcome.mark_invalid();
-        return Ok(count);
     }
-    outcome.take_children(accepting);
     Ok(count)
 }

@@ -3,7 +3,7 @@ use crate::walk::add_child;
 use crate::{Located, Show};
 use olk_base::{Node, ValidationContext};
 use olk_paths::InstancePath;
-use olk_reports::{EvaluationNode, EvaluationResult};
+use olk_reports::EvaluationResult;
 use olk_tree::dependencies::Dependencies;
 use olk_tree::validators_map::PropertiesValidatorsMap;
 use std::alloc::AllocError;
@@ -27,11 +27,9 @@ impl<'a, N: Located<'a>> Show<'a> for Dependencies<N> {
         let Some(members) = node.as_object() else {
             return Ok(());
         };
-        let mut children: Vec<EvaluationNode<'a>> = Vec::new(outcome.allocator());
         for (_, dependency, _) in self.dependencies.declared_members(members) {
-            add_child(dependency, node, path, ctx, &mut children)?;
+            add_child(dependency, node, path, ctx, outcome)?;
         }
-        outcome.take_children(children);
         Ok(())
     }
 }

@@ -1,16 +1,16 @@
 //! `if`, `then` and `else`: what they show.
-ghost use Rattle.std.specs.Prelude.{◌≡◌, ◌∷◌, []};
+ghost use Rattle.std.specs.Prelude.{◌∷◌, []};
 ghost use Rattle.olk_base.specs.Nodes.{data_of};
-ghost use Rattle.olk_reports.specs.Evaluations.{nothing_shown, shown_of};
+ghost use Rattle.olk_reports.specs.Evaluations.{shown_of};
 ghost use Rattle.olk_evaluate.specs.Shows.{Shows};
-ghost use Rattle.olk_evaluate.specs.Wanted.{ShowsEach};
+ghost use Rattle.olk_evaluate.specs.Wanted.{ShowsMore, each_wanted};
 
 use crate::walk::{add_child, show_one};
 use crate::{Located, Show};
 use olk_base::{Node, ValidationContext};
 use olk_check::IsValid;
 use olk_paths::InstancePath;
-use olk_reports::{EvaluationNode, EvaluationResult};
+use olk_reports::EvaluationResult;
 use olk_tree::if_::{IfElse, IfThen, IfThenElse};
 use std::alloc::AllocError;
 
@@ -95,14 +95,12 @@ fn show_both<'a, N: Located<'a>>(
     ctx: &mut ValidationContext,
     outcome: &mut EvaluationResult<'a>,
 ) -> Result<(), AllocError>
-    requires { shown_of outcome.old ≡ nothing_shown }
-    ensures { Shows result path.old path.new ctx.old ctx.new (λ _. ShowsEach
-        N.tree N.means ctx.old.answer
-        (first.now ∷ second.now ∷ []) (data_of node.entry) path.old (shown_of outcome.new)) }
+    ensures { Shows result path.old path.new ctx.old ctx.new (λ _. ShowsMore
+        (each_wanted N.tree N.means ctx.old.answer
+        (first.now ∷ second.now ∷ []) (data_of node.entry) path.old)
+        (shown_of outcome.old) (shown_of outcome.new)) }
 {
-    let mut children: Vec<EvaluationNode<'a>> = Vec::with_capacity(outcome.allocator(), 2)?;
-    add_child(first, node, path, ctx, &mut children)?;
-    add_child(second, node, path, ctx, &mut children)?;
-    outcome.take_children(children);
-    Ok(())
+    outcome.children.reserve_exact(2)?;
+    add_child(first, node, path, ctx, outcome)?;
+    add_child(second, node, path, ctx, outcome)
 }

@@ -1,10 +1,11 @@
 //! `patternProperties`: what it shows.
+ghost use Rattle.olk_reports.specs.Evaluations.{shown_of};
 ghost use Rattle.olk_tree.specs.Visited.{object_of};
 ghost use Rattle.olk_evaluate.specs.Members.{MeetsMore, wanted_at};
 ghost use Rattle.olk_evaluate.specs.Patterns.{matches_of};
 ghost use Rattle.olk_evaluate.specs.Shows.{Shows};
 
-use crate::properties::{Met, meet_member};
+use crate::properties::{make_room, show_member};
 use crate::{Located, Show};
 use olk_base::{CompiledPattern, Node, RegexEngine, ValidationContext};
 use olk_check::matches;
@@ -34,11 +35,10 @@ impl<'a, R: RegexEngine, N: Located<'a>> Show<'a> for PatternProperties<R, N> {
         let Some(members) = node.as_object() else {
             return Ok(());
         };
-        let mut met: Met<'a> = Met::with_capacity(outcome.allocator(), members.len())?;
+        make_room(members.len(), outcome)?;
         for entry in &self.patterns {
-            meet_matched(&entry.0, &entry.1, members, path, ctx, &mut met)?;
+            show_matched(&entry.0, &entry.1, members, path, ctx, outcome)?;
         }
-        met.show(outcome);
         Ok(())
     }
 }
@@ -64,33 +64,32 @@ impl<'a, R: RegexEngine, N: Located<'a>> Show<'a> for SingleValuePatternProperti
         let Some(members) = node.as_object() else {
             return Ok(());
         };
-        let mut met: Met<'a> = Met::with_capacity(outcome.allocator(), members.len())?;
-        meet_matched(&self.regex, &self.node, members, path, ctx, &mut met)?;
-        met.show(outcome);
-        Ok(())
+        make_room(members.len(), outcome)?;
+        show_matched(&self.regex, &self.node, members, path, ctx, outcome)
     }
 }
 
 /// The members whose names the pattern matches.
-fn meet_matched<'a, R: RegexEngine, N: Located<'a>>(
+fn show_matched<'a, R: RegexEngine, N: Located<'a>>(
     pattern: &'a CompiledPattern<R>,
     subschema: &'a N,
     members: &'a Map<String, Value>,
     path: &mut InstancePath,
     ctx: &mut ValidationContext,
-    met: &mut Met<'a>,
+    outcome: &mut EvaluationResult<'a>,
 ) -> Result<(), AllocError>
     ensures { Shows result path.old path.new ctx.old ctx.new (λ _. MeetsMore
         (wanted_at N.tree N.means ctx.old.answer path.old)
         (matches_of R.answers ctx.old.answer
-        pattern.now subschema.now (object_of members.now.entries)) met.old met.new) }
+        pattern.now subschema.now (object_of members.now.entries))
+        (shown_of outcome.old) (shown_of outcome.new)) }
 {
     for (name, value) in members {
         let name = name.as_str();
         if !matches(pattern, name, ctx) {
             continue;
         }
-        meet_member(subschema, (name, value), path, ctx, met)?;
+        show_member(subschema, (name, value), path, ctx, outcome)?;
     }
     Ok(())
 }

@@ -1,28 +1,27 @@
 //! `properties`: what it shows.
-ghost use Rattle.std.specs.Prelude.{◌≡◌, [], IfOk};
-ghost use Rattle.std.specs.List.{list_all, zip};
+ghost use Rattle.std.specs.Prelude.{◌≡◌, ◌∷◌, [], OnOk};
 ghost use Rattle.serde_json.specs.View.{view, members_view};
 ghost use Rattle.olk_spec.specs.Schemas.{listed};
-ghost use Rattle.olk_spec.specs.Tree.{is_valid};
 ghost use Rattle.olk_paths.specs.Paths.{one_below};
+ghost use Rattle.olk_reports.specs.Evaluations.{annotated, nothing_shown, shown_of};
 ghost use Rattle.olk_tree.specs.Properties.{properties_mean};
 ghost use Rattle.olk_tree.specs.Visited.{declared_as, members_declared, object_of};
 ghost use Rattle.olk_evaluate.specs.Members.{HasMet, MeetsMore, wanted_at};
 ghost use Rattle.olk_evaluate.specs.Shows.{Shows};
-ghost use Rattle.olk_evaluate.specs.Wanted.{ShowsMore, wanted, trees_of};
+ghost use Rattle.olk_evaluate.specs.Wanted.{ShowsMore, wanted};
 
 use crate::required::add_missing_child;
 use crate::walk::add_child;
 use crate::{Located, Show};
 use olk_base::{Node, ValidationContext};
 use olk_paths::InstancePath;
-use olk_reports::{EvaluationNode, EvaluationResult};
+use olk_reports::EvaluationResult;
 use olk_tree::declared::DeclaredMembers;
 use olk_tree::entries::SortedEntries;
 use olk_tree::properties::{Properties, SmallPropertiesWithRequired2};
 use olk_tree::validators_map::PropertiesValidatorsMap;
 use serde_json::{Map, Value};
-use std::alloc::{AllocError, Global};
+use std::alloc::AllocError;
 
 /// A child for each member whose name is declared; where the value is an object, these names are
 /// annotated (JSON Schema 2020-12 Core, 10.3.2.1).
@@ -42,17 +41,13 @@ impl<'a, N: Located<'a>> Show<'a> for Properties<N> {
         outcome: &mut EvaluationResult<'a>,
     ) -> Result<(), AllocError> {
         match node.as_object() {
-            Some(members) => {
-                let met = meet(
-                    outcome.allocator(),
-                    self.properties.entries(),
-                    members,
-                    path,
-                    ctx,
-                )?;
-                met.show(outcome);
-                Ok(())
-            }
+            Some(members) => show_declared_members(
+                self.properties.entries(),
+                members,
+                path,
+                ctx,
+                outcome,
+            ),
             None => Ok(()),
         }
     }
@@ -77,96 +72,64 @@ impl<'a, N: Located<'a>> Show<'a> for SmallPropertiesWithRequired2<N> {
     ) -> Result<(), AllocError> {
         match node.as_object() {
             Some(members) => {
-                let mut met = meet(
-                    outcome.allocator(),
-                    &self.properties.entries,
-                    members,
-                    path,
-                    ctx,
-                )?;
-                add_missing_child(self, members, node, path, &mut met.children)?;
-                met.show(outcome);
-                Ok(())
+                show_declared_members(&self.properties.entries, members, path, ctx, outcome)?;
+                add_missing_child(self, members, node, path, outcome)
             }
             None => Ok(()),
         }
     }
 }
 
-/// The members that are met: their names, and what is shown of their values.
-#[derive(Drop)]
-pub(crate) struct Met<'a> {
-    names: Vec<&'a str>,
-    children: Vec<EvaluationNode<'a>>,
-}
-
-impl<'a> Met<'a> {
-    ghost use Rattle.std.specs.Prelude.{Some, map};
-    ghost use Rattle.olk_reports.specs.Evaluations.{nothing_shown, shown, shown_of};
-
-    /// None yet, with room for so many.
-    pub(crate) fn with_capacity(alloc: Global, capacity: usize) -> Result<Met<'a>, AllocError>
-        ensures names { IfOk result (λ m. m.names.items ≡ []) }
-        ensures children { IfOk result (λ m. m.children.items ≡ []) }
-    {
-        Ok(Met {
-            names: Vec::with_capacity(alloc, capacity)?,
-            children: Vec::with_capacity(alloc, capacity)?,
-        })
-    }
-
-    /// The children, and the names as annotation.
-    #[inline(always)]
-    pub(crate) fn show(self, outcome: &mut EvaluationResult<'a>)
-        requires { shown_of outcome.old ≡ nothing_shown }
-        ensures { shown_of outcome.new
-            ≡ shown (list_all is_valid (trees_of self.entry.children.items))
-            (Some (map (λ n. n.now) self.entry.names.items)) []
-            (trees_of self.entry.children.items) }
-    {
-        outcome.take_children(self.children);
-        outcome.annotate(self.names);
-    }
+/// Room for so many members: names that are annotated, and children.
+pub(crate) fn make_room(
+    members: usize,
+    outcome: &mut EvaluationResult<'_>,
+) -> Result<(), AllocError>
+    ensures { OnOk result (shown_of outcome.new ≡ annotated [] (shown_of outcome.old)) }
+{
+    outcome.annotate(Vec::with_capacity(outcome.allocator(), members)?);
+    outcome.children.reserve_exact(members)
 }
 
 /// The members that are declared, in the order of their names.
-fn meet<'a, N: Located<'a> + 'a>(
-    alloc: Global,
+fn show_declared_members<'a, N: Located<'a> + 'a>(
     properties: &'a SortedEntries<N>,
     members: &'a Map<String, Value>,
     path: &mut InstancePath,
     ctx: &mut ValidationContext,
-) -> Result<Met<'a>, AllocError>
-    ensures { Shows result path.old path.new ctx.old ctx.new (λ m. HasMet
+    outcome: &mut EvaluationResult<'a>,
+) -> Result<(), AllocError>
+    requires { shown_of outcome.old ≡ nothing_shown }
+    ensures { Shows result path.old path.new ctx.old ctx.new (λ _. HasMet
         (wanted_at N.tree N.means ctx.old.answer path.old)
-        (members_declared properties.now (listed (members_view members.now.entries))) m
-        × list_all is_valid (trees_of m.children.items) ≡ (properties_mean N.means
-        properties.now (object_of members.now.entries)).accepts ctx.old.answer) }
+        (members_declared properties.now (listed (members_view members.now.entries)))
+        ((properties_mean N.means properties.now
+        (object_of members.now.entries)).accepts ctx.old.answer)
+        (shown_of outcome.new)) }
 {
-    let most = members.len().min(properties.len());
-    let mut met: Met<'a> = Met::with_capacity(alloc, most)?;
+    make_room(members.len().min(properties.len()), outcome)?;
     for (name, subschema, value) in DeclaredMembers::of(properties, members) {
-        meet_member(subschema, (name, value), path, ctx, &mut met)?;
+        show_member(subschema, (name, value), path, ctx, outcome)?;
     }
-    Ok(met)
+    Ok(())
 }
 
 /// One member more: its name, and what is shown of its value.
 #[inline(always)]
-pub(crate) fn meet_member<'a, N: Located<'a>>(
+pub(crate) fn show_member<'a, N: Located<'a>>(
     subschema: &'a N,
     member: (&'a str, &'a Value),
     path: &mut InstancePath,
     ctx: &mut ValidationContext,
-    met: &mut Met<'a>,
+    outcome: &mut EvaluationResult<'a>,
 ) -> Result<(), AllocError>
     ensures { Shows result path.old path.new ctx.old ctx.new (λ _. MeetsMore
         (wanted_at N.tree N.means ctx.old.answer path.old)
         (declared_as member.entry.0.now subschema.now (view member.entry.1.now))
-        met.old met.new) }
+        (shown_of outcome.old) (shown_of outcome.new)) }
 {
-    met.names.push(member.0)?;
-    add_child_below(subschema, member, path, ctx, &mut met.children)
+    outcome.annotate_also(member.0)?;
+    add_child_below(subschema, member, path, ctx, outcome)
 }
 
 /// One child more: what is shown of a member's value.
@@ -176,15 +139,15 @@ pub(crate) fn add_child_below<'a, N: Located<'a>>(
     member: (&'a str, &'a Value),
     path: &mut InstancePath,
     ctx: &mut ValidationContext,
-    children: &mut Vec<EvaluationNode<'a>>,
+    outcome: &mut EvaluationResult<'a>,
 ) -> Result<(), AllocError>
     ensures { Shows result path.old path.new ctx.old ctx.new (λ _. ShowsMore
         (wanted N.tree N.means ctx.old.answer
-        subschema.now (view member.entry.1.now) (one_below path.old member.entry.0.now))
-        children.old.items children.new.items) }
+        subschema.now (view member.entry.1.now) (one_below path.old member.entry.0.now) ∷ [])
+        (shown_of outcome.old) (shown_of outcome.new)) }
 {
     let mark = path.push(member.0)?;
-    let added = add_child(subschema, Node::Value(member.1), path, ctx, children);
+    let added = add_child(subschema, Node::Value(member.1), path, ctx, outcome);
     path.pop(mark);
     added
 }

@@ -3,7 +3,7 @@ use crate::walk::add_child;
 use crate::{Located, Show};
 use olk_base::{Node, ValidationContext};
 use olk_paths::InstancePath;
-use olk_reports::{EvaluationNode, EvaluationResult, ValidationErrorKind};
+use olk_reports::{EvaluationResult, ValidationErrorKind};
 use olk_tree::property_names::{PropertyNames, PropertyNamesFalse};
 use std::alloc::AllocError;
 
@@ -26,14 +26,10 @@ impl<'a, N: Located<'a>> Show<'a> for PropertyNames<N> {
         let Some(members) = node.as_object() else {
             return Ok(());
         };
-        let mut children: Vec<EvaluationNode<'a>> = Vec::with_capacity(
-            outcome.allocator(),
-            members.len(),
-        )?;
+        outcome.children.reserve_exact(members.len())?;
         for (name, _) in members {
-            add_child(&self.node, Node::Name(name), path, ctx, &mut children)?;
+            add_child(&self.node, Node::Name(name), path, ctx, outcome)?;
         }
-        outcome.take_children(children);
         Ok(())
     }
 }

@@ -9,7 +9,7 @@ ghost use Rattle.olk_spec.specs.Reports.{fault_if, required_faults};
 ghost use Rattle.olk_reports.specs.Evaluations.{AddsErrors, shown_of};
 ghost use Rattle.olk_tree.specs.Maps.{texts_of, two_texts};
 ghost use Rattle.olk_tree.specs.Visited.{object_of};
-ghost use Rattle.olk_evaluate.specs.Wanted.{AddsShown, refused, lacking_trees};
+ghost use Rattle.olk_evaluate.specs.Wanted.{ShowsMore, refused, lacking_trees};
 
 use crate::Show;
 use olk_base::{Node, ValidationContext};
@@ -100,22 +100,24 @@ pub(crate) fn add_missing_child<'a, N>(
     members: &Map<String, Value>,
     node: Node<'a>,
     path: &InstancePath,
-    children: &mut Vec<EvaluationNode<'a>>,
+    outcome: &mut EvaluationResult<'a>,
 ) -> Result<(), AllocError>
-    ensures { OnOk result (AddsShown
+    ensures { OnOk result (ShowsMore
         (refused (lacking_trees (two_texts keyword.now.first keyword.now.second)
         (data_of node.entry) (object_of members.now.entries)
         keyword.now.required_location path.now))
-        children.old.items children.new.items) }
+        (shown_of outcome.old) (shown_of outcome.new)) }
 {
     let first = keyword.first.as_str();
     let second = keyword.second.as_str();
     if !lacks_either(members, first, second) {
         return Ok(());
     }
-    let last = children.len();
-    EvaluationNode::push_at(children, keyword.required_location.as_str(), path.as_str())?;
-    let result = &mut children[last].result;
+    outcome.mark_invalid();
+    let last = outcome.children.len();
+    let location = keyword.required_location.as_str();
+    EvaluationNode::push_at(&mut outcome.children, location, path.as_str())?;
+    let result = &mut outcome.children[last].result;
     add_error_if_missing(result, first, members, node)?;
     add_error_if_missing(result, second, members, node)
 }
@@ -126,19 +128,24 @@ pub(crate) fn add_missing_name<'a>(
     members: &Map<String, Value>,
     node: Node<'a>,
     path: &InstancePath,
-    children: &mut Vec<EvaluationNode<'a>>,
+    outcome: &mut EvaluationResult<'a>,
 ) -> Result<(), AllocError>
-    ensures { OnOk result (AddsShown
+    ensures { OnOk result (ShowsMore
         (refused (lacking_trees (string_bytes required.now.name ∷ [])
         (data_of node.entry) (object_of members.now.entries) required.now.location path.now))
-        children.old.items children.new.items) }
+        (shown_of outcome.old) (shown_of outcome.new)) }
 {
     let name = required.name.as_str();
     if has_member(members, name) {
         return Ok(());
     }
-    let last = children.len();
-    EvaluationNode::push_at(children, required.location.as_str(), path.as_str())?;
+    outcome.mark_invalid();
+    let last = outcome.children.len();
+    EvaluationNode::push_at(
+        &mut outcome.children,
+        required.location.as_str(),
+        path.as_str(),
+    )?;
     let kind: ValidationErrorKind<'a> = ValidationErrorKind::Required { property: name };
-    children[last].result.mark_errored_by(kind, node)
+    outcome.children[last].result.mark_errored_by(kind, node)
 }

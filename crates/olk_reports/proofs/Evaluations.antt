@@ -1,5 +1,5 @@
 -- Facts on results and the trees that they show.
-use Rattle.std.proofs.Common.{◌≡◌, ℕ, Bool, true, false, Option, option_map, List, [], ◌∷◌, ◌++◌, map, refl, sym, ap, ◌∙◌, ◌&&◌, Vec, Bor}
+use Rattle.std.proofs.Common.{◌&&◌, ◌≡◌, ℕ, Bool, true, false, Option, option_map, List, [], ◌∷◌, ◌++◌, map, refl, sym, ap, ◌∙◌, Vec, Bor}
 use Rattle.std.specs.List.{list_all}
 use Rattle.std.specs.declared.alloc.Global.{Global}
 use Rattle.std.proofs.lemmas.List.Folds.{list_all-map}
@@ -8,7 +8,7 @@ use Rattle.serde_json.specs.Data.{Data}
 use Rattle.olk_spec.specs.Names.{Name, Path}
 use Rattle.olk_spec.specs.Faults.{Kind, fault}
 use Rattle.olk_spec.specs.Tree.{Tree, Described, trees_from, is_valid}
-use Rattle.olk_reports.specs.Evaluations.{Shown, shown, shown_of, tree_of, node_at, errored, AddsErrors, IsDescribedBy, with_children, called_invalid, result_of, with_result, described_of, node_step, result_step, trees_in, tree_schema_path, tree_instance_path, tree_errors, tree_children}
+use Rattle.olk_reports.specs.Evaluations.{Shown, shown, shown_of, tree_of, node_at, errored, AddsErrors, IsDescribedBy, with_below, with_nodes, called_invalid, result_of, with_result, with_names, valid_if, described_of, node_step, result_step, trees_in, tree_schema_path, tree_instance_path, tree_errors, tree_children}
 use Rattle.olk_reports.specs.declared.evaluation.ErrorDescription.{ErrorDescription}
 use Rattle.olk_reports.specs.declared.evaluation.EvaluationNode.{EvaluationNode, out-EvaluationNode, roll-EvaluationNode, out-roll-EvaluationNode}
 use Rattle.olk_reports.specs.declared.evaluation.EvaluationResult.{EvaluationResult, out-EvaluationResult, roll-EvaluationResult}
@@ -99,16 +99,27 @@ module _ (P : Bor (List ℕ)) (Q : Path) (r : EvaluationResult) where
   pub tree_with_result : (s : EvaluationResult) → tree_of (with_result (roll-EvaluationNode record { schema_path = P; instance_path = Q; result = r }) s) ≡ node_at P.now Q (shown_of s)
   tree_with_result s = ap (λ n. tree_of (roll-EvaluationNode record n { result = s })) (out-roll-EvaluationNode record { schema_path = P; instance_path = Q; result = r }) ∙ tree_of_parts P Q s
 
--- other children, and invalid where one of them is
-pub shown_with_children : (r : EvaluationResult) (ts : Vec EvaluationNode Global) (valid : Bool) → valid ≡ list_all (λ n. is_valid (tree_of n)) ts.items
-    → shown_of (roll-EvaluationResult record {
-      valid = (out-EvaluationResult r).valid && valid;
-      annotation = (out-EvaluationResult r).annotation;
-      errors = (out-EvaluationResult r).errors;
-      children = ts;
-    }) ≡ with_children (map tree_of ts.items) (shown_of r)
-shown_with_children r ts valid is =
-    shown_of_parts ((out-EvaluationResult r).valid && valid) (out-EvaluationResult r).annotation (out-EvaluationResult r).errors ts
-    ∙ ap (λ b. shown ((out-EvaluationResult r).valid && b) (option_map (λ ns. map (λ n. n.now) ns.items) (out-EvaluationResult r).annotation)
-    (map described_of (out-EvaluationResult r).errors.items) (map tree_of ts.items)) (is ∙ sym (each_valid ts.items))
-    ∙ ap (with_children (map tree_of ts.items)) (sym (parts_of_shown r))
+-- other nodes below
+pub shown_over : (r : EvaluationResult) (ns : Vec EvaluationNode Global) (ts : List Tree) → map tree_of ns.items ≡ map tree_of (out-EvaluationResult r).children.items ++ ts
+    → shown_of (with_nodes r ns) ≡ with_below ts (shown_of r)
+shown_over r ns ts more =
+    shown_of_parts (out-EvaluationResult r).valid (out-EvaluationResult r).annotation (out-EvaluationResult r).errors ns
+    ∙ ap (shown (out-EvaluationResult r).valid (option_map (λ ms. map (λ m. m.now) ms.items) (out-EvaluationResult r).annotation) (map described_of (out-EvaluationResult r).errors.items)) more
+    ∙ ap (with_below ts) (sym (parts_of_shown r))
+
+-- names behind those that are annotated
+abbrev pub names_in : Option (Vec (Bor (List ℕ)) Global) → Option (List Name)
+names_in a = option_map (λ ns. map (λ n. n.now) ns.items) a
+
+module _ (r : EvaluationResult) {a : Option (Vec (Bor (List ℕ)) Global)} (was : (out-EvaluationResult r).annotation ≡ a) where
+  pub annotated_by : (b : Option (Vec (Bor (List ℕ)) Global)) (ns : List Name) → names_in b ≡ option_map (λ ms. ms ++ ns) (names_in a)
+      → shown_of (roll-EvaluationResult record (out-EvaluationResult r) { annotation = b }) ≡ with_names ns (shown_of r)
+  annotated_by b ns more =
+      shown_of_parts (out-EvaluationResult r).valid b (out-EvaluationResult r).errors (out-EvaluationResult r).children
+      ∙ ap (λ o. shown (out-EvaluationResult r).valid o (map described_of (out-EvaluationResult r).errors.items) (map tree_of (out-EvaluationResult r).children.items))
+      (more ∙ ap (λ o. option_map (λ ms. ms ++ ns) (names_in o)) (sym was))
+      ∙ ap (with_names ns) (sym (parts_of_shown r))
+
+pub shown_valid_if : (r : EvaluationResult) (v : Bool) → shown_of (roll-EvaluationResult record (out-EvaluationResult r) { valid = (out-EvaluationResult r).valid && v }) ≡ valid_if v (shown_of r)
+shown_valid_if r v = shown_of_parts ((out-EvaluationResult r).valid && v) (out-EvaluationResult r).annotation (out-EvaluationResult r).errors (out-EvaluationResult r).children
+    ∙ ap (valid_if v) (sym (parts_of_shown r))

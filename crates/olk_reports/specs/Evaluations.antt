@@ -1,12 +1,12 @@
 -- The tree that an evaluation node stands for.
-use Rattle.std.specs.Prelude.{◌≡◌, Bool, true, false, ◌&&◌, Option, Some, None, List, [], ◌∷◌, ◌++◌, map, option_map, string_bytes}
-use Rattle.std.specs.List.{list_all}
+use Rattle.std.specs.Prelude.{◌≡◌, Bool, true, false, ◌&&◌, Option, Some, None, List, [], ◌∷◌, ◌++◌, map, option_map, string_bytes, Vec}
+use Rattle.std.specs.declared.alloc.Global.{Global}
 use Rattle.olk_spec.specs.Names.{Name, Path}
 use Rattle.olk_spec.specs.Faults.{Fault}
-use Rattle.olk_spec.specs.Tree.{Tree, node, leaf_node, Trees, no_tree, and_tree, AreTold, Described, described, described_fault, trees_from, result_node, is_valid}
+use Rattle.olk_spec.specs.Tree.{Tree, node, leaf_node, Trees, no_tree, and_tree, AreTold, Described, described, described_fault, trees_from, result_node}
 use Rattle.olk_reports.specs.declared.evaluation.ErrorDescription.{ErrorDescription}
 use Rattle.olk_reports.specs.declared.evaluation.EvaluationNode.{EvaluationNode, out-EvaluationNode, roll-EvaluationNode}
-use Rattle.olk_reports.specs.declared.evaluation.EvaluationResult.{EvaluationResult}
+use Rattle.olk_reports.specs.declared.evaluation.EvaluationResult.{EvaluationResult, out-EvaluationResult, roll-EvaluationResult}
 use Rattle.olk_reports.specs.declared.evaluation.EvaluationNode.TheOpen.{EvaluationResult-F, EvaluationNode-F}
 use Rattle.olk_reports.specs.declared.evaluation.EvaluationNode.TheFolds.{fold-EvaluationResult, fold-EvaluationNode}
 
@@ -24,12 +24,19 @@ annotated ns (shown b a es ts) = shown b (Some ns) es ts
 abbrev pub errored : Described → Shown → Shown
 errored e (shown b a es ts) = shown false a (es ++ e ∷ []) ts
 
--- over these nodes, and invalid where one of them is
-abbrev pub with_children : List Tree → Shown → Shown
-with_children ts (shown b a es us) = shown (b && list_all is_valid ts) a es ts
+-- these nodes more
+abbrev pub with_below : List Tree → Shown → Shown
+with_below ts (shown b a es us) = shown b a es (us ++ ts)
+
+-- these names behind those that are annotated, if some are
+abbrev pub with_names : List Name → Shown → Shown
+with_names ns (shown b a es ts) = shown b (option_map (λ ms. ms ++ ns) a) es ts
 
 abbrev pub called_invalid : Shown → Shown
 called_invalid (shown b a es ts) = shown false a es ts
+
+abbrev pub valid_if : Bool → Shown → Shown
+valid_if v (shown b a es ts) = shown (b && v) a es ts
 
 -- an invalid one shows no annotation
 abbrev pub node_at : Path → Path → Shown → Tree
@@ -73,6 +80,10 @@ result_of n = (out-EvaluationNode n).result
 -- the node with another result
 abbrev pub with_result : EvaluationNode → EvaluationResult → EvaluationNode
 with_result n r = roll-EvaluationNode record (out-EvaluationNode n) { result = r }
+
+-- the result with other nodes below
+abbrev pub with_nodes : EvaluationResult → Vec EvaluationNode Global → EvaluationResult
+with_nodes r ns = roll-EvaluationResult record (out-EvaluationResult r) { children = ns }
 
 -- the nodes of new are those of old, and then one that shows nothing yet; whatever is written to it then stands at these places
 pub record AddsEmptyAt (P Q : Path) (old new : List EvaluationNode) : Type 0 where

@@ -4,8 +4,6 @@ ghost use Rattle.olk_base.specs.Nodes.{data_of};
 ghost use Rattle.olk_spec.specs.Faults.{fault};
 ghost use Rattle.olk_spec.specs.Names.{Path};
 ghost use Rattle.olk_spec.specs.Tree.{errors, is_valid};
-ghost use Rattle.std.specs.List.{list_all};
-ghost use Rattle.olk_reports.specs.Evaluations.{tree_of};
 
 use crate::error::{ValidationError, ValidationErrorKind};
 use olk_base::Node;
@@ -70,7 +68,8 @@ pub struct EvaluationResult<'a> {
     valid: bool,
     annotation: Option<Vec<&'a str>>,
     errors: Vec<ErrorDescription<'a>>,
-    pub(crate) children: Vec<EvaluationNode<'a>>,
+    /// The nodes below, in order.
+    pub children: Vec<EvaluationNode<'a>>,
 }
 
 /// A result with its place in the schema and in the instance.
@@ -95,7 +94,7 @@ impl Drop for EvaluationNode<'_> {
 
 impl<'a> EvaluationResult<'a> {
     ghost use Rattle.olk_reports.specs.Errors.{kind_of};
-    ghost use Rattle.olk_reports.specs.Evaluations.{AddsErrors, shown_of, tree_of, described_of, nothing_shown, annotated, errored, with_children, called_invalid};
+    ghost use Rattle.olk_reports.specs.Evaluations.{AddsErrors, shown_of, tree_of, described_of, nothing_shown, annotated, errored, with_names, called_invalid, valid_if};
 
     /// Valid, with nothing to show.
     pub fn valid_empty(alloc: Global) -> Self
@@ -115,21 +114,19 @@ impl<'a> EvaluationResult<'a> {
         *self.errors.allocator()
     }
 
-    /// Takes these as the nodes below, and is invalid where one of them is.
-    #[inline(always)]
-    pub fn take_children(&mut self, children: Vec<EvaluationNode<'a>>)
-        ensures { shown_of self.new
-            ≡ with_children (map tree_of children.entry.items) (shown_of self.old) }
-    {
-        self.valid &= all_valid(children.as_slice());
-        self.children = children;
-    }
-
     /// Is invalid, whatever the nodes below are.
     pub fn mark_invalid(&mut self)
         ensures { shown_of self.new ≡ called_invalid (shown_of self.old) }
     {
         self.valid = false;
+    }
+
+    /// Is invalid unless this is so.
+    #[inline(always)]
+    pub fn mark_invalid_unless(&mut self, valid: bool)
+        ensures { shown_of self.new ≡ valid_if valid (shown_of self.old) }
+    {
+        self.valid &= valid;
     }
 
     /// Takes these names as the annotation, which only a valid node shows (JSON Schema 2020-12
@@ -139,6 +136,22 @@ impl<'a> EvaluationResult<'a> {
             ≡ annotated (map (λ n. n.now) names.entry.items) (shown_of self.old) }
     {
         self.annotation = Some(names);
+    }
+
+    /// Takes the name behind those of the annotation, where there is one.
+    ///
+    /// # Errors
+    ///
+    /// Out of memory.
+    #[inline(always)]
+    pub fn annotate_also(&mut self, name: &'a str) -> Result<(), AllocError>
+        ensures { OnOk result (shown_of self.new
+            ≡ with_names (name.entry.now ∷ []) (shown_of self.old)) }
+    {
+        if let Some(names) = &mut self.annotation {
+            names.push(name)?;
+        }
+        Ok(())
     }
 
     /// Adds an error of its own, which makes the result invalid.
@@ -262,10 +275,4 @@ impl<'a> EvaluationNode<'a> {
     {
         self.result.children.as_slice()
     }
-}
-
-fn all_valid(children: &[EvaluationNode<'_>]) -> bool
-    ensures { result ≡ list_all (λ n. is_valid (tree_of n)) children.now }
-{
-    children.iter().all(|child| child.valid())
 }

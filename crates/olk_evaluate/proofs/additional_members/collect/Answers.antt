@@ -1,29 +1,33 @@
 use Rattle.std.proofs.Common.{ap, subst}
 use Rattle.serde_json.specs.View.{view, members_view}
 use Rattle.olk_spec.specs.Schemas.{listed}
+use Rattle.olk_reports.specs.Evaluations.{shown_of}
 use Rattle.olk_tree.proofs.Due.{name_next, no_name_next}
 use Rattle.olk_evaluate.specs.Additional.{CollectsMore, member_found}
-use Rattle.olk_evaluate.proofs.Collected.{walk_begins, member_done, members_done}
-use Rattle.olk_evaluate.proofs.Shows.{kept_same, kept_then, shows_err}
+use Rattle.olk_evaluate.proofs.Children.{with_room}
+use Rattle.olk_evaluate.proofs.Collected.{collects_all, collects_both, collects_nothing}
+use Rattle.olk_evaluate.proofs.Shows.{kept_same, kept_then, shows_err, leaves_all, leaves_rest, leaves_none}
 use Rattle.olk_evaluate.proofs.additional_members.collect.Goals as goal
 
-pub returns-in_err-collected : goal.returns-in_err-collected
-returns-in_err-collected g c = shows_err c.from_residual.ensures.0 kept_same
+pub returns-in_err-reserve_exact : goal.returns-in_err-reserve_exact
+returns-in_err-reserve_exact g c = shows_err c.from_residual.ensures.0 kept_same
 
 pub returns-in_err-collect_member : goal.returns-in_err-collect_member
 returns-in_err-collect_member g c = shows_err c.from_residual-in_err-collect_member.ensures.0 (kept_then c.loop-name.invariant.kept c.collect_member.ensures.kept)
 
-pub returns : goal.returns
-returns g c = record {
-  shown = members_done c.loop-name.invariant (no_name_next c.in-None.ensures.steps.0) c.in_ok-collected.ensures.children c.in_ok-collected.ensures.additional c.in_ok-collected.ensures.matched;
-  kept = c.loop-name.invariant.kept;
-}
-
 pub loop-name-init : goal.loop-name-init
-loop-name-init g c = walk_begins (ap (λ es. listed (members_view es)) c.into_iter-name-iterator.ensures.into_iter_gives.0)
+loop-name-init g c = leaves_all (ap (λ es. listed (members_view es)) c.into_iter-name-iterator.ensures.into_iter_gives.0)
 
 pub loop-name-preserved : goal.loop-name-preserved
-loop-name-preserved g c = member_done c.loop-name.invariant (name_next c.in-Some.ensures.steps c.as_str-name.ensures.value)
-    (subst (λ d. CollectsMore (member_found g.R.RegexEngine.answers g.N.Show.tree g.N.Means.means c.loop-name.ctx.answer c.loop-name.path c.args.keyword.now d c.as_str-name.result.now
-    (view c.in-Some.value.now)) c.loop-name.collected c.collect_member.new.collected) c.declared_from-next.ensures c.in_ok-collect_member.ensures.shown)
-    c.collect_member.ensures.kept
+loop-name-preserved g c = leaves_rest c.loop-name.invariant (name_next c.in-Some.ensures.steps c.as_str-name.ensures.value)
+    (λ _. collects_both (subst (λ d. CollectsMore (member_found g.R.RegexEngine.answers g.N.Show.tree g.N.Means.means c.loop-name.ctx.answer c.loop-name.path c.args.keyword.now d c.as_str-name.result.now
+    (view c.in-Some.value.now)) c.loop-name.collected c.collect_member.new.collected (shown_of c.loop-name.outcome) (shown_of c.collect_member.new.outcome)) c.declared_from-next.ensures
+    c.in_ok-collect_member.ensures.shown)) c.collect_member.ensures.kept
+
+pub returns : goal.returns
+returns g c =
+    let found = leaves_none c.loop-name.invariant (no_name_next c.in-None.ensures.steps.0) (collects_nothing c.loop-name.collected (shown_of c.loop-name.outcome)) in
+    record {
+      shown = collects_all c.new.ensures.items c.new-2.ensures.items found (with_room c.args.outcome.now c.reserve_exact.new.self c.in_ok-reserve_exact.ensures.items found.shown);
+      kept = c.loop-name.invariant.kept;
+    }

@@ -1,5 +1,6 @@
 use Rattle.std.proofs.Common.{ℕ, option_map}
 use Rattle.serde_json.specs.View.{view}
+use Rattle.olk_reports.specs.Evaluations.{shown_of}
 use Rattle.olk_evaluate.proofs.Collected.{Member, OnTheWay}
 use Rattle.olk_evaluate.proofs.additional_members.collect_member.Given as goal
 
@@ -16,4 +17,4 @@ invariant-loop-index g l =
       name = l.member.0.now;
       value = view l.member.1.now;
     } in
-    OnTheWay w l.spoken l.index l.path l.ctx l.fn.collected l.collected
+    OnTheWay w l.spoken l.index l.path l.ctx l.fn.collected l.collected (shown_of l.fn.outcome) (shown_of l.outcome)

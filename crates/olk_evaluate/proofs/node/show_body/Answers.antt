@@ -28,7 +28,7 @@ returns-in-False g c = shows_by c.mark_errored_by.ensures kept_same (λ _ error.
 pub returns-in-Keywords : goal.returns-in-Keywords
 returns-in-Keywords g c = shows_weaker c.show_each.ensures (λ _ each.
     subst (λ b. ShowsBody g.W.Show.tree g.W.Means.means c.args.ctx.now.answer b (data_of c.args.node) c.args.path.now (shown_of c.show_each.new.outcome)) (sym c.in-Keywords.is)
-    (shows_each g.W.Show.tree g.W.Means.means c.args.ctx.now.answer (data_of c.args.node) c.args.path.now c.in-Keywords.keywords.items each.shown each.is))
+    (shows_each g.W.Show.tree g.W.Means.means c.args.ctx.now.answer (data_of c.args.node) c.args.path.now c.in-Keywords.keywords.items c.requires each))
 
 pub returns-in-RequiredNames : goal.returns-in-RequiredNames
 returns-in-RequiredNames g c =

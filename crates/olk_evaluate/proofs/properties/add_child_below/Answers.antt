@@ -1,5 +1,6 @@
-use Rattle.std.proofs.Common.{rules, subst}
+use Rattle.std.proofs.Common.{[], ◌∷◌, rules, subst}
 use Rattle.serde_json.specs.View.{view}
+use Rattle.olk_reports.specs.Evaluations.{shown_of}
 use Rattle.olk_check.proofs.Asked.{only_same}
 use Rattle.olk_evaluate.specs.Wanted.{ShowsMore, wanted}
 use Rattle.olk_evaluate.proofs.Shows.{shows_err, shows_by}
@@ -11,5 +12,5 @@ returns-in_err-mark g c = shows_err c.from_residual.ensures.0 (record { path = c
 pub returns : goal.returns
 returns g c = shows_by c.add_child-added.ensures.shown
     (record { path = search rules; only = c.add_child-added.ensures.kept.only })
-    (λ _ more. subst (λ Q. ShowsMore (wanted g.N.Show.tree g.N.Means.means c.args.ctx.now.answer c.args.subschema.now (view c.args.member.1.now) Q)
-    c.args.children.now.items c.add_child-added.new.children.items) c.in_ok-mark.ensures.path more)
+    (λ _ more. subst (λ Q. ShowsMore (wanted g.N.Show.tree g.N.Means.means c.args.ctx.now.answer c.args.subschema.now (view c.args.member.1.now) Q ∷ [])
+    (shown_of c.args.outcome.now) (shown_of c.add_child-added.new.outcome)) c.in_ok-mark.ensures.path more)

@@ -1,10 +1,11 @@
 use Rattle.std.proofs.Common.{refl}
 use Rattle.serde_json.specs.View.{members_view}
 use Rattle.olk_base.specs.Nodes.{data_of}
+use Rattle.olk_reports.specs.Evaluations.{shown_of}
 use Rattle.olk_tree.proofs.Lists.{next_at, past_end}
-use Rattle.olk_evaluate.proofs.Members.{meeting_start, meeting_more, meeting_end, meets_all}
+use Rattle.olk_evaluate.proofs.Members.{meets_nothing, meets_both}
 use Rattle.olk_evaluate.proofs.Patterns.{other_shown, patterns_shown}
-use Rattle.olk_evaluate.proofs.Shows.{kept_same, kept_then, shows_err}
+use Rattle.olk_evaluate.proofs.Shows.{kept_same, kept_then, shows_err, leaves_all, leaves_rest, leaves_none}
 use Rattle.olk_evaluate.proofs.pattern_properties.PatternPropertiesShow.show.Goals as goal
 
 pub returns-in_default : goal.returns-in_default
@@ -14,24 +15,24 @@ returns-in_default g c = record {
   kept = kept_same;
 }
 
-pub returns-in_err-met : goal.returns-in_err-met
-returns-in_err-met g c = shows_err c.from_residual.ensures.0 kept_same
+pub returns-in_err-make_room : goal.returns-in_err-make_room
+returns-in_err-make_room g c = shows_err c.from_residual.ensures.0 kept_same
 
 pub loop-entry-init : goal.loop-entry-init
-loop-entry-init g c = meeting_start refl
+loop-entry-init g c = leaves_all refl
 
 pub loop-entry-preserved : goal.loop-entry-preserved
-loop-entry-preserved g c =
-    meeting_more c.loop-entry.invariant (next_at c.deref-entry-items.ensures.value c.entry-item.is c.loop-entry-test.true) c.in_ok-meet_matched.ensures.shown c.meet_matched.ensures.kept
+loop-entry-preserved g c = leaves_rest c.loop-entry.invariant (next_at c.deref-entry-items.ensures.value c.entry-item.is c.loop-entry-test.true)
+    (λ _. meets_both c.in_ok-show_matched.ensures.shown) c.show_matched.ensures.kept
 
-pub returns-in_err-meet_matched : goal.returns-in_err-meet_matched
-returns-in_err-meet_matched g c = shows_err c.from_residual-in_err-meet_matched.ensures.0 (kept_then c.loop-entry.invariant.kept c.meet_matched.ensures.kept)
+pub returns-in_err-show_matched : goal.returns-in_err-show_matched
+returns-in_err-show_matched g c = shows_err c.from_residual-in_err-show_matched.ensures.0 (kept_then c.loop-entry.invariant.kept c.show_matched.ensures.kept)
 
 pub returns : goal.returns
 returns g c = record {
   shown = patterns_shown g.R.RegexEngine.answers g.N.Show.tree g.N.Means.means c.args.ctx.now.answer c.args.path.now c.args.self.now.patterns.items (data_of c.args.node)
-      (members_view c.in-Some.members.now.entries) c.in-Some.ensures (meets_all c.in_ok-met.ensures.names c.in_ok-met.ensures.children
-      (meeting_end c.loop-entry.invariant (past_end c.deref-entry-items.ensures.value c.loop-entry-test.false)))
-      g.R.RegexEngine.costs c.args.self.now.location c.show.ensures;
+      (members_view c.in-Some.members.now.entries) c.in-Some.ensures c.requires c.in_ok-make_room.ensures
+      (leaves_none c.loop-entry.invariant (past_end c.deref-entry-items.ensures.value c.loop-entry-test.false) (meets_nothing (shown_of c.loop-entry.outcome)))
+      g.R.RegexEngine.costs c.args.self.now.location;
   kept = c.loop-entry.invariant.kept;
 }

@@ -3,27 +3,20 @@ use Rattle.serde_json.specs.Data.{object}
 use Rattle.serde_json.specs.View.{members_view}
 use Rattle.olk_base.specs.Nodes.{data_of}
 use Rattle.olk_evaluate.proofs.Children.{shown_as}
-use Rattle.olk_evaluate.proofs.Members.{meets_all}
 use Rattle.olk_evaluate.proofs.Patterns.{other_shown, patterns_shown, meets_matched, mean_of_one}
-use Rattle.olk_evaluate.proofs.Shows.{kept_same, shows_err}
+use Rattle.olk_evaluate.proofs.Shows.{kept_same, shows_err, shows_weaker}
 use Rattle.olk_evaluate.proofs.pattern_properties.SingleValuePatternPropertiesShow.show.Goals as goal
 
-pub returns-in_err-met : goal.returns-in_err-met
-returns-in_err-met g c = shows_err c.from_residual.ensures.0 kept_same
-
-pub returns-in_err-meet_matched : goal.returns-in_err-meet_matched
-returns-in_err-meet_matched g c = shows_err c.from_residual-in_err-meet_matched.ensures.0 c.meet_matched.ensures.kept
+pub returns-in_err-make_room : goal.returns-in_err-make_room
+returns-in_err-make_room g c = shows_err c.from_residual.ensures.0 kept_same
 
 pub returns : goal.returns
-returns g c = record {
-  shown = shown_as (patterns_shown g.R.RegexEngine.answers g.N.Show.tree g.N.Means.means c.args.ctx.now.answer c.args.path.now ((c.args.self.now.regex, c.args.self.now.node) ∷ [])
-      (data_of c.args.node) (members_view c.in-Some.members.now.entries) c.in-Some.ensures (meets_all c.in_ok-met.ensures.names c.in_ok-met.ensures.children
-      (meets_matched g.R.RegexEngine.answers c.args.ctx.now.answer c.args.self.now.regex c.args.self.now.node
-      (object (members_view c.in-Some.members.now.entries)) c.in_ok-meet_matched.ensures.shown))
-      g.R.RegexEngine.costs c.args.self.now.location c.show.ensures)
-      refl (mean_of_one g.R.RegexEngine.answers c.args.ctx.now.answer c.args.self.now.regex c.args.self.now.node (data_of c.args.node) g.R.RegexEngine.costs g.N.Means.means);
-  kept = c.meet_matched.ensures.kept;
-}
+returns g c = shows_weaker c.show_matched.ensures (λ _ met.
+    shown_as (patterns_shown g.R.RegexEngine.answers g.N.Show.tree g.N.Means.means c.args.ctx.now.answer c.args.path.now ((c.args.self.now.regex, c.args.self.now.node) ∷ [])
+    (data_of c.args.node) (members_view c.in-Some.members.now.entries) c.in-Some.ensures c.requires c.in_ok-make_room.ensures
+    (meets_matched g.R.RegexEngine.answers c.args.ctx.now.answer c.args.self.now.regex c.args.self.now.node (object (members_view c.in-Some.members.now.entries)) met)
+    g.R.RegexEngine.costs c.args.self.now.location)
+    refl (mean_of_one g.R.RegexEngine.answers c.args.ctx.now.answer c.args.self.now.regex c.args.self.now.node (data_of c.args.node) g.R.RegexEngine.costs g.N.Means.means))
 
 pub returns-in_default : goal.returns-in_default
 returns-in_default g c = record {

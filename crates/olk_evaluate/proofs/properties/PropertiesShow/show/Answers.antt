@@ -1,28 +1,22 @@
-use Rattle.std.proofs.Common.{ap, subst, ◌∙◌}
+use Rattle.std.proofs.Common.{subst}
 use Rattle.serde_json.specs.View.{members_view}
 use Rattle.olk_base.specs.Nodes.{data_of}
 use Rattle.olk_spec.specs.Schemas.{listed}
+use Rattle.olk_reports.specs.Evaluations.{shown_of}
 use Rattle.olk_tree.specs.Maps.{mapped}
 use Rattle.olk_tree.specs.Properties.{properties_mean}
 use Rattle.olk_tree.specs.Visited.{members_declared, object_of}
 use Rattle.olk_evaluate.specs.Members.{HasMet, wanted_at}
 use Rattle.olk_evaluate.proofs.Members.{alone_shown, no_member_shown}
-use Rattle.olk_evaluate.proofs.Shows.{kept_same, shows_err}
+use Rattle.olk_evaluate.proofs.Shows.{kept_same, shows_weaker}
 use Rattle.olk_evaluate.proofs.properties.PropertiesShow.show.Goals as goal
 
-pub returns-in_err-met-in-Some : goal.returns-in_err-met-in-Some
-returns-in_err-met-in-Some g c = shows_err c.from_residual.ensures.0 c.meet.ensures.kept
-
-pub returns-in_ok-met-in-Some : goal.returns-in_ok-met-in-Some
-returns-in_ok-met-in-Some g c = record {
-  shown = alone_shown g.N.Show.tree g.N.Means.means c.args.ctx.now.answer c.args.path.now (mapped c.args.self.now.properties) c.args.self.now.location (data_of c.args.node)
-      (members_view c.in-Some.members.now.entries) c.in-Some.ensures c.in_ok-met-in-Some.met
-      (subst (λ es. HasMet (wanted_at g.N.Show.tree g.N.Means.means c.args.ctx.now.answer c.args.path.now) (members_declared es (listed (members_view c.in-Some.members.now.entries)))
-      c.in_ok-met-in-Some.met) c.entries.ensures c.in_ok-met-in-Some.ensures.shown.0)
-      (c.in_ok-met-in-Some.ensures.shown.1 ∙ ap (λ es. (properties_mean g.N.Means.means es (object_of c.in-Some.members.now.entries)).accepts c.args.ctx.now.answer) c.entries.ensures)
-      c.show.ensures;
-  kept = c.meet.ensures.kept;
-}
+pub returns-in-Some : goal.returns-in-Some
+returns-in-Some g c = shows_weaker c.show_declared_members.ensures (λ _ met.
+    alone_shown g.N.Show.tree g.N.Means.means c.args.ctx.now.answer c.args.path.now (mapped c.args.self.now.properties) c.args.self.now.location (data_of c.args.node)
+    (members_view c.in-Some.members.now.entries) c.in-Some.ensures
+    (subst (λ es. HasMet (wanted_at g.N.Show.tree g.N.Means.means c.args.ctx.now.answer c.args.path.now) (members_declared es (listed (members_view c.in-Some.members.now.entries)))
+    ((properties_mean g.N.Means.means es (object_of c.in-Some.members.now.entries)).accepts c.args.ctx.now.answer) (shown_of c.show_declared_members.new.outcome)) c.entries.ensures met))
 
 pub returns-in-None : goal.returns-in-None
 returns-in-None g c = record {

@@ -2,36 +2,37 @@ use Rattle.std.proofs.Common.{◌++◌, refl, sym, ap, subst, ◌∙◌}
 use Rattle.std.specs.List.{flat_map}
 use Rattle.serde_json.specs.View.{members_view}
 use Rattle.olk_base.specs.Nodes.{data_of}
+use Rattle.olk_reports.specs.Evaluations.{shown_of}
 use Rattle.olk_tree.specs.Maps.{named}
 use Rattle.olk_tree.specs.PropertyDependencies.{chosen_nodes}
 use Rattle.olk_tree.specs.Visited.{left_of}
 use Rattle.olk_tree.proofs.Due.{chosen, all_chosen, none_chosen}
 use Rattle.olk_tree.proofs.Maps.{map-flat_map}
 use Rattle.olk_tree.proofs.Members_met.{object_is}
-use Rattle.olk_evaluate.specs.Wanted.{AreShown, wanted, trees_of}
-use Rattle.olk_evaluate.proofs.Children.{over_children, shows_each, shows_none, showing_start, showing_more, showing_none, showing_end}
-use Rattle.olk_evaluate.proofs.Shows.{kept_same, kept_then, shows_err}
+use Rattle.olk_evaluate.specs.Wanted.{ShowsMore, wanted}
+use Rattle.olk_evaluate.proofs.Children.{shows_both, shows_each, shows_no_branch, shows_none}
+use Rattle.olk_evaluate.proofs.Shows.{kept_same, kept_then, shows_err, leaves_all, leaves_rest, leaves_same, leaves_none}
 use Rattle.olk_evaluate.proofs.property_dependencies.PropertyDependenciesShow.show.Goals as goal
 
 pub returns-in_default : goal.returns-in_default
 returns-in_default g c = record {
-  shown = shows_none g.N.Show.tree g.N.Means.means c.args.ctx.now.answer (data_of c.args.node) c.args.path.now
+  shown = shows_no_branch g.N.Show.tree g.N.Means.means c.args.ctx.now.answer (data_of c.args.node) c.args.path.now
       (chosen_nodes (named c.args.self.now.dependencies) (data_of c.args.node)) (none_chosen (data_of c.args.node) c.in_default.ensures (named c.args.self.now.dependencies)) c.requires
       c.args.self.now.location;
   kept = kept_same;
 }
 
 pub loop-choices-init : goal.loop-choices-init
-loop-choices-init g c = showing_start c.new-children.ensures.items refl
+loop-choices-init g c = leaves_all refl
 
 pub loop-choices-preserved-in_default-chosen_by : goal.loop-choices-preserved-in_default-chosen_by
-loop-choices-preserved-in_default-chosen_by g c = showing_none c.loop-choices.invariant
+loop-choices-preserved-in_default-chosen_by g c = leaves_same c.loop-choices.invariant
     (ap (flat_map chosen) c.in-Some-2.ensures.steps ∙ ap (λ ns. ns ++ flat_map chosen (left_of c.next.new.self)) (sym c.in_default-chosen_by.ensures)) kept_same
 
 pub loop-choices-preserved : goal.loop-choices-preserved
-loop-choices-preserved g c = showing_more c.loop-choices.invariant
+loop-choices-preserved g c = leaves_rest c.loop-choices.invariant
     (ap (flat_map chosen) c.in-Some-2.ensures.steps ∙ ap (λ ns. ns ++ flat_map chosen (left_of c.next.new.self)) (sym c.in-Some-chosen_by.ensures))
-    c.in_ok-add_child.ensures.shown c.add_child.ensures.kept
+    (λ _. shows_both c.in_ok-add_child.ensures.shown) c.add_child.ensures.kept
 
 pub returns-in_err-add_child : goal.returns-in_err-add_child
 returns-in_err-add_child g c = shows_err c.from_residual.ensures.0 (kept_then c.loop-choices.invariant.kept c.add_child.ensures.kept)
@@ -39,15 +40,13 @@ returns-in_err-add_child g c = shows_err c.from_residual.ensures.0 (kept_then c.
 pub returns : goal.returns
 returns g c =
     let entries = members_view c.in-Some.members.now.entries in
-    let children = c.loop-choices.children.items in
     record {
       shown = shows_each g.N.Show.tree g.N.Means.means c.args.ctx.now.answer (data_of c.args.node) c.args.path.now
           (chosen_nodes (named c.args.self.now.dependencies) (data_of c.args.node))
-          (subst (λ ws. AreShown ws (trees_of children))
+          c.requires (subst (λ ws. ShowsMore ws (shown_of c.args.outcome.now) (shown_of c.loop-choices.outcome))
           (sym (map-flat_map _ chosen (left_of c.into_iter-choices-iterator.result))
           ∙ all_chosen entries (named c.args.self.now.dependencies) c.into_iter-choices-iterator.ensures.into_iter_gives c.declared_members-choices-items.ensures.by_names
           (data_of c.args.node) (sym (object_is (data_of c.args.node) entries c.in-Some.ensures)) (λ n. wanted g.N.Show.tree g.N.Means.means c.args.ctx.now.answer n (data_of c.args.node) c.args.path.now))
-          (showing_end c.loop-choices.invariant (ap (flat_map chosen) c.in-None.ensures.steps)))
-          (over_children children c.requires c.take_children.ensures) c.args.self.now.location;
+          (leaves_none c.loop-choices.invariant (ap (flat_map chosen) c.in-None.ensures.steps) (shows_none (shown_of c.loop-choices.outcome)))) c.args.self.now.location;
       kept = c.loop-choices.invariant.kept;
     }

@@ -1,31 +1,27 @@
-use Rattle.std.proofs.Common.{sym, ◌∙◌}
-use Rattle.std.proofs.lemmas.List.{append-nil}
+use Rattle.std.proofs.Common.{[], ◌∷◌, ◌∙◌}
 use Rattle.serde_json.specs.View.{view}
 use Rattle.olk_spec.specs.Names.{◌//◌}
 use Rattle.olk_base.specs.Compiled.{pattern_answers, pattern_costs}
+use Rattle.olk_reports.specs.Evaluations.{shown_of}
 use Rattle.olk_tree.specs.AdditionalAgreement.{match_is_said}
 use Rattle.olk_tree.specs.Tables.{known_says}
-use Rattle.olk_evaluate.specs.Additional.{names_of}
 use Rattle.olk_evaluate.specs.Wanted.{ShowsMore, wanted}
-use Rattle.olk_evaluate.proofs.Collected.{collects_child, collects_no_match}
+use Rattle.olk_evaluate.proofs.Children.{shows_none}
 use Rattle.olk_evaluate.proofs.Shows.{kept_asked, kept_then, as_before, shows_err}
-use Rattle.olk_evaluate.proofs.additional_members.collect_if_matched.Goals as goal
+use Rattle.olk_evaluate.proofs.additional_members.show_if_matched.Goals as goal
 
 pub returns-then-not-matches_unless_known : goal.returns-then-not-matches_unless_known
 returns-then-not-matches_unless_known g c = record {
   shown = (
     c.if-not-matches_unless_known.ensures.verdict ∙ match_is_said c.args.ctx.now.answer (pattern_costs g.R.RegexEngine.costs c.args.entry.now.0) (known_says c.args.known)
         (pattern_answers g.R.RegexEngine.answers c.args.entry.now.0 c.args.member.0.now),
-    collects_no_match c.args.is_shown c.args.collected.now,
+    shows_none (shown_of c.args.outcome.now),
   );
   kept = kept_asked c.if-not-matches_unless_known.ensures.only;
 }
 
 pub returns-in_err-add_child_below : goal.returns-in_err-add_child_below
 returns-in_err-add_child_below g c = shows_err c.from_residual.ensures.0 (kept_then (kept_asked c.if-not-matches_unless_known.ensures.only) c.add_child_below.ensures.kept)
-
-pub returns-in_err-push_if : goal.returns-in_err-push_if
-returns-in_err-push_if g c = shows_err c.from_residual-in_err-push_if.ensures.0 (kept_then (kept_asked c.if-not-matches_unless_known.ensures.only) c.add_child_below.ensures.kept)
 
 pub returns : goal.returns
 returns g c =
@@ -34,9 +30,8 @@ returns g c =
       shown = (
         c.if-not-matches_unless_known.ensures.verdict ∙ match_is_said c.args.ctx.now.answer (pattern_costs g.R.RegexEngine.costs c.args.entry.now.0) (known_says c.args.known)
             (pattern_answers g.R.RegexEngine.answers c.args.entry.now.0 c.args.member.0.now),
-        collects_child (sym (append-nil (names_of c.args.collected.now.additional.items))) c.in_ok-push_if.ensures
-            (as_before (λ u Q. ShowsMore (wanted g.N.Show.tree g.N.Means.means u c.args.entry.now.1 (view c.args.member.1.now) (Q // c.args.member.0.now))
-            c.args.collected.now.children.items c.add_child_below.new.children.items) asked c.in_ok-add_child_below.ensures.shown),
+        as_before (λ u Q. ShowsMore (wanted g.N.Show.tree g.N.Means.means u c.args.entry.now.1 (view c.args.member.1.now) (Q // c.args.member.0.now) ∷ [])
+            (shown_of c.args.outcome.now) (shown_of c.add_child_below.new.outcome)) asked c.in_ok-add_child_below.ensures.shown,
       );
       kept = kept_then asked c.add_child_below.ensures.kept;
     }
