@@ -56,9 +56,10 @@ pub(crate) fn collect<'a, R: RegexEngine, N: Located<'a>>(
         (listed (members_view members.now.entries))) c (shown_of outcome.old) (shown_of outcome.new)) }
 {
     outcome.children.reserve_exact(members.len())?;
+    let alloc = outcome.allocator();
     let mut collected: Collected<'a> = Collected {
-        additional: Vec::new(outcome.allocator()),
-        matched: Vec::new(outcome.allocator()),
+        additional: Vec::new(alloc),
+        matched: Vec::new(alloc),
     };
     let mut hint = 0;
     for (name, value) in members {
