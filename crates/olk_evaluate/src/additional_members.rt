@@ -53,7 +53,8 @@ pub(crate) fn collect<'a, R: RegexEngine, N: Located<'a>>(
 ) -> Result<Collected<'a>, AllocError>
     ensures { Shows result path.old path.new ctx.old ctx.new (λ c. Collects
         (members_found R.answers N.tree N.means ctx.old.answer path.old keyword.now
-        (listed (members_view members.now.entries))) c (shown_of outcome.old) (shown_of outcome.new)) }
+        (listed (members_view members.now.entries))) c
+        (shown_of outcome.old) (shown_of outcome.new)) }
 {
     outcome.children.reserve_exact(members.len())?;
     let alloc = outcome.allocator();

@@ -41,7 +41,8 @@ pub fn compile<'a, L: MakeLeaf, M: MakeRegex, N: BuiltNode<L::Leaf, M::Engine>>(
         (view schema.now) ctx.old.place ctx.old.meter.now ctx.new.meter.now) }
     ensures form { Gives result (IsRequired (one_below ctx.old.place (codes "required"))
         (view schema.now)) }
-    ensures fused { is_none result ≡ (is_some (plan_of (members_view parent.now.entries)).fused_pair
+    ensures fused { is_none result
+        ≡ (is_some (plan_of (members_view parent.now.entries)).fused_pair
         || is_some (plan_of (members_view parent.now.entries)).fused_one) }
     ensures fused_at_no_cost { IfNone result (ctx.new.meter.now ≡ ctx.old.meter.now) }
     ensures place { ctx.new.place ≡ ctx.old.place }

@@ -59,7 +59,8 @@ impl Trail<'_, '_> {
 
     /// Appends the text.
     fn write_to(&self, text: &mut String) -> Result<(), AllocError>
-        ensures { OnOk result (string_bytes text.new ≡ string_bytes text.old ++ path_at self.now) }
+        ensures { OnOk result (string_bytes text.new
+            ≡ string_bytes text.old ++ path_at self.now) }
     {
         match self {
             Trail::At(path) => text.push_str(path),

@@ -135,7 +135,8 @@ impl<N> SortedEntries<N> {
     /// The entry of the name.
     pub fn get(&self, name: &str) -> Option<&Entry<N>>
         ensures key { IfSome result (λ found. text_of found.now ≡ name.now) }
-        ensures node { option_map (λ found. found.now.node) result ≡ lookup_name name.now self.now }
+        ensures node { option_map (λ found. found.now.node) result
+            ≡ lookup_name name.now self.now }
     {
         let entries = self.as_slice();
         match find_apart(entries, 0, name) {

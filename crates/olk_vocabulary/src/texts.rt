@@ -162,7 +162,8 @@ pub(crate) fn kinds_text(
 
 fn push_kinds(text: &mut String, kinds: &[ValueKind]) -> Result<(), AllocError>
     ensures { OnOk result (string_bytes text.new
-        ≡ string_bytes text.old ++ separated (map (λ k. compact_text (kind_value k)) kinds.now)) }
+        ≡ string_bytes text.old
+        ++ separated (map (λ k. compact_text (kind_value k)) kinds.now)) }
 {
     match kinds.split_first() {
         Some((first, rest)) => {
@@ -185,7 +186,8 @@ fn push_further_kinds(text: &mut String, kinds: &[ValueKind]) -> Result<(), Allo
 }
 
 pub(crate) fn constant_text(alloc: Global, value: &Value) -> Result<String, AllocError>
-    ensures { IfOk result (λ s. string_bytes s ≡ shown (view value.now) ++ codes " was expected") }
+    ensures { IfOk result (λ s. string_bytes s
+        ≡ shown (view value.now) ++ codes " was expected") }
 {
     text_of(alloc, Node::Value(value), " was expected")
 }
