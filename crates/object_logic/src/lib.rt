@@ -18,9 +18,9 @@ pub use olk_keywords::{
 
 // Building and asking.
 pub use olk_validator::{
-    BuiltNode, Context, DEFERRED_MEMBERS, ErrorSink, Errors, Evaluate, HASHMAP_THRESHOLD, IsValid,
-    Located, Makers, Means, Meter, Reports, Show, Stop, Validate, ValidationContext, Validator,
-    Walk, are_properties_valid, compile, holds_whole_numbers,
+    BuiltNode, Context, DEFERRED_MEMBERS, ErrorSink, Errors, Evaluate, EvaluationContext,
+    HASHMAP_THRESHOLD, IsValid, Located, Makers, Means, Meter, Reports, Show, Stop, Validate,
+    ValidationContext, Validator, Walk, are_properties_valid, compile, holds_whole_numbers,
 };
 
 // What is answered.

@@ -3,6 +3,7 @@ use Rattle.std.specs.Prelude.{◌≡◌, Result, IfOk}
 use Rattle.olk_spec.specs.Names.{Path}
 use Rattle.olk_base.specs.Lawful.{Asking}
 use Rattle.olk_check.specs.Asks.{OnlyAsks}
+use Rattle.olk_evaluate.specs.declared.EvaluationContext.{EvaluationContext}
 
 -- the path is as before, and the context has only been asked
 pub record Kept (p q : Path) (a b : Asking) : Type 0 where
@@ -10,6 +11,6 @@ pub record Kept (p q : Path) (a b : Asking) : Type 0 where
   pub only : OnlyAsks a b
 
 -- where it ends well, So holds of its result; either way the path and the context are kept
-pub record Shows {T E : Type 0} (r : Result T E) (p q : Path) (a b : Asking) (So : T → Type 0) : Type 0 where
+pub record Shows {T E : Type 0} (r : Result T E) (a b : EvaluationContext) (So : T → Type 0) : Type 0 where
   pub shown : IfOk r So
-  pub kept : Kept p q a b
+  pub kept : Kept a.path b.path a.validation b.validation

@@ -12,11 +12,10 @@ ghost use Rattle.olk_evaluate.specs.Additional.{Collects, CollectsMore, member_f
 ghost use Rattle.olk_evaluate.specs.Shows.{Shows};
 ghost use Rattle.olk_evaluate.specs.Wanted.{ShowsMore};
 
-use crate::Located;
 use crate::properties::add_child_below;
-use olk_base::{CompiledPattern, RegexEngine, ValidationContext};
+use crate::{EvaluationContext, Located};
+use olk_base::{CompiledPattern, RegexEngine};
 use olk_check::matches_unless_known;
-use olk_paths::InstancePath;
 use olk_reports::EvaluationResult;
 use olk_tree::additional_properties::AdditionalProperties;
 use serde_json::{Map, Value};
@@ -47,12 +46,11 @@ fn push_if<'a>(names: &mut Vec<&'a str>, name: &'a str, is_shown: bool) -> Resul
 pub(crate) fn collect<'a, R: RegexEngine, N: Located<'a>>(
     keyword: &'a AdditionalProperties<R, N>,
     members: &'a Map<String, Value>,
-    path: &mut InstancePath,
-    ctx: &mut ValidationContext,
+    ctx: &mut EvaluationContext,
     outcome: &mut EvaluationResult<'a>,
 ) -> Result<Collected<'a>, AllocError>
-    ensures { Shows result path.old path.new ctx.old ctx.new (λ c. Collects
-        (members_found R.answers N.tree N.means ctx.old.answer path.old keyword.now
+    ensures { Shows result ctx.old ctx.new (λ c. Collects
+        (members_found R.answers N.tree N.means ctx.old.validation.answer ctx.old.path keyword.now
         (listed (members_view members.now.entries))) c
         (shown_of outcome.old) (shown_of outcome.new)) }
 {
@@ -71,7 +69,6 @@ pub(crate) fn collect<'a, R: RegexEngine, N: Located<'a>>(
             keyword,
             declared,
             (name, value),
-            path,
             ctx,
             outcome,
             &mut collected,
@@ -86,23 +83,22 @@ fn collect_member<'a, R: RegexEngine, N: Located<'a>>(
     keyword: &'a AdditionalProperties<R, N>,
     declared: Option<(usize, &'a N)>,
     member: (&'a str, &'a Value),
-    path: &mut InstancePath,
-    ctx: &mut ValidationContext,
+    ctx: &mut EvaluationContext,
     outcome: &mut EvaluationResult<'a>,
     collected: &mut Collected<'a>,
 ) -> Result<(), AllocError>
-    ensures { Shows result path.old path.new ctx.old ctx.new (λ _. CollectsMore
-        (member_found R.answers N.tree N.means ctx.old.answer path.old keyword.now
+    ensures { Shows result ctx.old ctx.new (λ _. CollectsMore
+        (member_found R.answers N.tree N.means ctx.old.validation.answer ctx.old.path keyword.now
         (option_map (λ f. (f.0, f.1.now)) declared.entry)
         member.entry.0.now (view member.entry.1.now))
         collected.old collected.new (shown_of outcome.old) (shown_of outcome.new)) }
 {
-    show_declared(declared, member, path, ctx, outcome)?;
+    show_declared(declared, member, ctx, outcome)?;
     let are_shown = keyword.properties.is_none();
     let mut spoken = declared.is_some();
     for (index, entry) in keyword.patterns().iter().enumerate() {
         let known = keyword.known(declared, index);
-        let is_match = show_if_matched(entry, known, member, path, ctx, outcome)?;
+        let is_match = show_if_matched(entry, known, member, ctx, outcome)?;
         push_if(&mut collected.matched, member.0, is_match & are_shown)?;
         spoken |= is_match;
     }
@@ -110,7 +106,7 @@ fn collect_member<'a, R: RegexEngine, N: Located<'a>>(
         return Ok(());
     }
     collected.additional.push(member.0)?;
-    show_rest(&keyword.rest, member, path, ctx, outcome)
+    show_rest(&keyword.rest, member, ctx, outcome)
 }
 
 /// What is declared at a member's name, if anything is.
@@ -118,18 +114,17 @@ fn collect_member<'a, R: RegexEngine, N: Located<'a>>(
 fn show_declared<'a, N: Located<'a>>(
     declared: Option<(usize, &'a N)>,
     member: (&'a str, &'a Value),
-    path: &mut InstancePath,
-    ctx: &mut ValidationContext,
+    ctx: &mut EvaluationContext,
     outcome: &mut EvaluationResult<'a>,
 ) -> Result<(), AllocError>
-    ensures { Shows result path.old path.new ctx.old ctx.new (λ _. ShowsMore
-        (nodes_wanted N.tree N.means ctx.old.answer path.old
+    ensures { Shows result ctx.old ctx.new (λ _. ShowsMore
+        (nodes_wanted N.tree N.means ctx.old.validation.answer ctx.old.path
         member.entry.0.now (view member.entry.1.now)
         (option_to_list (option_map (λ f. f.1.now) declared.entry)))
         (shown_of outcome.old) (shown_of outcome.new)) }
 {
     match declared {
-        Some((_, subschema)) => add_child_below(subschema, member, path, ctx, outcome),
+        Some((_, subschema)) => add_child_below(subschema, member, ctx, outcome),
         None => Ok(()),
     }
 }
@@ -140,21 +135,20 @@ fn show_if_matched<'a, R: RegexEngine, N: Located<'a>>(
     entry: &'a (CompiledPattern<R>, N),
     known: Option<bool>,
     member: (&'a str, &'a Value),
-    path: &mut InstancePath,
-    ctx: &mut ValidationContext,
+    ctx: &mut EvaluationContext,
     outcome: &mut EvaluationResult<'a>,
 ) -> Result<bool, AllocError>
-    ensures { Shows result path.old path.new ctx.old ctx.new (λ b.
-        b ≡ reads_as ctx.old.answer
+    ensures { Shows result ctx.old ctx.new (λ b.
+        b ≡ reads_as ctx.old.validation.answer
         (known_or (known_says known) (pattern_answers R.answers entry.now.0 member.entry.0.now))
-        × ShowsMore (nodes_wanted N.tree N.means ctx.old.answer path.old
+        × ShowsMore (nodes_wanted N.tree N.means ctx.old.validation.answer ctx.old.path
         member.entry.0.now (view member.entry.1.now) (put_if b entry.now.1 []))
         (shown_of outcome.old) (shown_of outcome.new)) }
 {
-    if !matches_unless_known(known, &entry.0, member.0, ctx) {
+    if !matches_unless_known(known, &entry.0, member.0, &mut ctx.validation) {
         return Ok(false);
     }
-    add_child_below(&entry.1, member, path, ctx, outcome)?;
+    add_child_below(&entry.1, member, ctx, outcome)?;
     Ok(true)
 }
 
@@ -163,17 +157,16 @@ fn show_if_matched<'a, R: RegexEngine, N: Located<'a>>(
 fn show_rest<'a, N: Located<'a>>(
     rest: &'a Option<N>,
     member: (&'a str, &'a Value),
-    path: &mut InstancePath,
-    ctx: &mut ValidationContext,
+    ctx: &mut EvaluationContext,
     outcome: &mut EvaluationResult<'a>,
 ) -> Result<(), AllocError>
-    ensures { Shows result path.old path.new ctx.old ctx.new (λ _. ShowsMore
-        (nodes_wanted N.tree N.means ctx.old.answer path.old
+    ensures { Shows result ctx.old ctx.new (λ _. ShowsMore
+        (nodes_wanted N.tree N.means ctx.old.validation.answer ctx.old.path
         member.entry.0.now (view member.entry.1.now) (option_to_list rest.now))
         (shown_of outcome.old) (shown_of outcome.new)) }
 {
     match rest {
-        Some(subschema) => add_child_below(subschema, member, path, ctx, outcome),
+        Some(subschema) => add_child_below(subschema, member, ctx, outcome),
         None => Ok(()),
     }
 }

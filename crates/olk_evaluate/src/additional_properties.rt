@@ -13,8 +13,8 @@ ghost use Rattle.olk_evaluate.specs.Wanted.{ShowsMore, accepted};
 
 use crate::additional_members::collect;
 use crate::required::add_missing_name;
-use crate::{Located, Show};
-use olk_base::{Node, RegexEngine, ValidationContext};
+use crate::{EvaluationContext, Located, Show};
+use olk_base::{Node, RegexEngine};
 use olk_meaning::law_of_names;
 use olk_paths::InstancePath;
 use olk_reports::{EvaluationNode, EvaluationResult, ValidationErrorKind};
@@ -41,17 +41,16 @@ impl<'a, R: RegexEngine, N: Located<'a>> Show<'a> for AdditionalProperties<R, N>
     fn show(
         &'a self,
         node: Node<'a>,
-        path: &mut InstancePath,
-        ctx: &mut ValidationContext,
+        ctx: &mut EvaluationContext,
         outcome: &mut EvaluationResult<'a>,
     ) -> Result<(), AllocError> {
         let Some(members) = node.as_object() else {
             return Ok(());
         };
         law_of_names(members);
-        let collected = collect(self, members, path, ctx, outcome)?;
+        let collected = collect(self, members, ctx, outcome)?;
         let matched = collected.matched;
-        add_places(self, matched, members, node, path, outcome)?;
+        add_places(self, matched, members, node, &ctx.path, outcome)?;
         complete(self, outcome, collected.additional, members, node)
     }
 }

@@ -1,8 +1,7 @@
 //! `allOf`: what it shows.
 use crate::walk::{show_each, show_one};
-use crate::{Located, Show};
-use olk_base::{Node, ValidationContext};
-use olk_paths::InstancePath;
+use crate::{EvaluationContext, Located, Show};
+use olk_base::Node;
 use olk_reports::EvaluationResult;
 use olk_tree::all_of::{AllOf, SingleValueAllOf};
 use std::alloc::AllocError;
@@ -19,11 +18,10 @@ impl<'a, N: Located<'a>> Show<'a> for AllOf<N> {
     fn show(
         &'a self,
         node: Node<'a>,
-        path: &mut InstancePath,
-        ctx: &mut ValidationContext,
+        ctx: &mut EvaluationContext,
         outcome: &mut EvaluationResult<'a>,
     ) -> Result<(), AllocError> {
-        show_each(&self.schemas, node, path, ctx, outcome)
+        show_each(&self.schemas, node, ctx, outcome)
     }
 }
 
@@ -39,10 +37,9 @@ impl<'a, N: Located<'a>> Show<'a> for SingleValueAllOf<N> {
     fn show(
         &'a self,
         node: Node<'a>,
-        path: &mut InstancePath,
-        ctx: &mut ValidationContext,
+        ctx: &mut EvaluationContext,
         outcome: &mut EvaluationResult<'a>,
     ) -> Result<(), AllocError> {
-        show_one(&self.node, node, path, ctx, outcome)
+        show_one(&self.node, node, ctx, outcome)
     }
 }

@@ -6,10 +6,9 @@ ghost use Rattle.olk_evaluate.specs.Shows.{Shows};
 ghost use Rattle.olk_evaluate.specs.Wanted.{ShowsAccepting};
 
 use crate::walk::{add_child, show_each, show_one};
-use crate::{Located, Show};
-use olk_base::{Node, ValidationContext};
+use crate::{EvaluationContext, Located, Show};
+use olk_base::Node;
 use olk_check::IsValid;
-use olk_paths::InstancePath;
 use olk_reports::EvaluationResult;
 use olk_tree::any_of::{AnyOf, SingleAnyOf};
 use std::alloc::AllocError;
@@ -27,11 +26,10 @@ impl<'a, N: Located<'a>> Show<'a> for AnyOf<N> {
     fn show(
         &'a self,
         node: Node<'a>,
-        path: &mut InstancePath,
-        ctx: &mut ValidationContext,
+        ctx: &mut EvaluationContext,
         outcome: &mut EvaluationResult<'a>,
     ) -> Result<(), AllocError> {
-        show_accepting(&self.schemas, node, path, ctx, outcome)?;
+        show_accepting(&self.schemas, node, ctx, outcome)?;
         Ok(())
     }
 }
@@ -48,11 +46,10 @@ impl<'a, N: Located<'a>> Show<'a> for SingleAnyOf<N> {
     fn show(
         &'a self,
         node: Node<'a>,
-        path: &mut InstancePath,
-        ctx: &mut ValidationContext,
+        ctx: &mut EvaluationContext,
         outcome: &mut EvaluationResult<'a>,
     ) -> Result<(), AllocError> {
-        show_one(&self.node, node, path, ctx, outcome)
+        show_one(&self.node, node, ctx, outcome)
     }
 }
 
@@ -62,24 +59,23 @@ impl<'a, N: Located<'a>> Show<'a> for SingleAnyOf<N> {
 pub(crate) fn show_accepting<'a, N: Located<'a>>(
     schemas: &'a Vec<N>,
     node: Node<'a>,
-    path: &mut InstancePath,
-    ctx: &mut ValidationContext,
+    ctx: &mut EvaluationContext,
     outcome: &mut EvaluationResult<'a>,
 ) -> Result<usize, AllocError>
     requires { shown_of outcome.old ≡ nothing_shown }
-    ensures { Shows result path.old path.new ctx.old ctx.new (λ count. ShowsAccepting
-        N.tree N.means ctx.old.answer
-        schemas.now.items (data_of node.entry) path.old count (shown_of outcome.new)) }
+    ensures { Shows result ctx.old ctx.new (λ count. ShowsAccepting
+        N.tree N.means ctx.old.validation.answer
+        schemas.now.items (data_of node.entry) ctx.old.path count (shown_of outcome.new)) }
 {
     for schema in schemas {
-        if !schema.is_valid(node, ctx) {
+        if !schema.is_valid(node, &mut ctx.validation) {
             continue;
         }
-        add_child(schema, node, path, ctx, outcome)?;
+        add_child(schema, node, ctx, outcome)?;
     }
     let count = outcome.children.len();
     if count == 0 {
-        show_each(schemas, node, path, ctx, outcome)?;
+        show_each(schemas, node, ctx, outcome)?;
         outcome.mark_invalid();
     }
     Ok(count)

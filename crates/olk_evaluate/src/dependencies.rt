@@ -1,8 +1,7 @@
 //! `dependentRequired`, `dependentSchemas` and `dependencies`: what they show.
 use crate::walk::add_child;
-use crate::{Located, Show};
-use olk_base::{Node, ValidationContext};
-use olk_paths::InstancePath;
+use crate::{EvaluationContext, Located, Show};
+use olk_base::Node;
 use olk_reports::EvaluationResult;
 use olk_tree::dependencies::Dependencies;
 use olk_tree::validators_map::PropertiesValidatorsMap;
@@ -20,15 +19,14 @@ impl<'a, N: Located<'a>> Show<'a> for Dependencies<N> {
     fn show(
         &'a self,
         node: Node<'a>,
-        path: &mut InstancePath,
-        ctx: &mut ValidationContext,
+        ctx: &mut EvaluationContext,
         outcome: &mut EvaluationResult<'a>,
     ) -> Result<(), AllocError> {
         let Some(members) = node.as_object() else {
             return Ok(());
         };
         for (_, dependency, _) in self.dependencies.declared_members(members) {
-            add_child(dependency, node, path, ctx, outcome)?;
+            add_child(dependency, node, ctx, outcome)?;
         }
         Ok(())
     }

@@ -6,10 +6,9 @@ ghost use Rattle.olk_evaluate.specs.Shows.{Shows};
 ghost use Rattle.olk_evaluate.specs.Wanted.{ShowsMore, each_wanted};
 
 use crate::walk::{add_child, show_one};
-use crate::{Located, Show};
-use olk_base::{Node, ValidationContext};
+use crate::{EvaluationContext, Located, Show};
+use olk_base::Node;
 use olk_check::IsValid;
-use olk_paths::InstancePath;
 use olk_reports::EvaluationResult;
 use olk_tree::if_::{IfElse, IfThen, IfThenElse};
 use std::alloc::AllocError;
@@ -26,14 +25,13 @@ impl<'a, N: Located<'a>> Show<'a> for IfThen<N> {
     fn show(
         &'a self,
         node: Node<'a>,
-        path: &mut InstancePath,
-        ctx: &mut ValidationContext,
+        ctx: &mut EvaluationContext,
         outcome: &mut EvaluationResult<'a>,
     ) -> Result<(), AllocError> {
-        if !self.schema.is_valid(node, ctx) {
+        if !self.schema.is_valid(node, &mut ctx.validation) {
             return Ok(());
         }
-        show_both(&self.schema, &self.then_schema, node, path, ctx, outcome)
+        show_both(&self.schema, &self.then_schema, node, ctx, outcome)
     }
 }
 
@@ -49,14 +47,13 @@ impl<'a, N: Located<'a>> Show<'a> for IfElse<N> {
     fn show(
         &'a self,
         node: Node<'a>,
-        path: &mut InstancePath,
-        ctx: &mut ValidationContext,
+        ctx: &mut EvaluationContext,
         outcome: &mut EvaluationResult<'a>,
     ) -> Result<(), AllocError> {
-        if self.schema.is_valid(node, ctx) {
-            show_one(&self.schema, node, path, ctx, outcome)
+        if self.schema.is_valid(node, &mut ctx.validation) {
+            show_one(&self.schema, node, ctx, outcome)
         } else {
-            show_one(&self.else_schema, node, path, ctx, outcome)
+            show_one(&self.else_schema, node, ctx, outcome)
         }
     }
 }
@@ -74,14 +71,13 @@ impl<'a, N: Located<'a>> Show<'a> for IfThenElse<N> {
     fn show(
         &'a self,
         node: Node<'a>,
-        path: &mut InstancePath,
-        ctx: &mut ValidationContext,
+        ctx: &mut EvaluationContext,
         outcome: &mut EvaluationResult<'a>,
     ) -> Result<(), AllocError> {
-        if self.schema.is_valid(node, ctx) {
-            show_both(&self.schema, &self.then_schema, node, path, ctx, outcome)
+        if self.schema.is_valid(node, &mut ctx.validation) {
+            show_both(&self.schema, &self.then_schema, node, ctx, outcome)
         } else {
-            show_one(&self.else_schema, node, path, ctx, outcome)
+            show_one(&self.else_schema, node, ctx, outcome)
         }
     }
 }
@@ -91,16 +87,15 @@ fn show_both<'a, N: Located<'a>>(
     first: &'a N,
     second: &'a N,
     node: Node<'a>,
-    path: &mut InstancePath,
-    ctx: &mut ValidationContext,
+    ctx: &mut EvaluationContext,
     outcome: &mut EvaluationResult<'a>,
 ) -> Result<(), AllocError>
-    ensures { Shows result path.old path.new ctx.old ctx.new (λ _. ShowsMore
-        (each_wanted N.tree N.means ctx.old.answer
-        (first.now ∷ second.now ∷ []) (data_of node.entry) path.old)
+    ensures { Shows result ctx.old ctx.new (λ _. ShowsMore
+        (each_wanted N.tree N.means ctx.old.validation.answer
+        (first.now ∷ second.now ∷ []) (data_of node.entry) ctx.old.path)
         (shown_of outcome.old) (shown_of outcome.new)) }
 {
     outcome.children.reserve_exact(2)?;
-    add_child(first, node, path, ctx, outcome)?;
-    add_child(second, node, path, ctx, outcome)
+    add_child(first, node, ctx, outcome)?;
+    add_child(second, node, ctx, outcome)
 }

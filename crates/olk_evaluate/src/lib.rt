@@ -10,6 +10,16 @@ use olk_check::IsValid;
 use olk_paths::InstancePath;
 use olk_reports::EvaluationResult;
 use std::alloc::{AllocError, Global};
+use std::mem;
+
+/// What is handed down to all that shows.
+#[derive(Drop)]
+pub struct EvaluationContext {
+    /// Where the value stands in the instance.
+    pub path: InstancePath,
+    /// What verdicts are asked with.
+    pub validation: ValidationContext,
+}
 
 /// What writes what it shows of a value, which stands at its place.
 pub trait Show<'a>: IsValid {
@@ -31,7 +41,7 @@ pub trait Show<'a>: IsValid {
     /// annotation, errors of its own and the nodes below, in order (JSON Schema 2020-12 Core, 7.7
     /// and 12).
     ///
-    /// The path is left as it was, the context keeps its answer, and of the counts only those of
+    /// The context's path is left as it was, its answer is kept, and of the counts only those of
     /// asking rise.
     ///
     /// # Errors
@@ -40,14 +50,14 @@ pub trait Show<'a>: IsValid {
     fn show(
         &'a self,
         node: Node<'a>,
-        path: &mut InstancePath,
-        ctx: &mut ValidationContext,
+        ctx: &mut EvaluationContext,
         outcome: &mut EvaluationResult<'a>,
     ) -> Result<(), AllocError>
         requires { shown_of outcome.old ≡ nothing_shown }
-        ensures { Shows result path.old path.new ctx.old ctx.new (λ _. IsShown
-            (wanted tree Self.means ctx.old.answer self.now (data_of node.entry) path.old)
-            (node_at (place self.now) path.old (shown_of outcome.new))) };
+        ensures { Shows result ctx.old ctx.new (λ _. IsShown
+            (wanted tree Self.means ctx.old.validation.answer
+            self.now (data_of node.entry) ctx.old.path)
+            (node_at (place self.now) ctx.old.path (shown_of outcome.new))) };
 }
 
 /// What stands at a place of a schema, and tells it.
@@ -102,7 +112,15 @@ impl<'a, S: Show<'a>> Evaluate<'a> for S {
         ctx: &mut ValidationContext,
     ) -> Result<EvaluationResult<'a>, AllocError> {
         let mut outcome: EvaluationResult<'a> = EvaluationResult::valid_empty(alloc);
-        self.show(node, path, ctx, &mut outcome)?;
+        let empty = ValidationContext::new(ctx.answer());
+        let mut inner = EvaluationContext {
+            path: mem::replace(path, InstancePath::new(alloc)),
+            validation: mem::replace(ctx, empty),
+        };
+        let shown = self.show(node, &mut inner, &mut outcome);
+        *path = inner.path;
+        *ctx = inner.validation;
+        shown?;
         Ok(outcome)
     }
 }

@@ -7,9 +7,8 @@ ghost use Rattle.olk_evaluate.specs.Wanted.{HasTexts, ShowsBody};
 
 use crate::required::add_missing;
 use crate::walk::show_each;
-use crate::{Located, Show};
-use olk_base::{Leaf, Node, RegexEngine, ValidationContext};
-use olk_paths::InstancePath;
+use crate::{EvaluationContext, Located, Show};
+use olk_base::{Leaf, Node, RegexEngine};
 use olk_reports::{ErrorDescription, EvaluationResult, ValidationErrorKind};
 use olk_tree::node::{Body, KeywordOver};
 use std::alloc::AllocError;
@@ -26,35 +25,32 @@ impl<'a, K: Leaf, R: RegexEngine, N: Located<'a>> Show<'a> for KeywordOver<K, R,
     fn show(
         &'a self,
         node: Node<'a>,
-        path: &mut InstancePath,
-        ctx: &mut ValidationContext,
+        ctx: &mut EvaluationContext,
         outcome: &mut EvaluationResult<'a>,
     ) -> Result<(), AllocError> {
         match self {
-            KeywordOver::Properties(keyword) => keyword.show(node, path, ctx, outcome),
-            KeywordOver::PropertiesWithRequired2(keyword) => {
-                keyword.show(node, path, ctx, outcome)
-            }
-            KeywordOver::Required(keyword) => keyword.show(node, path, ctx, outcome),
-            KeywordOver::AllOf(keyword) => keyword.show(node, path, ctx, outcome),
-            KeywordOver::SingleValueAllOf(keyword) => keyword.show(node, path, ctx, outcome),
-            KeywordOver::AnyOf(keyword) => keyword.show(node, path, ctx, outcome),
-            KeywordOver::SingleAnyOf(keyword) => keyword.show(node, path, ctx, outcome),
-            KeywordOver::OneOf(keyword) => keyword.show(node, path, ctx, outcome),
-            KeywordOver::SingleOneOf(keyword) => keyword.show(node, path, ctx, outcome),
-            KeywordOver::Not(keyword) => keyword.show(node, path, ctx, outcome),
-            KeywordOver::IfThen(keyword) => keyword.show(node, path, ctx, outcome),
-            KeywordOver::IfElse(keyword) => keyword.show(node, path, ctx, outcome),
-            KeywordOver::IfThenElse(keyword) => keyword.show(node, path, ctx, outcome),
-            KeywordOver::Dependencies(keyword) => keyword.show(node, path, ctx, outcome),
-            KeywordOver::PropertyNames(keyword) => keyword.show(node, path, ctx, outcome),
-            KeywordOver::PropertyNamesFalse(keyword) => keyword.show(node, path, ctx, outcome),
-            KeywordOver::PropertyDependencies(keyword) => keyword.show(node, path, ctx, outcome),
-            KeywordOver::PatternProperties(keyword) => keyword.show(node, path, ctx, outcome),
+            KeywordOver::Properties(keyword) => keyword.show(node, ctx, outcome),
+            KeywordOver::PropertiesWithRequired2(keyword) => { keyword.show(node, ctx, outcome) }
+            KeywordOver::Required(keyword) => keyword.show(node, ctx, outcome),
+            KeywordOver::AllOf(keyword) => keyword.show(node, ctx, outcome),
+            KeywordOver::SingleValueAllOf(keyword) => keyword.show(node, ctx, outcome),
+            KeywordOver::AnyOf(keyword) => keyword.show(node, ctx, outcome),
+            KeywordOver::SingleAnyOf(keyword) => keyword.show(node, ctx, outcome),
+            KeywordOver::OneOf(keyword) => keyword.show(node, ctx, outcome),
+            KeywordOver::SingleOneOf(keyword) => keyword.show(node, ctx, outcome),
+            KeywordOver::Not(keyword) => keyword.show(node, ctx, outcome),
+            KeywordOver::IfThen(keyword) => keyword.show(node, ctx, outcome),
+            KeywordOver::IfElse(keyword) => keyword.show(node, ctx, outcome),
+            KeywordOver::IfThenElse(keyword) => keyword.show(node, ctx, outcome),
+            KeywordOver::Dependencies(keyword) => keyword.show(node, ctx, outcome),
+            KeywordOver::PropertyNames(keyword) => keyword.show(node, ctx, outcome),
+            KeywordOver::PropertyNamesFalse(keyword) => keyword.show(node, ctx, outcome),
+            KeywordOver::PropertyDependencies(keyword) => keyword.show(node, ctx, outcome),
+            KeywordOver::PatternProperties(keyword) => keyword.show(node, ctx, outcome),
             KeywordOver::SingleValuePatternProperties(keyword) => {
-                keyword.show(node, path, ctx, outcome)
+                keyword.show(node, ctx, outcome)
             }
-            KeywordOver::AdditionalProperties(keyword) => keyword.show(node, path, ctx, outcome),
+            KeywordOver::AdditionalProperties(keyword) => keyword.show(node, ctx, outcome),
             KeywordOver::Leaf(_, leaf) => show_leaf(leaf, node, outcome),
         }
     }
@@ -109,14 +105,13 @@ fn add_texts<'a, K: Leaf>(
 pub fn show_body<'a, W: Located<'a>>(
     body: &'a Body<W>,
     node: Node<'a>,
-    path: &mut InstancePath,
-    ctx: &mut ValidationContext,
+    ctx: &mut EvaluationContext,
     outcome: &mut EvaluationResult<'a>,
 ) -> Result<(), AllocError>
     requires { shown_of outcome.old ≡ nothing_shown }
-    ensures { Shows result path.old path.new ctx.old ctx.new (λ _. ShowsBody
-        W.tree W.means ctx.old.answer
-        body.now (data_of node.entry) path.old (shown_of outcome.new)) }
+    ensures { Shows result ctx.old ctx.new (λ _. ShowsBody
+        W.tree W.means ctx.old.validation.answer
+        body.now (data_of node.entry) ctx.old.path (shown_of outcome.new)) }
 {
     match body {
         Body::True => Ok(()),
@@ -124,7 +119,7 @@ pub fn show_body<'a, W: Located<'a>>(
             let kind: ValidationErrorKind<'a> = ValidationErrorKind::FalseSchema;
             outcome.mark_errored_by(kind, node)
         }
-        Body::Keywords(keywords) => show_each(keywords, node, path, ctx, outcome),
+        Body::Keywords(keywords) => show_each(keywords, node, ctx, outcome),
         Body::RequiredNames(required) => add_missing(outcome, required, node),
     }
 }

@@ -1,8 +1,7 @@
 //! `not`: what it shows.
-use crate::{Located, Show};
-use olk_base::{Node, ValidationContext};
+use crate::{EvaluationContext, Located, Show};
+use olk_base::Node;
 use olk_check::IsValid;
-use olk_paths::InstancePath;
 use olk_reports::{EvaluationResult, ValidationErrorKind};
 use olk_tree::not::Not;
 use std::alloc::AllocError;
@@ -20,11 +19,10 @@ impl<'a, N: Located<'a>> Show<'a> for Not<N> {
     fn show(
         &'a self,
         node: Node<'a>,
-        _path: &mut InstancePath,
-        ctx: &mut ValidationContext,
+        ctx: &mut EvaluationContext,
         outcome: &mut EvaluationResult<'a>,
     ) -> Result<(), AllocError> {
-        if !self.node.is_valid(node, ctx) {
+        if !self.node.is_valid(node, &mut ctx.validation) {
             return Ok(());
         }
         let kind: ValidationErrorKind<'a> = ValidationErrorKind::Not {

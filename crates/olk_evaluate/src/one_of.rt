@@ -1,9 +1,8 @@
 //! `oneOf`: what it shows.
 use crate::any_of::show_accepting;
 use crate::walk::show_one;
-use crate::{Located, Show};
-use olk_base::{Node, ValidationContext};
-use olk_paths::InstancePath;
+use crate::{EvaluationContext, Located, Show};
+use olk_base::Node;
 use olk_reports::{ErrorDescription, EvaluationResult};
 use olk_tree::one_of::{OneOf, SingleOneOf};
 use std::alloc::AllocError;
@@ -21,11 +20,10 @@ impl<'a, N: Located<'a>> Show<'a> for OneOf<N> {
     fn show(
         &'a self,
         node: Node<'a>,
-        path: &mut InstancePath,
-        ctx: &mut ValidationContext,
+        ctx: &mut EvaluationContext,
         outcome: &mut EvaluationResult<'a>,
     ) -> Result<(), AllocError> {
-        let count = show_accepting(&self.schemas, node, path, ctx, outcome)?;
+        let count = show_accepting(&self.schemas, node, ctx, outcome)?;
         if count < 2 {
             return Ok(());
         }
@@ -46,10 +44,9 @@ impl<'a, N: Located<'a>> Show<'a> for SingleOneOf<N> {
     fn show(
         &'a self,
         node: Node<'a>,
-        path: &mut InstancePath,
-        ctx: &mut ValidationContext,
+        ctx: &mut EvaluationContext,
         outcome: &mut EvaluationResult<'a>,
     ) -> Result<(), AllocError> {
-        show_one(&self.node, node, path, ctx, outcome)
+        show_one(&self.node, node, ctx, outcome)
     }
 }

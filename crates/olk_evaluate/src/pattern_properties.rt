@@ -6,10 +6,9 @@ ghost use Rattle.olk_evaluate.specs.Patterns.{matches_of};
 ghost use Rattle.olk_evaluate.specs.Shows.{Shows};
 
 use crate::properties::{make_room, show_member};
-use crate::{Located, Show};
-use olk_base::{CompiledPattern, Node, RegexEngine, ValidationContext};
+use crate::{EvaluationContext, Located, Show};
+use olk_base::{CompiledPattern, Node, RegexEngine};
 use olk_check::matches;
-use olk_paths::InstancePath;
 use olk_reports::EvaluationResult;
 use olk_tree::pattern_properties::{PatternProperties, SingleValuePatternProperties};
 use serde_json::{Map, Value};
@@ -28,8 +27,7 @@ impl<'a, R: RegexEngine, N: Located<'a>> Show<'a> for PatternProperties<R, N> {
     fn show(
         &'a self,
         node: Node<'a>,
-        path: &mut InstancePath,
-        ctx: &mut ValidationContext,
+        ctx: &mut EvaluationContext,
         outcome: &mut EvaluationResult<'a>,
     ) -> Result<(), AllocError> {
         let Some(members) = node.as_object() else {
@@ -37,7 +35,7 @@ impl<'a, R: RegexEngine, N: Located<'a>> Show<'a> for PatternProperties<R, N> {
         };
         make_room(members.len(), outcome)?;
         for entry in &self.patterns {
-            show_matched(&entry.0, &entry.1, members, path, ctx, outcome)?;
+            show_matched(&entry.0, &entry.1, members, ctx, outcome)?;
         }
         Ok(())
     }
@@ -57,15 +55,14 @@ impl<'a, R: RegexEngine, N: Located<'a>> Show<'a> for SingleValuePatternProperti
     fn show(
         &'a self,
         node: Node<'a>,
-        path: &mut InstancePath,
-        ctx: &mut ValidationContext,
+        ctx: &mut EvaluationContext,
         outcome: &mut EvaluationResult<'a>,
     ) -> Result<(), AllocError> {
         let Some(members) = node.as_object() else {
             return Ok(());
         };
         make_room(members.len(), outcome)?;
-        show_matched(&self.regex, &self.node, members, path, ctx, outcome)
+        show_matched(&self.regex, &self.node, members, ctx, outcome)
     }
 }
 
@@ -74,22 +71,21 @@ fn show_matched<'a, R: RegexEngine, N: Located<'a>>(
     pattern: &'a CompiledPattern<R>,
     subschema: &'a N,
     members: &'a Map<String, Value>,
-    path: &mut InstancePath,
-    ctx: &mut ValidationContext,
+    ctx: &mut EvaluationContext,
     outcome: &mut EvaluationResult<'a>,
 ) -> Result<(), AllocError>
-    ensures { Shows result path.old path.new ctx.old ctx.new (λ _. MeetsMore
-        (wanted_at N.tree N.means ctx.old.answer path.old)
-        (matches_of R.answers ctx.old.answer
+    ensures { Shows result ctx.old ctx.new (λ _. MeetsMore
+        (wanted_at N.tree N.means ctx.old.validation.answer ctx.old.path)
+        (matches_of R.answers ctx.old.validation.answer
         pattern.now subschema.now (object_of members.now.entries))
         (shown_of outcome.old) (shown_of outcome.new)) }
 {
     for (name, value) in members {
         let name = name.as_str();
-        if !matches(pattern, name, ctx) {
+        if !matches(pattern, name, &mut ctx.validation) {
             continue;
         }
-        show_member(subschema, (name, value), path, ctx, outcome)?;
+        show_member(subschema, (name, value), ctx, outcome)?;
     }
     Ok(())
 }

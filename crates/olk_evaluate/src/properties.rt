@@ -12,9 +12,8 @@ ghost use Rattle.olk_evaluate.specs.Wanted.{ShowsMore, wanted};
 
 use crate::required::add_missing_child;
 use crate::walk::add_child;
-use crate::{Located, Show};
-use olk_base::{Node, ValidationContext};
-use olk_paths::InstancePath;
+use crate::{EvaluationContext, Located, Show};
+use olk_base::Node;
 use olk_reports::EvaluationResult;
 use olk_tree::declared::DeclaredMembers;
 use olk_tree::entries::SortedEntries;
@@ -36,15 +35,13 @@ impl<'a, N: Located<'a>> Show<'a> for Properties<N> {
     fn show(
         &'a self,
         node: Node<'a>,
-        path: &mut InstancePath,
-        ctx: &mut ValidationContext,
+        ctx: &mut EvaluationContext,
         outcome: &mut EvaluationResult<'a>,
     ) -> Result<(), AllocError> {
         match node.as_object() {
             Some(members) => show_declared_members(
                 self.properties.entries(),
                 members,
-                path,
                 ctx,
                 outcome,
             ),
@@ -66,14 +63,13 @@ impl<'a, N: Located<'a>> Show<'a> for SmallPropertiesWithRequired2<N> {
     fn show(
         &'a self,
         node: Node<'a>,
-        path: &mut InstancePath,
-        ctx: &mut ValidationContext,
+        ctx: &mut EvaluationContext,
         outcome: &mut EvaluationResult<'a>,
     ) -> Result<(), AllocError> {
         match node.as_object() {
             Some(members) => {
-                show_declared_members(&self.properties.entries, members, path, ctx, outcome)?;
-                add_missing_child(self, members, node, path, outcome)
+                show_declared_members(&self.properties.entries, members, ctx, outcome)?;
+                add_missing_child(self, members, node, &ctx.path, outcome)
             }
             None => Ok(()),
         }
@@ -95,21 +91,20 @@ pub(crate) fn make_room(
 fn show_declared_members<'a, N: Located<'a> + 'a>(
     properties: &'a SortedEntries<N>,
     members: &'a Map<String, Value>,
-    path: &mut InstancePath,
-    ctx: &mut ValidationContext,
+    ctx: &mut EvaluationContext,
     outcome: &mut EvaluationResult<'a>,
 ) -> Result<(), AllocError>
     requires { shown_of outcome.old ≡ nothing_shown }
-    ensures { Shows result path.old path.new ctx.old ctx.new (λ _. HasMet
-        (wanted_at N.tree N.means ctx.old.answer path.old)
+    ensures { Shows result ctx.old ctx.new (λ _. HasMet
+        (wanted_at N.tree N.means ctx.old.validation.answer ctx.old.path)
         (members_declared properties.now (listed (members_view members.now.entries)))
         ((properties_mean N.means properties.now
-        (object_of members.now.entries)).accepts ctx.old.answer)
+        (object_of members.now.entries)).accepts ctx.old.validation.answer)
         (shown_of outcome.new)) }
 {
     make_room(members.len().min(properties.len()), outcome)?;
     for (name, subschema, value) in DeclaredMembers::of(properties, members) {
-        show_member(subschema, (name, value), path, ctx, outcome)?;
+        show_member(subschema, (name, value), ctx, outcome)?;
     }
     Ok(())
 }
@@ -119,17 +114,16 @@ fn show_declared_members<'a, N: Located<'a> + 'a>(
 pub(crate) fn show_member<'a, N: Located<'a>>(
     subschema: &'a N,
     member: (&'a str, &'a Value),
-    path: &mut InstancePath,
-    ctx: &mut ValidationContext,
+    ctx: &mut EvaluationContext,
     outcome: &mut EvaluationResult<'a>,
 ) -> Result<(), AllocError>
-    ensures { Shows result path.old path.new ctx.old ctx.new (λ _. MeetsMore
-        (wanted_at N.tree N.means ctx.old.answer path.old)
+    ensures { Shows result ctx.old ctx.new (λ _. MeetsMore
+        (wanted_at N.tree N.means ctx.old.validation.answer ctx.old.path)
         (declared_as member.entry.0.now subschema.now (view member.entry.1.now))
         (shown_of outcome.old) (shown_of outcome.new)) }
 {
     outcome.annotate_also(member.0)?;
-    add_child_below(subschema, member, path, ctx, outcome)
+    add_child_below(subschema, member, ctx, outcome)
 }
 
 /// One child more: what is shown of a member's value.
@@ -137,17 +131,16 @@ pub(crate) fn show_member<'a, N: Located<'a>>(
 pub(crate) fn add_child_below<'a, N: Located<'a>>(
     subschema: &'a N,
     member: (&'a str, &'a Value),
-    path: &mut InstancePath,
-    ctx: &mut ValidationContext,
+    ctx: &mut EvaluationContext,
     outcome: &mut EvaluationResult<'a>,
 ) -> Result<(), AllocError>
-    ensures { Shows result path.old path.new ctx.old ctx.new (λ _. ShowsMore
-        (wanted N.tree N.means ctx.old.answer
-        subschema.now (view member.entry.1.now) (one_below path.old member.entry.0.now) ∷ [])
+    ensures { Shows result ctx.old ctx.new (λ _. ShowsMore
+        (wanted N.tree N.means ctx.old.validation.answer
+        subschema.now (view member.entry.1.now) (one_below ctx.old.path member.entry.0.now) ∷ [])
         (shown_of outcome.old) (shown_of outcome.new)) }
 {
-    let mark = path.push(member.0)?;
-    let added = add_child(subschema, Node::Value(member.1), path, ctx, outcome);
-    path.pop(mark);
+    let mark = ctx.path.push(member.0)?;
+    let added = add_child(subschema, Node::Value(member.1), ctx, outcome);
+    ctx.path.pop(mark);
     added
 }

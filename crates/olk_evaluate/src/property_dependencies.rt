@@ -1,8 +1,7 @@
 //! `propertyDependencies`: what it shows.
 use crate::walk::add_child;
-use crate::{Located, Show};
-use olk_base::{Node, ValidationContext};
-use olk_paths::InstancePath;
+use crate::{EvaluationContext, Located, Show};
+use olk_base::Node;
 use olk_reports::EvaluationResult;
 use olk_tree::property_dependencies::PropertyDependencies;
 use olk_tree::validators_map::PropertiesValidatorsMap;
@@ -21,8 +20,7 @@ impl<'a, N: Located<'a>> Show<'a> for PropertyDependencies<N> {
     fn show(
         &'a self,
         node: Node<'a>,
-        path: &mut InstancePath,
-        ctx: &mut ValidationContext,
+        ctx: &mut EvaluationContext,
         outcome: &mut EvaluationResult<'a>,
     ) -> Result<(), AllocError> {
         let Some(members) = node.as_object() else {
@@ -32,7 +30,7 @@ impl<'a, N: Located<'a>> Show<'a> for PropertyDependencies<N> {
             let Some(dependency) = choices.chosen_by(value) else {
                 continue;
             };
-            add_child(dependency, node, path, ctx, outcome)?;
+            add_child(dependency, node, ctx, outcome)?;
         }
         Ok(())
     }

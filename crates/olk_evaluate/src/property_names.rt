@@ -1,8 +1,7 @@
 //! `propertyNames`: what it shows.
 use crate::walk::add_child;
-use crate::{Located, Show};
-use olk_base::{Node, ValidationContext};
-use olk_paths::InstancePath;
+use crate::{EvaluationContext, Located, Show};
+use olk_base::Node;
 use olk_reports::{EvaluationResult, ValidationErrorKind};
 use olk_tree::property_names::{PropertyNames, PropertyNamesFalse};
 use std::alloc::AllocError;
@@ -19,8 +18,7 @@ impl<'a, N: Located<'a>> Show<'a> for PropertyNames<N> {
     fn show(
         &'a self,
         node: Node<'a>,
-        path: &mut InstancePath,
-        ctx: &mut ValidationContext,
+        ctx: &mut EvaluationContext,
         outcome: &mut EvaluationResult<'a>,
     ) -> Result<(), AllocError> {
         let Some(members) = node.as_object() else {
@@ -28,7 +26,7 @@ impl<'a, N: Located<'a>> Show<'a> for PropertyNames<N> {
         };
         outcome.children.reserve_exact(members.len())?;
         for (name, _) in members {
-            add_child(&self.node, Node::Name(name), path, ctx, outcome)?;
+            add_child(&self.node, Node::Name(name), ctx, outcome)?;
         }
         Ok(())
     }
@@ -46,8 +44,7 @@ impl<'a> Show<'a> for PropertyNamesFalse {
     fn show(
         &'a self,
         node: Node<'a>,
-        _path: &mut InstancePath,
-        _ctx: &mut ValidationContext,
+        _ctx: &mut EvaluationContext,
         outcome: &mut EvaluationResult<'a>,
     ) -> Result<(), AllocError> {
         match node.as_object() {

@@ -11,8 +11,8 @@ ghost use Rattle.olk_tree.specs.Maps.{texts_of, two_texts};
 ghost use Rattle.olk_tree.specs.Visited.{object_of};
 ghost use Rattle.olk_evaluate.specs.Wanted.{ShowsMore, refused, lacking_trees};
 
-use crate::Show;
-use olk_base::{Node, ValidationContext};
+use crate::{EvaluationContext, Show};
+use olk_base::Node;
 use olk_meaning::has_member;
 use olk_paths::InstancePath;
 use olk_reports::{EvaluationNode, EvaluationResult, ValidationErrorKind};
@@ -35,8 +35,7 @@ impl<'a> Show<'a> for RequiredValidator {
     fn show(
         &'a self,
         node: Node<'a>,
-        _path: &mut InstancePath,
-        _ctx: &mut ValidationContext,
+        _ctx: &mut EvaluationContext,
         outcome: &mut EvaluationResult<'a>,
     ) -> Result<(), AllocError> {
         add_missing(outcome, self, node)

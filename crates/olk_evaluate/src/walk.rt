@@ -5,9 +5,8 @@ ghost use Rattle.olk_reports.specs.Evaluations.{shown_of};
 ghost use Rattle.olk_evaluate.specs.Shows.{Shows};
 ghost use Rattle.olk_evaluate.specs.Wanted.{ShowsMore, wanted, each_wanted};
 
-use crate::Located;
-use olk_base::{Node, ValidationContext};
-use olk_paths::InstancePath;
+use crate::{EvaluationContext, Located};
+use olk_base::Node;
 use olk_reports::{EvaluationNode, EvaluationResult};
 use std::alloc::AllocError;
 
@@ -16,18 +15,18 @@ use std::alloc::AllocError;
 pub(crate) fn add_child<'a, N: Located<'a>>(
     schema: &'a N,
     node: Node<'a>,
-    path: &mut InstancePath,
-    ctx: &mut ValidationContext,
+    ctx: &mut EvaluationContext,
     outcome: &mut EvaluationResult<'a>,
 ) -> Result<(), AllocError>
-    ensures { Shows result path.old path.new ctx.old ctx.new (λ _. ShowsMore
-        (wanted N.tree N.means ctx.old.answer schema.now (data_of node.entry) path.old ∷ [])
+    ensures { Shows result ctx.old ctx.new (λ _. ShowsMore
+        (wanted N.tree N.means ctx.old.validation.answer
+        schema.now (data_of node.entry) ctx.old.path ∷ [])
         (shown_of outcome.old) (shown_of outcome.new)) }
 {
     let last = outcome.children.len();
-    EvaluationNode::push_at(&mut outcome.children, schema.location(), path.as_str())?;
+    EvaluationNode::push_at(&mut outcome.children, schema.location(), ctx.path.as_str())?;
     let child = &mut outcome.children[last];
-    schema.show(node, path, ctx, &mut child.result)?;
+    schema.show(node, ctx, &mut child.result)?;
     let valid = child.valid();
     outcome.mark_invalid_unless(valid);
     Ok(())
@@ -37,17 +36,17 @@ pub(crate) fn add_child<'a, N: Located<'a>>(
 pub(crate) fn show_each<'a, N: Located<'a>>(
     schemas: &'a Vec<N>,
     node: Node<'a>,
-    path: &mut InstancePath,
-    ctx: &mut ValidationContext,
+    ctx: &mut EvaluationContext,
     outcome: &mut EvaluationResult<'a>,
 ) -> Result<(), AllocError>
-    ensures { Shows result path.old path.new ctx.old ctx.new (λ _. ShowsMore
-        (each_wanted N.tree N.means ctx.old.answer schemas.now.items (data_of node.entry) path.old)
+    ensures { Shows result ctx.old ctx.new (λ _. ShowsMore
+        (each_wanted N.tree N.means ctx.old.validation.answer
+        schemas.now.items (data_of node.entry) ctx.old.path)
         (shown_of outcome.old) (shown_of outcome.new)) }
 {
     outcome.children.reserve_exact(schemas.len())?;
     for schema in schemas {
-        add_child(schema, node, path, ctx, outcome)?;
+        add_child(schema, node, ctx, outcome)?;
     }
     Ok(())
 }
@@ -56,14 +55,14 @@ pub(crate) fn show_each<'a, N: Located<'a>>(
 pub(crate) fn show_one<'a, N: Located<'a>>(
     schema: &'a N,
     node: Node<'a>,
-    path: &mut InstancePath,
-    ctx: &mut ValidationContext,
+    ctx: &mut EvaluationContext,
     outcome: &mut EvaluationResult<'a>,
 ) -> Result<(), AllocError>
-    ensures { Shows result path.old path.new ctx.old ctx.new (λ _. ShowsMore
-        (wanted N.tree N.means ctx.old.answer schema.now (data_of node.entry) path.old ∷ [])
+    ensures { Shows result ctx.old ctx.new (λ _. ShowsMore
+        (wanted N.tree N.means ctx.old.validation.answer
+        schema.now (data_of node.entry) ctx.old.path ∷ [])
         (shown_of outcome.old) (shown_of outcome.new)) }
 {
     outcome.children.reserve_exact(1)?;
-    add_child(schema, node, path, ctx, outcome)
+    add_child(schema, node, ctx, outcome)
 }

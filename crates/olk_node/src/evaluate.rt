@@ -1,8 +1,7 @@
 //! What a place shows of a value.
 use crate::node::SchemaNode;
-use olk_base::{Leaf, Node, RegexEngine, ValidationContext};
-use olk_evaluate::{Located, Show, show_body};
-use olk_paths::InstancePath;
+use olk_base::{Leaf, Node, RegexEngine};
+use olk_evaluate::{EvaluationContext, Located, Show, show_body};
 use olk_reports::EvaluationResult;
 use std::alloc::AllocError;
 
@@ -19,11 +18,10 @@ impl<'a, K: Leaf, R: RegexEngine> Show<'a> for SchemaNode<K, R> {
     fn show(
         &'a self,
         node: Node<'a>,
-        path: &mut InstancePath,
-        ctx: &mut ValidationContext,
+        ctx: &mut EvaluationContext,
         outcome: &mut EvaluationResult<'a>,
     ) -> Result<(), AllocError> {
-        show_body(&self.body, node, path, ctx, outcome)
+        show_body(&self.body, node, ctx, outcome)
     }
 }
 

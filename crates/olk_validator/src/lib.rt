@@ -22,7 +22,7 @@ pub use olk_base::{
 pub use olk_build::{Context, compile};
 pub use olk_check::{DEFERRED_MEMBERS, IsValid, are_properties_valid};
 pub use olk_errors::{ErrorSink, Errors, Stop, Walk};
-pub use olk_evaluate::{Evaluate, Located, Show};
+pub use olk_evaluate::{Evaluate, EvaluationContext, Located, Show};
 pub use olk_node::{
     AllOfValidator, AnyOfValidator, BigPropertiesValidator, BigValidatorsMap,
     DependenciesValidator, DependentRequiredValidator, DependentSchemasValidator, IfElseValidator,

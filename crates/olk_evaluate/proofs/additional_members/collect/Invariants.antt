@@ -10,4 +10,4 @@ abbrev pub invariant-loop-name : goal.invariant-loop-name
 invariant-loop-name g l =
     Leaves {S = Collected × Shown} (λ u Q xs a b. CollectsMore (members_found g.R.RegexEngine.answers g.N.Show.tree g.N.Means.means u Q l.keyword xs) a.0 b.0 a.1 b.1)
     (listed (members_view l.members.entries)) (listed (members_view l.name-iterator)) (l.initial.collected, shown_of l.initial.outcome) (l.collected, shown_of l.outcome)
-    l.fn.path l.path l.fn.ctx l.ctx
+    l.fn.ctx.path l.ctx.path l.fn.ctx.validation l.ctx.validation

@@ -16,7 +16,7 @@ returns-in_err-show_declared g c = shows_err c.from_residual.ensures.0 c.show_de
 pub loop-index-init : goal.loop-index-init
 loop-index-init g c =
     declared_done (c.is_some-spoken.ensures ∙ is_some-map {X = ℕ × Bor g.row.N.Denot} {Y = ℕ × g.row.N.Denot} (λ f. (f.0, f.1.now)) c.args.declared)
-    (subst (λ ns. ShowsMore (nodes_wanted g.N.Show.tree g.N.Means.means c.args.ctx.now.answer c.args.path.now c.args.member.0.now (view c.args.member.1.now) ns)
+    (subst (λ ns. ShowsMore (nodes_wanted g.N.Show.tree g.N.Means.means c.args.ctx.now.validation.answer c.args.ctx.now.path c.args.member.0.now (view c.args.member.1.now) ns)
     (shown_of c.args.outcome.now) (shown_of c.show_declared.new.outcome)) (same_nodes c.args.declared) c.in_ok-show_declared.ensures.shown) c.show_declared.ensures.kept
 
 pub returns-in_err-is_match : goal.returns-in_err-is_match

@@ -10,11 +10,11 @@ invariant-loop-index g l =
       answers = g.R.RegexEngine.answers;
       tree = g.N.Show.tree;
       means = g.N.Means.means;
-      asking = l.fn.ctx;
-      path = l.fn.path;
+      asking = l.fn.ctx.validation;
+      path = l.fn.ctx.path;
       keyword = l.keyword;
       declared = option_map {U = ℕ × g.row.N.Denot} (λ f. (f.0, f.1.now)) l.declared;
       name = l.member.0.now;
       value = view l.member.1.now;
     } in
-    OnTheWay w l.spoken l.index l.path l.ctx l.fn.collected l.collected (shown_of l.fn.outcome) (shown_of l.outcome)
+    OnTheWay w l.spoken l.index l.ctx.path l.ctx.validation l.fn.collected l.collected (shown_of l.fn.outcome) (shown_of l.outcome)

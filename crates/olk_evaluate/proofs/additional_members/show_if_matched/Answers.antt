@@ -13,7 +13,7 @@ use Rattle.olk_evaluate.proofs.additional_members.show_if_matched.Goals as goal
 pub returns-then-not-matches_unless_known : goal.returns-then-not-matches_unless_known
 returns-then-not-matches_unless_known g c = record {
   shown = (
-    c.if-not-matches_unless_known.ensures.verdict ∙ match_is_said c.args.ctx.now.answer (pattern_costs g.R.RegexEngine.costs c.args.entry.now.0) (known_says c.args.known)
+    c.if-not-matches_unless_known.ensures.verdict ∙ match_is_said c.args.ctx.now.validation.answer (pattern_costs g.R.RegexEngine.costs c.args.entry.now.0) (known_says c.args.known)
         (pattern_answers g.R.RegexEngine.answers c.args.entry.now.0 c.args.member.0.now),
     shows_none (shown_of c.args.outcome.now),
   );
@@ -28,7 +28,7 @@ returns g c =
     let asked = kept_asked c.if-not-matches_unless_known.ensures.only in
     record {
       shown = (
-        c.if-not-matches_unless_known.ensures.verdict ∙ match_is_said c.args.ctx.now.answer (pattern_costs g.R.RegexEngine.costs c.args.entry.now.0) (known_says c.args.known)
+        c.if-not-matches_unless_known.ensures.verdict ∙ match_is_said c.args.ctx.now.validation.answer (pattern_costs g.R.RegexEngine.costs c.args.entry.now.0) (known_says c.args.known)
             (pattern_answers g.R.RegexEngine.answers c.args.entry.now.0 c.args.member.0.now),
         as_before (λ u Q. ShowsMore (wanted g.N.Show.tree g.N.Means.means u c.args.entry.now.1 (view c.args.member.1.now) (Q // c.args.member.0.now) ∷ [])
             (shown_of c.args.outcome.now) (shown_of c.add_child_below.new.outcome)) asked c.in_ok-add_child_below.ensures.shown,

@@ -31,9 +31,9 @@ returns-in_err-add_child g c = shows_err c.from_residual.ensures.0 (kept_then c.
 pub returns-in_ok-show_each : goal.returns-in_ok-show_each
 returns-in_ok-show_each g c = record {
   shown =
-      let found = leaves_none c.loop-schema.invariant (ap (filter_once (λ n. (g.N.Means.means n (data_of c.args.node)).accepts c.args.ctx.now.answer))
+      let found = leaves_none c.loop-schema.invariant (ap (filter_once (λ n. (g.N.Means.means n (data_of c.args.node)).accepts c.args.ctx.now.validation.answer))
       (past_end c.deref-schema-items.ensures.value c.loop-schema-test.false)) (shows_none (shown_of c.loop-schema.outcome)) in
-      all_refused g.N.Show.tree g.N.Means.means c.args.ctx.now.answer (data_of c.args.node) c.args.path.now c.args.path.now c.args.schemas.now.items c.requires c.loop-schema.outcome found c.len-count.ensures
+      all_refused g.N.Show.tree g.N.Means.means c.args.ctx.now.validation.answer (data_of c.args.node) c.args.ctx.now.path c.args.ctx.now.path c.args.schemas.now.items c.requires c.loop-schema.outcome found c.len-count.ensures
       c.if-count-eq0.true
       (as_before (λ u Q. ShowsMore (each_wanted g.N.Show.tree g.N.Means.means u c.args.schemas.now.items (data_of c.args.node) Q) (shown_of c.loop-schema.outcome) (shown_of c.show_each.new.outcome))
       c.loop-schema.invariant.kept c.in_ok-show_each.ensures.shown) c.mark_invalid.ensures;
@@ -46,9 +46,9 @@ returns-in_err-show_each g c = shows_err c.from_residual-in_err-show_each.ensure
 pub returns-else-count-eq0 : goal.returns-else-count-eq0
 returns-else-count-eq0 g c = record {
   shown =
-      let found = leaves_none c.loop-schema.invariant (ap (filter_once (λ n. (g.N.Means.means n (data_of c.args.node)).accepts c.args.ctx.now.answer))
+      let found = leaves_none c.loop-schema.invariant (ap (filter_once (λ n. (g.N.Means.means n (data_of c.args.node)).accepts c.args.ctx.now.validation.answer))
       (past_end c.deref-schema-items.ensures.value c.loop-schema-test.false)) (shows_none (shown_of c.loop-schema.outcome)) in
-      accepting_alone g.N.Show.tree g.N.Means.means c.args.ctx.now.answer (data_of c.args.node) c.args.path.now c.args.path.now c.args.schemas.now.items c.requires c.loop-schema.outcome found
+      accepting_alone g.N.Show.tree g.N.Means.means c.args.ctx.now.validation.answer (data_of c.args.node) c.args.ctx.now.path c.args.ctx.now.path c.args.schemas.now.items c.requires c.loop-schema.outcome found
       c.len-count.ensures c.if-count-eq0.false;
   kept = c.loop-schema.invariant.kept;
 }

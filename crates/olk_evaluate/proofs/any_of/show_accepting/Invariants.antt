@@ -8,6 +8,6 @@ use Rattle.olk_evaluate.proofs.any_of.show_accepting.Given as goal
 
 abbrev pub invariant-loop-schema : goal.invariant-loop-schema
 invariant-loop-schema g l =
-    let those : List g.row.N.Denot → List g.row.N.Denot = filter_once (λ n. (g.N.Means.means n (data_of l.node)).accepts l.initial.ctx.answer) in
+    let those : List g.row.N.Denot → List g.row.N.Denot = filter_once (λ n. (g.N.Means.means n (data_of l.node)).accepts l.initial.ctx.validation.answer) in
     Leaves (λ u Q ns. ShowsMore (each_wanted g.N.Show.tree g.N.Means.means u ns (data_of l.node) Q)) (those l.schemas.items) (those (drop l.schema-index l.schemas.items))
-    (shown_of l.initial.outcome) (shown_of l.outcome) l.initial.path l.path l.initial.ctx l.ctx
+    (shown_of l.initial.outcome) (shown_of l.outcome) l.initial.ctx.path l.ctx.path l.initial.ctx.validation l.ctx.validation

@@ -9,7 +9,7 @@ use Rattle.olk_evaluate.proofs.Shows.{kept_asked, kept_then, shows_err, leaves_a
 use Rattle.olk_evaluate.proofs.pattern_properties.show_matched.Goals as goal
 
 pub loop-name-init : goal.loop-name-init
-loop-name-init g c = leaves_all (ap (λ es. matches_among g.R.RegexEngine.answers c.args.ctx.now.answer c.args.pattern.now (listed (members_view es))) c.into_iter-name-iterator.ensures.into_iter_gives.0)
+loop-name-init g c = leaves_all (ap (λ es. matches_among g.R.RegexEngine.answers c.args.ctx.now.validation.answer c.args.pattern.now (listed (members_view es))) c.into_iter-name-iterator.ensures.into_iter_gives.0)
 
 pub loop-name-preserved-then-not-matches : goal.loop-name-preserved-then-not-matches
 loop-name-preserved-then-not-matches g c = leaves_same c.loop-name.invariant
@@ -26,7 +26,7 @@ returns-in_err-show_member g c = shows_err c.from_residual.ensures.0 (kept_then 
 
 pub returns : goal.returns
 returns g c = record {
-  shown = leaves_none c.loop-name.invariant (ap (matches_among g.R.RegexEngine.answers c.args.ctx.now.answer c.args.pattern.now) (no_name_next c.in-None.ensures.steps.0))
+  shown = leaves_none c.loop-name.invariant (ap (matches_among g.R.RegexEngine.answers c.args.ctx.now.validation.answer c.args.pattern.now) (no_name_next c.in-None.ensures.steps.0))
       (meets_nothing (shown_of c.loop-name.outcome));
   kept = c.loop-name.invariant.kept;
 }

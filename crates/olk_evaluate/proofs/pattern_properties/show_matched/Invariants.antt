@@ -11,6 +11,6 @@ use Rattle.olk_evaluate.proofs.pattern_properties.show_matched.Given as goal
 abbrev pub invariant-loop-name : goal.invariant-loop-name
 invariant-loop-name g l =
     Leaves (λ u Q xs. MeetsMore (wanted_at g.N.Show.tree g.N.Means.means u Q) (flat_map (λ x. declared_as x.0 l.subschema x.1) xs))
-    (matches_among g.R.RegexEngine.answers l.initial.ctx.answer l.pattern (listed (members_view l.members.entries)))
-    (matches_among g.R.RegexEngine.answers l.initial.ctx.answer l.pattern (listed (members_view l.name-iterator)))
-    (shown_of l.initial.outcome) (shown_of l.outcome) l.initial.path l.path l.initial.ctx l.ctx
+    (matches_among g.R.RegexEngine.answers l.initial.ctx.validation.answer l.pattern (listed (members_view l.members.entries)))
+    (matches_among g.R.RegexEngine.answers l.initial.ctx.validation.answer l.pattern (listed (members_view l.name-iterator)))
+    (shown_of l.initial.outcome) (shown_of l.outcome) l.initial.ctx.path l.ctx.path l.initial.ctx.validation l.ctx.validation

@@ -7,4 +7,4 @@ use Rattle.olk_evaluate.proofs.properties.show_declared_members.Given as goal
 abbrev pub invariant-loop-name : goal.invariant-loop-name
 invariant-loop-name g l =
     Leaves (λ u Q. MeetsMore (wanted_at g.N.Show.tree g.N.Means.means u Q)) (left_of l.initial.name-iterator) (left_of l.name-iterator)
-    (shown_of l.initial.outcome) (shown_of l.outcome) l.initial.path l.path l.initial.ctx l.ctx
+    (shown_of l.initial.outcome) (shown_of l.outcome) l.initial.ctx.path l.ctx.path l.initial.ctx.validation l.ctx.validation

@@ -8,4 +8,4 @@ use Rattle.olk_evaluate.proofs.walk.show_each.Given as goal
 abbrev pub invariant-loop-schema : goal.invariant-loop-schema
 invariant-loop-schema g l =
     Leaves (λ u Q ns. ShowsMore (each_wanted g.N.Show.tree g.N.Means.means u ns (data_of l.node) Q)) l.schemas.items (drop l.schema-index l.schemas.items)
-    (shown_of l.initial.outcome) (shown_of l.outcome) l.initial.path l.path l.initial.ctx l.ctx
+    (shown_of l.initial.outcome) (shown_of l.outcome) l.initial.ctx.path l.ctx.path l.initial.ctx.validation l.ctx.validation

@@ -23,13 +23,13 @@ returns g c =
     let places = subst (λ Q. ShowsMore (places_wanted self (names_of found.matched.items) (data_of c.args.node) (object (members_view c.in-Some.members.now.entries)) Q)
     (shown_of c.collect.new.outcome) (shown_of c.add_places.new.outcome)) c.collect.ensures.kept.path c.in_ok-add_places.ensures in
     shows_by c.complete.ensures c.collect.ensures.kept (λ _ completes.
-    additional_shown g.R.RegexEngine.answers g.N.Show.tree g.N.Means.means c.args.ctx.now.answer c.args.path.now self g.R.RegexEngine.costs (members_view c.in-Some.members.now.entries) found
+    additional_shown g.R.RegexEngine.answers g.N.Show.tree g.N.Means.means c.args.ctx.now.validation.answer c.args.ctx.now.path self g.R.RegexEngine.costs (members_view c.in-Some.members.now.entries) found
     c.in_ok-collected.ensures.shown c.requires (data_of c.args.node) c.in-Some.ensures places completes c.law_of_names.ensures)
 
 pub returns-in_default : goal.returns-in_default
 returns-in_default g c = record {
-  shown = other_shown g.R.RegexEngine.answers (sides_of c.args.self.now) c.args.ctx.now.answer c.args.self.now.location c.args.self.now.patterns_location c.args.path.now
+  shown = other_shown g.R.RegexEngine.answers (sides_of c.args.self.now) c.args.ctx.now.validation.answer c.args.self.now.location c.args.self.now.patterns_location c.args.ctx.now.path
       (required_text c.args.self.now.required) (required_place c.args.self.now.required) (data_of c.args.node) c.in_default.ensures c.requires
-      (is_some c.args.self.now.properties) (is_some c.args.self.now.patterns) (λ n. g.N.Show.tree n c.args.ctx.now.answer) g.R.RegexEngine.costs g.N.Means.means;
+      (is_some c.args.self.now.properties) (is_some c.args.self.now.patterns) (λ n. g.N.Show.tree n c.args.ctx.now.validation.answer) g.R.RegexEngine.costs g.N.Means.means;
   kept = kept_same;
 }

@@ -5,4 +5,4 @@ use Rattle.olk_evaluate.proofs.all_of.AllOfShow.show.Goals as goal
 
 pub returns : goal.returns
 returns g c = shows_weaker c.show_each.ensures (λ _ each.
-    shows_each g.N.Show.tree g.N.Means.means c.args.ctx.now.answer (data_of c.args.node) c.args.path.now c.args.self.now.schemas.items c.requires each c.args.self.now.location)
+    shows_each g.N.Show.tree g.N.Means.means c.args.ctx.now.validation.answer (data_of c.args.node) c.args.ctx.now.path c.args.self.now.schemas.items c.requires each c.args.self.now.location)

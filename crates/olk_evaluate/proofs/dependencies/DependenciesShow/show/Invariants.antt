@@ -9,4 +9,4 @@ use Rattle.olk_evaluate.proofs.dependencies.DependenciesShow.show.Given as goal
 abbrev pub invariant-loop-dependency : goal.invariant-loop-dependency
 invariant-loop-dependency g l =
     Leaves (λ u Q ds. ShowsMore (map (λ d. wanted g.N.Show.tree g.N.Means.means u d.node (data_of l.node) Q) ds)) (left_of l.initial.dependency-iterator) (left_of l.dependency-iterator)
-    (shown_of l.initial.outcome) (shown_of l.outcome) l.initial.path l.path l.initial.ctx l.ctx
+    (shown_of l.initial.outcome) (shown_of l.outcome) l.initial.ctx.path l.ctx.path l.initial.ctx.validation l.ctx.validation

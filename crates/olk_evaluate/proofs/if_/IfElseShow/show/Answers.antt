@@ -7,14 +7,14 @@ use Rattle.olk_evaluate.proofs.if_.IfElseShow.show.Goals as goal
 
 pub returns-then-is_valid : goal.returns-then-is_valid
 returns-then-is_valid g c = shows_then (kept_asked c.if-is_valid.ensures.only) c.show_one.ensures (λ _ shows.
-    first_fits g.N.Show.tree g.N.Means.means (data_of c.args.node) c.args.self.now.location c.args.path.now c.args.self.now.schema
+    first_fits g.N.Show.tree g.N.Means.means (data_of c.args.node) c.args.self.now.location c.args.ctx.now.path c.args.self.now.schema
     (shown_of c.args.outcome.now) (shown_of c.show_one.new.outcome) c.requires c.if-is_valid.ensures.only
-    (c.args.self.now.else_schema ∷ []) ((g.N.Means.means c.args.self.now.else_schema (data_of c.args.node)).accepts c.args.ctx.now.answer)
+    (c.args.self.now.else_schema ∷ []) ((g.N.Means.means c.args.self.now.else_schema (data_of c.args.node)).accepts c.args.ctx.now.validation.answer)
     c.if-is_valid.ensures.verdict shows)
 
 pub returns-else-is_valid : goal.returns-else-is_valid
 returns-else-is_valid g c = shows_then (kept_asked c.if-is_valid.ensures.only) c.show_one-else-is_valid.ensures (λ _ shows.
-    second_fits g.N.Show.tree g.N.Means.means (data_of c.args.node) c.args.self.now.location c.args.path.now c.args.self.now.schema
+    second_fits g.N.Show.tree g.N.Means.means (data_of c.args.node) c.args.self.now.location c.args.ctx.now.path c.args.self.now.schema
     (shown_of c.args.outcome.now) (shown_of c.show_one-else-is_valid.new.outcome) c.requires c.if-is_valid.ensures.only
     c.args.self.now.else_schema [] true
     c.if-is_valid.ensures.verdict shows)

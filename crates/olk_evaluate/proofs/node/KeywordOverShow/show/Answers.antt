@@ -8,7 +8,7 @@ use Rattle.olk_evaluate.proofs.node.KeywordOverShow.show.Goals as goal
 pub returns-in-Leaf : goal.returns-in-Leaf
 unfolding answers_of
 returns-in-Leaf g c = rw c.in-Leaf.is (shows_by c.show_leaf.ensures kept_same (λ _ texts.
-    leaf_shown (g.K.Leaf.keyword_of c.in-Leaf.leaf) c.in-Leaf.field-0 c.args.path.now (data_of c.args.node) (g.K.Leaf.finds c.in-Leaf.leaf (data_of c.args.node)) texts))
+    leaf_shown (g.K.Leaf.keyword_of c.in-Leaf.leaf) c.in-Leaf.field-0 c.args.ctx.now.path (data_of c.args.node) (g.K.Leaf.finds c.in-Leaf.leaf (data_of c.args.node)) texts))
 
 pub returns-in-AdditionalProperties : goal.returns-in-AdditionalProperties
 unfolding answers_of

@@ -10,12 +10,12 @@ use Rattle.olk_evaluate.proofs.not.NotShow.show.Goals as goal
 
 pub returns-then-not-is_valid : goal.returns-then-not-is_valid
 returns-then-not-is_valid g c = record {
-  shown = refusal_shown (Refuses (view c.args.self.now.original)) (data_of c.args.node) c.args.self.now.location c.args._path.now false c.if-not-is_valid.ensures.verdict c.requires
+  shown = refusal_shown (Refuses (view c.args.self.now.original)) (data_of c.args.node) c.args.self.now.location c.args.ctx.now.path false c.if-not-is_valid.ensures.verdict c.requires
       (adds_none (shown_of c.args.outcome.now));
   kept = kept_asked c.if-not-is_valid.ensures.only;
 }
 
 pub returns : goal.returns
 returns g c = shows_by c.mark_errored_by.ensures (kept_asked c.if-not-is_valid.ensures.only) (λ _ added.
-    refusal_shown (Refuses (view c.args.self.now.original)) (data_of c.args.node) c.args.self.now.location c.args._path.now true c.if-not-is_valid.ensures.verdict c.requires
-    (adds_as (kind_of_not _) (added c.args.self.now.location c.args._path.now)))
+    refusal_shown (Refuses (view c.args.self.now.original)) (data_of c.args.node) c.args.self.now.location c.args.ctx.now.path true c.if-not-is_valid.ensures.verdict c.requires
+    (adds_as (kind_of_not _) (added c.args.self.now.location c.args.ctx.now.path)))

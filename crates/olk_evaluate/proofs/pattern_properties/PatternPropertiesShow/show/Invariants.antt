@@ -9,4 +9,4 @@ use Rattle.olk_evaluate.proofs.pattern_properties.PatternPropertiesShow.show.Giv
 abbrev pub invariant-loop-entry : goal.invariant-loop-entry
 invariant-loop-entry g l =
     Leaves (λ u Q es. MeetsMore (wanted_at g.N.Show.tree g.N.Means.means u Q) (matches_of_all g.R.RegexEngine.answers u es (object_of l.members.entries))) l.self.patterns.items
-    (drop l.entry-index l.self.patterns.items) (shown_of l.initial.outcome) (shown_of l.outcome) l.initial.path l.path l.initial.ctx l.ctx
+    (drop l.entry-index l.self.patterns.items) (shown_of l.initial.outcome) (shown_of l.outcome) l.initial.ctx.path l.ctx.path l.initial.ctx.validation l.ctx.validation

@@ -13,14 +13,14 @@ use Rattle.olk_evaluate.proofs.properties.PropertiesShow.show.Goals as goal
 
 pub returns-in-Some : goal.returns-in-Some
 returns-in-Some g c = shows_weaker c.show_declared_members.ensures (λ _ met.
-    alone_shown g.N.Show.tree g.N.Means.means c.args.ctx.now.answer c.args.path.now (mapped c.args.self.now.properties) c.args.self.now.location (data_of c.args.node)
+    alone_shown g.N.Show.tree g.N.Means.means c.args.ctx.now.validation.answer c.args.ctx.now.path (mapped c.args.self.now.properties) c.args.self.now.location (data_of c.args.node)
     (members_view c.in-Some.members.now.entries) c.in-Some.ensures
-    (subst (λ es. HasMet (wanted_at g.N.Show.tree g.N.Means.means c.args.ctx.now.answer c.args.path.now) (members_declared es (listed (members_view c.in-Some.members.now.entries)))
-    ((properties_mean g.N.Means.means es (object_of c.in-Some.members.now.entries)).accepts c.args.ctx.now.answer) (shown_of c.show_declared_members.new.outcome)) c.entries.ensures met))
+    (subst (λ es. HasMet (wanted_at g.N.Show.tree g.N.Means.means c.args.ctx.now.validation.answer c.args.ctx.now.path) (members_declared es (listed (members_view c.in-Some.members.now.entries)))
+    ((properties_mean g.N.Means.means es (object_of c.in-Some.members.now.entries)).accepts c.args.ctx.now.validation.answer) (shown_of c.show_declared_members.new.outcome)) c.entries.ensures met))
 
 pub returns-in-None : goal.returns-in-None
 returns-in-None g c = record {
-  shown = no_member_shown g.N.Show.tree g.N.Means.means c.args.ctx.now.answer c.args.path.now (mapped c.args.self.now.properties) c.args.self.now.location
+  shown = no_member_shown g.N.Show.tree g.N.Means.means c.args.ctx.now.validation.answer c.args.ctx.now.path (mapped c.args.self.now.properties) c.args.self.now.location
       (data_of c.args.node) c.in-None.ensures c.requires;
   kept = kept_same;
 }

@@ -10,4 +10,4 @@ use Rattle.olk_evaluate.proofs.property_dependencies.PropertyDependenciesShow.sh
 abbrev pub invariant-loop-choices : goal.invariant-loop-choices
 invariant-loop-choices g l =
     Leaves (λ u Q ns. ShowsMore (each_wanted g.N.Show.tree g.N.Means.means u ns (data_of l.node) Q)) (flat_map chosen (left_of l.initial.choices-iterator)) (flat_map chosen (left_of l.choices-iterator))
-    (shown_of l.initial.outcome) (shown_of l.outcome) l.initial.path l.path l.initial.ctx l.ctx
+    (shown_of l.initial.outcome) (shown_of l.outcome) l.initial.ctx.path l.ctx.path l.initial.ctx.validation l.ctx.validation

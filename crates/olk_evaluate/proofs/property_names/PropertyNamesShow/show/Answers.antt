@@ -11,8 +11,8 @@ use Rattle.olk_evaluate.proofs.property_names.PropertyNamesShow.show.Goals as go
 
 pub returns-in_default : goal.returns-in_default
 returns-in_default g c = record {
-  shown = names_shown g.N.Show.tree g.N.Means.means c.args.ctx.now.answer c.args.self.now.node c.args.self.now.location c.args.path.now (data_of c.args.node) (data_of c.args.node) refl c.requires
-      (no_name_shown g.N.Show.tree g.N.Means.means c.args.ctx.now.answer c.args.self.now.node c.args.self.now.location c.args.path.now (data_of c.args.node)
+  shown = names_shown g.N.Show.tree g.N.Means.means c.args.ctx.now.validation.answer c.args.self.now.node c.args.self.now.location c.args.ctx.now.path (data_of c.args.node) (data_of c.args.node) refl c.requires
+      (no_name_shown g.N.Show.tree g.N.Means.means c.args.ctx.now.validation.answer c.args.self.now.node c.args.self.now.location c.args.ctx.now.path (data_of c.args.node)
       (no_members (data_of c.args.node) c.in_default.ensures) (shown_of c.args.outcome.now));
   kept = kept_same;
 }
@@ -31,7 +31,7 @@ returns-in_err-add_child g c = shows_err c.from_residual-in_err-add_child.ensure
 
 pub returns : goal.returns
 returns g c = record {
-  shown = names_shown g.N.Show.tree g.N.Means.means c.args.ctx.now.answer c.args.self.now.node c.args.self.now.location c.args.path.now (data_of c.args.node)
+  shown = names_shown g.N.Show.tree g.N.Means.means c.args.ctx.now.validation.answer c.args.self.now.node c.args.self.now.location c.args.ctx.now.path (data_of c.args.node)
       (object (members_view c.into_iter-name-iterator.result))
       (ap (λ es. object (members_view es)) c.into_iter-name-iterator.ensures.into_iter_gives.0
       ∙ object_is (data_of c.args.node) (members_view c.in-Some.members.now.entries) c.in-Some.ensures)

@@ -10,4 +10,4 @@ use Rattle.olk_evaluate.proofs.property_names.PropertyNamesShow.show.Given as go
 abbrev pub invariant-loop-name : goal.invariant-loop-name
 invariant-loop-name g l =
     Leaves (λ u Q xs. ShowsMore (map (λ x. wanted g.N.Show.tree g.N.Means.means u l.self.node (string x.0) Q) xs)) (listed (members_view l.initial.name-iterator)) (listed (members_view l.name-iterator))
-    (shown_of l.initial.outcome) (shown_of l.outcome) l.initial.path l.path l.initial.ctx l.ctx
+    (shown_of l.initial.outcome) (shown_of l.outcome) l.initial.ctx.path l.ctx.path l.initial.ctx.validation l.ctx.validation
