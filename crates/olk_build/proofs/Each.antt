@@ -1,5 +1,5 @@
 -- The keywords of a schema object in which none takes what another holds, member by member.
-use Rattle.std.specs.Prelude.{◌≡◌, List, [], ◌∷◌, ◌++◌}
+use Rattle.std.specs.Prelude.{◌≡◌, false, List, [], ◌∷◌, ◌++◌, map}
 use Rattle.std.specs.List.{flat_map}
 use Rattle.std.specs.declared.alloc.AllocError.{AllocError}
 use Rattle.std.proofs.Common.{refl, sym, ◌∙◌, ap, subst}
@@ -10,6 +10,7 @@ use Rattle.olk_spec.specs.Vocabulary.{keyword_named}
 use Rattle.olk_spec.specs.Faults.{Fault}
 use Rattle.olk_spec.specs.Costs.{Cost}
 use Rattle.olk_spec.specs.Schemas.{listed}
+use Rattle.olk_spec.specs.Malformed.{has_repeat}
 use Rattle.olk_base.specs.Count.{Counts}
 use Rattle.olk_base.specs.Kit.{Kit}
 use Rattle.olk_reports.specs.declared.error.BuildError.{BuildError}
@@ -18,16 +19,23 @@ use Rattle.olk_tree.specs.Answers.{Answers}
 use Rattle.olk_tree.specs.declared.node.KeywordOver.{KeywordOver}
 use Rattle.olk_meaning.specs.Conditions.{Known, known_of, IsKnown}
 use Rattle.olk_meaning.specs.Members.{member_malformations, member_cost}
-use Rattle.olk_meaning.specs.Plans.{Planned, head, claims}
+use Rattle.olk_meaning.specs.Plans.{Planned, plan_of, head, claims}
 use Rattle.olk_read.proofs.Spending.{refuses_among, memory_among}
 use Rattle.olk_make.specs.Making.{KeywordsMean, AppendsPart}
 use Rattle.olk_make.specs.declared.part.Part.{Part}
 use Rattle.olk_make.proofs.Together.{no_keywords_mean}
 use Rattle.olk_make.proofs.Untaken.{one_more_alone, all_alone}
-use Rattle.olk_build.specs.Building.{NothingIsTaken, ObjectIsBuilt, RefusesObject, RefusesPart}
+use Rattle.olk_build.specs.Building.{ObjectIsBuilt, RefusesObject, RefusesPart}
 use Rattle.olk_build.specs.Placing.{PartsAreBuilt, IsPart}
 use Rattle.olk_meaning.proofs.Claims.{present_each}
 use Rattle.olk_build.proofs.Parts.{no_parts, one_more_part}
+
+-- by the plan of the object with these members no keyword takes what another holds
+pub record NothingIsTaken (ms : Members) (p : Planned) : Type 0 where
+  pub plan : p ≡ plan_of ms
+  pub distinct : has_repeat (map (λ m. m.0) (listed ms)) ≡ false
+  pub no_condition : p.condition ≡ false
+  pub unrestricted : p.restricted ≡ false
 
 module _ {K R N : Type 0} (o : Kit K R) (answers : N → Answers) (ms : Members) (P : Path) where
   abbrev wrong : Name × Data → List Fault
@@ -44,17 +52,18 @@ module _ {K R N : Type 0} (o : Kit K R) (answers : N → Answers) (ms : Members)
 
   -- and the keywords mean what these members claim
   pub record EachSoFar (p : Planned) (a : Counts) (ks : List (KeywordOver K R N)) (left : List (Name × Data)) (b : Counts) : Type 0 where
+    pub alone : NothingIsTaken ms p
     pub parts : List (Part K R N)
     pub built : PartsSoFar parts a left b
-    pub mean : NothingIsTaken ms p → KeywordsMean o answers ms ks (flat_map (claims (head p) (listed ms)) built.done) built.done P
+    pub mean : KeywordsMean o answers ms ks (flat_map (claims (head p) (listed ms)) built.done) built.done P
 
 module _ {K R N : Type 0} {o : Kit K R} {answers : N → Answers} {ms : Members} {P : Path} {a : Counts} where
   pub no_parts_so_far : {ps : List (Part K R N)} {all : List (Name × Data)} → ps ≡ [] → all ≡ listed ms → PartsSoFar o answers ms P ps a all a
   no_parts_so_far e w = record { done = []; built = no_parts e; whole = w }
 
-  pub none_so_far : {p : Planned} {ks : List (KeywordOver K R N)} {all : List (Name × Data)} → ks ≡ [] → all ≡ listed ms → EachSoFar o answers ms P p a ks all a
+  pub none_so_far : {p : Planned} {ks : List (KeywordOver K R N)} {all : List (Name × Data)} → NothingIsTaken ms p → ks ≡ [] → all ≡ listed ms → EachSoFar o answers ms P p a ks all a
   unfolding no_parts_so_far
-  none_so_far {ks = ks} e w = record { parts = []; built = no_parts_so_far refl w; mean = λ u. no_keywords_mean o answers ms P ks e }
+  none_so_far {ks = ks} u e w = record { alone = u; parts = []; built = no_parts_so_far refl w; mean = no_keywords_mean o answers ms P ks e }
 
   module _ {m : Counts} {ps : List (Part K R N)} {left : List (Name × Data)} (h : PartsSoFar o answers ms P ps a left m) where
     pub memory_so_far : {w : AllocError} (e : BuildError) → e ≡ Memory w → RefusesObject o ms P a m e
@@ -92,12 +101,12 @@ module _ {K R N : Type 0} {o : Kit K R} {answers : N → Answers} {ms : Members}
             }
 
   module _ {p : Planned} {m : Counts} {ks : List (KeywordOver K R N)} {left : List (Name × Data)} (h : EachSoFar o answers ms P p a ks left m) where
-    pub each_is_built : left ≡ [] → NothingIsTaken ms p → ObjectIsBuilt o ms answers ks P a m
-    each_is_built e u =
+    pub each_is_built : left ≡ [] → ObjectIsBuilt o ms answers ks P a m
+    each_is_built e =
         let built = parts_are_built h.built e in
         record {
-          mean = all_alone o answers ms P p u.plan u.distinct ks
-              (subst (λ l. KeywordsMean o answers ms ks (flat_map (claims (head p) (listed ms)) l) l P) (all_done h.built e) (h.mean u));
+          mean = all_alone o answers ms P p h.alone.plan h.alone.distinct ks
+              (subst (λ l. KeywordsMean o answers ms ks (flat_map (claims (head p) (listed ms)) l) l P) (all_done h.built e) h.mean);
           clean = built.clean;
           spends = built.spends;
         }
@@ -107,8 +116,9 @@ module _ {K R N : Type 0} {o : Kit K R} {answers : N → Answers} {ms : Members}
       pub one_more_meant : {new : List (KeywordOver K R N)} → AppendsPart o answers part.shape part.location part.nodes.items P p ks new → EachSoFar o answers ms P p a new next b
       unfolding one_more_so_far
       one_more_meant {new} appends = record {
+        alone = h.alone;
         parts = h.parts ++ part ∷ [];
         built = one_more_so_far h.built here known place same built refl;
-        mean = λ u. one_more_alone o answers ms P p u.plan u.distinct u.no_condition u.unrestricted ks new h.built.done next (k, d) part (there h.built here) appends
-            (part_here h.built here known place same built).stand.0 (h.mean u);
+        mean = one_more_alone o answers ms P p h.alone.plan h.alone.distinct h.alone.no_condition h.alone.unrestricted ks new h.built.done next (k, d) part (there h.built here) appends
+            (part_here h.built here known place same built).stand.0 h.mean;
       }

@@ -6,7 +6,7 @@ use Rattle.olk_spec.specs.Names.{Name, Path, ◌//◌, filter_once}
 use Rattle.olk_spec.specs.Faults.{Fault}
 use Rattle.olk_spec.specs.Schemas.{listed, members, is_array}
 use Rattle.olk_spec.specs.Costs.{Cost, cost, total_cost, ◌⊕◌}
-use Rattle.olk_spec.specs.Malformed.{has_repeat, malformations_at}
+use Rattle.olk_spec.specs.Malformed.{malformations_at}
 use Rattle.olk_base.specs.Count.{Counts}
 use Rattle.olk_reports.specs.declared.error.BuildError.{BuildError}
 use Rattle.olk_base.specs.Kit.{Kit}
@@ -15,20 +15,12 @@ use Rattle.olk_tree.specs.Answers.{Answers}
 use Rattle.olk_tree.specs.Places.{Stands}
 use Rattle.olk_meaning.specs.Conditions.{Known, is_restricted, IsKnown}
 use Rattle.olk_meaning.specs.Members.{member_malformations, member_cost}
-use Rattle.olk_meaning.specs.Plans.{Planned, plan_of}
 use Rattle.olk_read.specs.Refusing.{Spends, Refuses}
 use Rattle.olk_read.specs.Patterns.{patterns_wrong, patterns_cost}
 use Rattle.olk_make.specs.Holding.{StandEach, StandInner, which, all_malformed}
 use Rattle.olk_make.specs.Standing.{EntriesStand}
 use Rattle.olk_make.specs.Making.{ObjectIsMade}
 use Rattle.olk_tree.specs.declared.node.KeywordOver.{KeywordOver}
-
--- by the plan of the object with these members no keyword takes what another holds
-pub record NothingIsTaken (ms : Members) (p : Planned) : Type 0 where
-  pub plan : p ≡ plan_of ms
-  pub distinct : has_repeat (map (λ m. m.0) (listed ms)) ≡ false
-  pub no_condition : p.condition ≡ false
-  pub unrestricted : p.restricted ≡ false
 
 -- the entries that are no lists
 abbrev pub no_lists : List (Name × Data) → List (Name × Data)

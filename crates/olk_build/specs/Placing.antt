@@ -2,7 +2,7 @@
 use Rattle.std.specs.Prelude.{◌≡◌, List, [], ◌∷◌}
 use Rattle.serde_json.specs.Data.{Data, Members}
 use Rattle.olk_spec.specs.Names.{Name, Path, ◌//◌}
-use Rattle.olk_spec.specs.Schemas.{listed, members, numbered}
+use Rattle.olk_spec.specs.Schemas.{members, numbered}
 use Rattle.olk_spec.specs.Malformed.{items_of_array, malformations_at}
 use Rattle.olk_spec.specs.Faults.{Fault}
 use Rattle.olk_spec.specs.Costs.{Cost, no_cost, cost}
@@ -49,10 +49,6 @@ module _ {K R : Type 0} (o : Kit K R) where
     pub stand : PartsStand o answers (known_of ms) ps es P
     pub clean : all_malformed o ms P es ≡ []
     pub spends : Spends old new (all_cost o ms es)
-
-  -- parts for all members
-  abbrev pub ObjectIsParted : {N : Type 0} → (N → Answers) → Members → List (Part K R N) → Path → Counts → Counts → Type 0
-  ObjectIsParted answers ms ps P old new = PartsAreBuilt answers ms ps (listed ms) P old new
 
   -- the part of the keyword of the name k and the value d at its place, in each object of whose neighbours c is known as far as the keyword has to know them
   abbrev pub IsPart : {N : Type 0} → (N → Answers) → Part K R N → Known → Name → Data → Path → Counts → Counts → Type 0

@@ -7,11 +7,10 @@ ghost use Rattle.olk_spec.specs.Costs.{cost};
 ghost use Rattle.olk_paths.specs.Paths.{one_below};
 ghost use Rattle.olk_base.specs.Kit.{kit, world};
 ghost use Rattle.olk_tree.specs.Places.{Stands};
-ghost use Rattle.olk_build.specs.Building.{IsBuilt, NothingIsTaken, ObjectIsBuilt, AreBuilt, InnerAreBuilt, is_read, entries_read, RefusesSchema, RefusesEach, RefusesInner, RefusesObject, RefusesPart};
+ghost use Rattle.olk_build.specs.Building.{IsBuilt, ObjectIsBuilt, AreBuilt, InnerAreBuilt, is_read, entries_read, RefusesSchema, RefusesEach, RefusesInner, RefusesObject, RefusesPart};
 ghost use Rattle.olk_meaning.specs.Conditions.{known, known_of};
-ghost use Rattle.olk_meaning.specs.Plans.{planned};
 ghost use Rattle.olk_read.specs.Refusing.{TellsOneOf, Spends, SpendsWithin};
-ghost use Rattle.olk_build.specs.Placing.{ObjectIsParted, IsPart, PlacesAreBuilt, RefusesPlaces};
+ghost use Rattle.olk_build.specs.Placing.{IsPart, PlacesAreBuilt, RefusesPlaces};
 
 use crate::context::Context;
 use olk_base::{MakeLeaf, MakeRegex, Meter, append, append_all, one};
@@ -84,73 +83,18 @@ fn compile_object<'a, L: MakeLeaf, M: MakeRegex, N: BuiltNode<L::Leaf, M::Engine
         (members_view members.now.entries) place.now meter.old meter.new) }
 {
     let plan = Plan::of(members);
-    if !plan.is_condition() && !plan.is_restricted() {
-        return compile_each(alloc, makers, meter, plan, place, members);
-    }
-    let parts = compile_parts(alloc, makers, meter, place, members)?;
-    let keywords = make_keywords(alloc, plan, place, parts)?;
-    Ok(keywords)
-}
-
-/// The parts of a schema object, one for each member, in the order of their names.
-///
-/// # Errors
-///
-/// One of the members' malformations; else out of memory.
-#[cycle(compile)]
-fn compile_parts<'a, L: MakeLeaf, M: MakeRegex, N: BuiltNode<L::Leaf, M::Engine>>(
-    alloc: Global,
-    makers: &Makers<'_, L, M>,
-    meter: &mut Meter,
-    place: &Location,
-    members: &'a Map<String, Value>,
-) -> Result<Vec<Part<L::Leaf, M::Engine, N>>, Stop<'a>>
-    ensures built { IfOk result (λ ps. ObjectIsParted (kit L.Leaf.Leaf M.Engine.RegexEngine)
-        N.answers (members_view members.now.entries) ps.items place.now meter.old meter.new) }
-    ensures refused { IfErr result (RefusesObject (kit L.Leaf.Leaf M.Engine.RegexEngine)
-        (members_view members.now.entries) place.now meter.old meter.new) }
-{
     let neighbours = Neighbours::of(members);
-    let mut parts = Vec::with_capacity(alloc, members.len())?;
-    for (name, value) in members {
-        let location = place.join(alloc, name.as_str())?;
-        let part = compile_part(
-            alloc,
-            makers,
-            meter,
-            neighbours,
-            location,
-            name.as_str(),
-            value,
-        )?;
-        append(&mut parts, part)?;
+    if plan.is_condition() || plan.is_restricted() {
+        let mut parts = Vec::with_capacity(alloc, members.len())?;
+        for (name, value) in members {
+            let name = name.as_str();
+            let location = place.join(alloc, name)?;
+            let part = compile_part(alloc, makers, meter, neighbours, location, name, value)?;
+            append(&mut parts, part)?;
+        }
+        return Ok(make_keywords(alloc, plan, place, parts)?);
     }
-    Ok(parts)
-}
-
-/// The keywords of a schema object in which none takes what another holds, in the order of their
-/// names. They are made one by one, without a list of their parts.
-///
-/// # Errors
-///
-/// One of the members' malformations; else out of memory.
-#[cycle(compile)]
-fn compile_each<'a, L: MakeLeaf, M: MakeRegex, N: BuiltNode<L::Leaf, M::Engine>>(
-    alloc: Global,
-    makers: &Makers<'_, L, M>,
-    meter: &mut Meter,
-    plan: Plan<'_>,
-    place: &Location,
-    members: &'a Map<String, Value>,
-) -> Result<Vec<KeywordOver<L::Leaf, M::Engine, N>>, Stop<'a>>
-    ensures built { IfOk result (λ ks.
-        NothingIsTaken (members_view members.now.entries) (planned plan.entry)
-        → ObjectIsBuilt (kit L.Leaf.Leaf M.Engine.RegexEngine) (members_view members.now.entries)
-        N.answers ks.items place.now meter.old meter.new) }
-    ensures refused { IfErr result (RefusesObject (kit L.Leaf.Leaf M.Engine.RegexEngine)
-        (members_view members.now.entries) place.now meter.old meter.new) }
-{
-    let neighbours = Neighbours::of(members);
+    // None takes what another holds: they are made without a list of their parts.
     let mut keywords = Vec::with_capacity(alloc, members.len())?;
     for (name, value) in members {
         let name = name.as_str();

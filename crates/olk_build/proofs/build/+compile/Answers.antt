@@ -149,123 +149,113 @@ compile_part-returns-in_err-nodes-clause-refused g t c = exit_with _ _ _ c.from_
 pub compile_part-returns-clause-built : goal.compile_part-returns-clause-built
 compile_part-returns-clause-built g t c = part_is_built c.in_ok-shape.ensures.built c.reads.ensures c.in_ok-nodes.ensures.built
 
-pub compile_object-returns-then-not-is_restricted-clause-built : goal.compile_object-returns-then-not-is_restricted-clause-built
-compile_object-returns-then-not-is_restricted-clause-built g t c =
-    IfOk-weaker c.compile_each.result _ _ (λ ks built. built record {
-      plan = c.of-plan.ensures.plan;
-      distinct = c.of-plan.ensures.distinct;
-      no_condition = sym c.is_condition.ensures ∙ c.if-not-is_condition.true;
-      unrestricted = sym c.is_restricted.ensures ∙ c.if-not-is_restricted.true;
-    }) c.compile_each.ensures.built
-
 pub compile_object-returns-in_err-parts-clause-refused : goal.compile_object-returns-in_err-parts-clause-refused
-compile_object-returns-in_err-parts-clause-refused g t c = exit_with _ _ _ c.from_residual.ensures.1 c.in_err-parts.ensures.refused
+compile_object-returns-in_err-parts-clause-refused g t c = exit _ _ _ c.from_residual.ensures.1 (refuses_memory within_nothing)
 
-pub compile_object-returns-in_err-keywords-clause-refused : goal.compile_object-returns-in_err-keywords-clause-refused
-compile_object-returns-in_err-keywords-clause-refused g t c =
-    exit _ _ _ c.from_residual-in_err-keywords.ensures.1 (refuses_memory (within_exactly c.in_ok-parts.ensures.built.spends))
-
-pub compile_object-returns-clause-built : goal.compile_object-returns-clause-built
-compile_object-returns-clause-built g t c =
-    let parts = c.in_ok-parts.ensures.built in
-    record {
-      mean = c.in_ok-keywords.ensures (members_view c.args.members.now.entries) c.of-plan.ensures.distinct c.of-plan.ensures.plan parts.stand;
-      clean = parts.clean;
-      spends = parts.spends;
-    }
-
-pub compile_parts-returns-in_err-parts-clause-refused : goal.compile_parts-returns-in_err-parts-clause-refused
-compile_parts-returns-in_err-parts-clause-refused g t c = exit _ _ _ c.from_residual.ensures.1 (refuses_memory within_nothing)
-
-pub compile_parts-loop-name-init : goal.compile_parts-loop-name-init
-compile_parts-loop-name-init g t c =
+pub compile_object-loop-name-init : goal.compile_object-loop-name-init
+compile_object-loop-name-init g t c =
     record {
       so_far = no_parts_so_far c.in_ok-parts.ensures.items (listed_alike c.into_iter-name-iterator.ensures.into_iter_gives.0);
       next = tt;
       ends = tt;
     }
 
-pub compile_parts-join-requires-text-segment : goal.compile_parts-join-requires-text-segment
-compile_parts-join-requires-text-segment g t c κs = c.as_str.utf8
+pub compile_object-join-requires-text-segment : goal.compile_object-join-requires-text-segment
+compile_object-join-requires-text-segment g t c κs = c.as_str-name.utf8
 
-pub compile_parts-returns-in_err-location-clause-refused : goal.compile_parts-returns-in_err-location-clause-refused
-compile_parts-returns-in_err-location-clause-refused g t c =
+pub compile_object-returns-in_err-location-clause-refused : goal.compile_object-returns-in_err-location-clause-refused
+compile_object-returns-in_err-location-clause-refused g t c =
     exit _ _ _ c.from_residual-in_err-location.ensures.1 (memory_so_far c.loop-name.invariant.so_far)
 
-pub compile_parts-compile_part-requires-text-name : goal.compile_parts-compile_part-requires-text-name
-compile_parts-compile_part-requires-text-name g t c κs within = c.as_str-in-loop-name.utf8
+pub compile_object-compile_part-requires-text-name : goal.compile_object-compile_part-requires-text-name
+compile_object-compile_part-requires-text-name g t c κs within = c.as_str-name.utf8
 
-pub compile_parts-returns-in_err-part-clause-refused : goal.compile_parts-returns-in_err-part-clause-refused
-compile_parts-returns-in_err-part-clause-refused g t c =
+pub compile_object-returns-in_err-part-clause-refused : goal.compile_object-returns-in_err-part-clause-refused
+compile_object-returns-in_err-part-clause-refused g t c =
     exit_with _ _ _ c.from_residual-in_err-part.ensures.1 (member_refused c.loop-name.invariant.so_far (listed_alike c.in-Some.ensures.steps) c.of-neighbours.ensures
-    (below _ c.in_ok-location.ensures c.as_str.ensures.value) c.as_str-in-loop-name.ensures.value c.in_err-part.ensures.refused)
-
-pub compile_parts-loop-name-preserved : goal.compile_parts-loop-name-preserved
-compile_parts-loop-name-preserved g t c =
-    record {
-      so_far = one_more_so_far c.loop-name.invariant.so_far (listed_alike c.in-Some.ensures.steps) c.of-neighbours.ensures
-          (below _ c.in_ok-location.ensures c.as_str.ensures.value) c.as_str-in-loop-name.ensures.value c.in_ok-part.ensures.built c.in_ok-append.ensures.items;
-      next = tt;
-      ends = tt;
-    }
-
-pub compile_parts-returns-in_err-append-clause-refused : goal.compile_parts-returns-in_err-append-clause-refused
-compile_parts-returns-in_err-append-clause-refused g t c =
-    exit _ _ _ c.from_residual-in_err-append.ensures.1 (memory_so_far (one_more_so_far c.loop-name.invariant.so_far (listed_alike c.in-Some.ensures.steps) c.of-neighbours.ensures
-    (below _ c.in_ok-location.ensures c.as_str.ensures.value) c.as_str-in-loop-name.ensures.value c.in_ok-part.ensures.built refl))
-
-pub compile_parts-returns-clause-built : goal.compile_parts-returns-clause-built
-compile_parts-returns-clause-built g t c = parts_are_built c.loop-name.invariant.so_far (listed_alike c.in-None.ensures.steps.0)
-
-pub compile_each-returns-in_err-keywords-clause-refused : goal.compile_each-returns-in_err-keywords-clause-refused
-compile_each-returns-in_err-keywords-clause-refused g t c = exit _ _ _ c.from_residual.ensures.1 (refuses_memory within_nothing)
-
-pub compile_each-loop-name-init : goal.compile_each-loop-name-init
-compile_each-loop-name-init g t c =
-    record {
-      so_far = none_so_far c.in_ok-keywords.ensures.items (listed_alike c.into_iter-name-iterator.ensures.into_iter_gives.0);
-      before = [];
-      entries = c.into_iter-name-iterator.ensures.into_iter_gives.0;
-      next = tt;
-      ends = tt;
-    }
-
-pub compile_each-join-requires-text-segment : goal.compile_each-join-requires-text-segment
-compile_each-join-requires-text-segment g t c κs = c.as_str-name.utf8
-
-pub compile_each-returns-in_err-location-clause-refused : goal.compile_each-returns-in_err-location-clause-refused
-compile_each-returns-in_err-location-clause-refused g t c =
-    exit _ _ _ c.from_residual-in_err-location.ensures.1 (memory_so_far c.loop-name.invariant.so_far.built)
-
-pub compile_each-compile_part-requires : goal.compile_each-compile_part-requires
-compile_each-compile_part-requires g t c κs within =
-    let lower = size_among the_size c.loop-name.invariant.before c.in-Some.name.now c.in-Some.value.now c.next.new.self c.args.members.now.entries
-    (ap (λ l. c.loop-name.invariant.before ++ l) (sym c.in-Some.ensures.steps) ∙ c.loop-name.invariant.entries) in
-    (omega (arith, c.decreases, lower), within)
-
-pub compile_each-returns-in_err-part-clause-refused : goal.compile_each-returns-in_err-part-clause-refused
-compile_each-returns-in_err-part-clause-refused g t c =
-    exit_with _ _ _ c.from_residual-in_err-part.ensures.1 (member_refused c.loop-name.invariant.so_far.built (listed_alike c.in-Some.ensures.steps) c.of-neighbours.ensures
     (below _ c.in_ok-location.ensures c.as_str-name.ensures.value) c.as_str-name.ensures.value c.in_err-part.ensures.refused)
 
-pub compile_each-loop-name-preserved : goal.compile_each-loop-name-preserved
-compile_each-loop-name-preserved g t c = record {
-  so_far = one_more_meant c.loop-name.invariant.so_far (listed_alike c.in-Some.ensures.steps) c.of-neighbours.ensures
-      (below _ c.in_ok-location.ensures c.as_str-name.ensures.value) c.as_str-name.ensures.value c.in_ok-part.ensures.built c.in_ok-append_keyword.ensures;
-  before = c.loop-name.invariant.before ++ (c.in-Some.name.now, c.in-Some.value.now) ∷ [];
-  entries = append_assoc c.loop-name.invariant.before ((c.in-Some.name.now, c.in-Some.value.now) ∷ []) c.next.new.self
-      ∙ ap (λ l. c.loop-name.invariant.before ++ l) (sym c.in-Some.ensures.steps) ∙ c.loop-name.invariant.entries;
+pub compile_object-loop-name-preserved : goal.compile_object-loop-name-preserved
+compile_object-loop-name-preserved g t c =
+    record {
+      so_far = one_more_so_far c.loop-name.invariant.so_far (listed_alike c.in-Some.ensures.steps) c.of-neighbours.ensures
+          (below _ c.in_ok-location.ensures c.as_str-name.ensures.value) c.as_str-name.ensures.value c.in_ok-part.ensures.built c.in_ok-append.ensures.items;
+      next = tt;
+      ends = tt;
+    }
+
+pub compile_object-returns-in_err-append-clause-refused : goal.compile_object-returns-in_err-append-clause-refused
+compile_object-returns-in_err-append-clause-refused g t c =
+    exit _ _ _ c.from_residual-in_err-append.ensures.1 (memory_so_far (one_more_so_far c.loop-name.invariant.so_far (listed_alike c.in-Some.ensures.steps) c.of-neighbours.ensures
+    (below _ c.in_ok-location.ensures c.as_str-name.ensures.value) c.as_str-name.ensures.value c.in_ok-part.ensures.built refl))
+
+pub compile_object-returns-in_err-make_keywords-clause-refused : goal.compile_object-returns-in_err-make_keywords-clause-refused
+compile_object-returns-in_err-make_keywords-clause-refused g t c =
+    exit _ _ _ c.from_residual-in_err-make_keywords.ensures.1 (memory_so_far c.loop-name.invariant.so_far)
+
+pub compile_object-returns-then-is_condition-clause-built : goal.compile_object-returns-then-is_condition-clause-built
+compile_object-returns-then-is_condition-clause-built g t c =
+    let parts = parts_are_built c.loop-name.invariant.so_far (listed_alike c.in-None.ensures.steps.0) in
+    record {
+      mean = c.in_ok-make_keywords.ensures (members_view c.args.members.now.entries) c.of-plan.ensures.distinct c.of-plan.ensures.plan parts.stand;
+      clean = parts.clean;
+      spends = parts.spends;
+    }
+
+pub compile_object-returns-in_err-keywords-clause-refused : goal.compile_object-returns-in_err-keywords-clause-refused
+compile_object-returns-in_err-keywords-clause-refused g t c = exit _ _ _ c.from_residual-in_err-keywords.ensures.1 (refuses_memory within_nothing)
+
+pub compile_object-loop-name-2-init : goal.compile_object-loop-name-2-init
+compile_object-loop-name-2-init g t c =
+    record {
+      so_far = none_so_far record {
+        plan = c.of-plan.ensures.plan;
+        distinct = c.of-plan.ensures.distinct;
+        no_condition = sym c.is_condition.ensures ∙ c.if-is_condition.false;
+        unrestricted = sym c.is_restricted.ensures ∙ c.if-is_restricted.false;
+      } c.in_ok-keywords.ensures.items (listed_alike c.into_iter-name-iterator-2.ensures.into_iter_gives.0);
+      before = [];
+      entries = c.into_iter-name-iterator-2.ensures.into_iter_gives.0;
+      next = tt;
+      ends = tt;
+    }
+
+pub compile_object-join-requires-in-loop-name-2-text-segment : goal.compile_object-join-requires-in-loop-name-2-text-segment
+compile_object-join-requires-in-loop-name-2-text-segment g t c κs = c.as_str-name-in-loop-name-2.utf8
+
+pub compile_object-returns-in_err-location-2-clause-refused : goal.compile_object-returns-in_err-location-2-clause-refused
+compile_object-returns-in_err-location-2-clause-refused g t c =
+    exit _ _ _ c.from_residual-in_err-location-2.ensures.1 (memory_so_far c.loop-name-2.invariant.so_far.built)
+
+pub compile_object-compile_part-requires-in-loop-name-2 : goal.compile_object-compile_part-requires-in-loop-name-2
+compile_object-compile_part-requires-in-loop-name-2 g t c κs within =
+    let lower = size_among the_size c.loop-name-2.invariant.before c.in-Some-2.name.now c.in-Some-2.value.now c.next-in-loop-name-2.new.self c.args.members.now.entries
+    (ap (λ l. c.loop-name-2.invariant.before ++ l) (sym c.in-Some-2.ensures.steps) ∙ c.loop-name-2.invariant.entries) in
+    (omega (arith, c.decreases, lower), within)
+
+pub compile_object-returns-in_err-part-2-clause-refused : goal.compile_object-returns-in_err-part-2-clause-refused
+compile_object-returns-in_err-part-2-clause-refused g t c =
+    exit_with _ _ _ c.from_residual-in_err-part-2.ensures.1 (member_refused c.loop-name-2.invariant.so_far.built (listed_alike c.in-Some-2.ensures.steps) c.of-neighbours.ensures
+    (below _ c.in_ok-location-2.ensures c.as_str-name-in-loop-name-2.ensures.value) c.as_str-name-in-loop-name-2.ensures.value c.in_err-part-2.ensures.refused)
+
+pub compile_object-loop-name-2-preserved : goal.compile_object-loop-name-2-preserved
+compile_object-loop-name-2-preserved g t c = record {
+  so_far = one_more_meant c.loop-name-2.invariant.so_far (listed_alike c.in-Some-2.ensures.steps) c.of-neighbours.ensures
+      (below _ c.in_ok-location-2.ensures c.as_str-name-in-loop-name-2.ensures.value) c.as_str-name-in-loop-name-2.ensures.value c.in_ok-part-2.ensures.built c.in_ok-append_keyword.ensures;
+  before = c.loop-name-2.invariant.before ++ (c.in-Some-2.name.now, c.in-Some-2.value.now) ∷ [];
+  entries = append_assoc c.loop-name-2.invariant.before ((c.in-Some-2.name.now, c.in-Some-2.value.now) ∷ []) c.next-in-loop-name-2.new.self
+      ∙ ap (λ l. c.loop-name-2.invariant.before ++ l) (sym c.in-Some-2.ensures.steps) ∙ c.loop-name-2.invariant.entries;
   next = tt;
   ends = tt;
 }
 
-pub compile_each-returns-in_err-append_keyword-clause-refused : goal.compile_each-returns-in_err-append_keyword-clause-refused
-compile_each-returns-in_err-append_keyword-clause-refused g t c =
-    exit _ _ _ c.from_residual-in_err-append_keyword.ensures.1 (memory_so_far (one_more_so_far c.loop-name.invariant.so_far.built (listed_alike c.in-Some.ensures.steps) c.of-neighbours.ensures
-    (below _ c.in_ok-location.ensures c.as_str-name.ensures.value) c.as_str-name.ensures.value c.in_ok-part.ensures.built refl))
+pub compile_object-returns-in_err-append_keyword-clause-refused : goal.compile_object-returns-in_err-append_keyword-clause-refused
+compile_object-returns-in_err-append_keyword-clause-refused g t c =
+    exit _ _ _ c.from_residual-in_err-append_keyword.ensures.1 (memory_so_far (one_more_so_far c.loop-name-2.invariant.so_far.built (listed_alike c.in-Some-2.ensures.steps) c.of-neighbours.ensures
+    (below _ c.in_ok-location-2.ensures c.as_str-name-in-loop-name-2.ensures.value) c.as_str-name-in-loop-name-2.ensures.value c.in_ok-part-2.ensures.built refl))
 
-pub compile_each-returns-clause-built : goal.compile_each-returns-clause-built
-compile_each-returns-clause-built g t c = each_is_built c.loop-name.invariant.so_far (listed_alike c.in-None.ensures.steps.0)
+pub compile_object-returns-clause-built : goal.compile_object-returns-clause-built
+compile_object-returns-clause-built g t c = each_is_built c.loop-name-2.invariant.so_far (listed_alike c.in-None-2.ensures.steps.0)
 
 pub compile_places-returns-in_err-place-in-Itself-clause-refused : goal.compile_places-returns-in_err-place-in-Itself-clause-refused
 compile_places-returns-in_err-place-in-Itself-clause-refused g t c = exit _ _ _ c.from_residual.ensures.1 (refuses_memory within_nothing)

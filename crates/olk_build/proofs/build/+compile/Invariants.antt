@@ -32,21 +32,21 @@ invariant-compile_branches-loop-i g l =
     EntriesSoFar (kit g.L.Leaf.Leaf g.M.Engine.RegexEngine) g.N.BuiltNode.answers l.fn.place (numbered (items_list (items_view l.items.items))) l.fn.meter l.nodes.items (branches_from l.i l.schema-items) l.meter
 
 -- the parts so far are built for the members so far
-abbrev pub invariant-compile_parts-loop-name : goal.invariant-compile_parts-loop-name
-invariant-compile_parts-loop-name g l = record {
+abbrev pub invariant-compile_object-loop-name : goal.invariant-compile_object-loop-name
+invariant-compile_object-loop-name g l = record {
   so_far : PartsSoFar (kit g.L.Leaf.Leaf g.M.Engine.RegexEngine) g.N.BuiltNode.answers (members_view l.members.entries) l.fn.place l.parts.items l.fn.meter
       (listed (members_view l.name-iterator)) l.meter;
-  next : (goal.iterator-compile_parts-loop-name g).can_next l.name-iterator;
-  ends : (goal.iterator-compile_parts-loop-name g).is_finite l.name-iterator;
+  next : (goal.iterator-compile_object-loop-name g).can_next l.name-iterator;
+  ends : (goal.iterator-compile_object-loop-name g).is_finite l.name-iterator;
 }
 
 -- the keywords so far mean what the members so far claim; the entries so far, which the next is none of, bound its size
-abbrev pub invariant-compile_each-loop-name : goal.invariant-compile_each-loop-name
-invariant-compile_each-loop-name g l = record {
+abbrev pub invariant-compile_object-loop-name-2 : goal.invariant-compile_object-loop-name-2
+invariant-compile_object-loop-name-2 g l = record {
   so_far : EachSoFar (kit g.L.Leaf.Leaf g.M.Engine.RegexEngine) g.N.BuiltNode.answers (members_view l.members.entries) l.fn.place
-      (planned l.fn.plan) l.fn.meter l.keywords.items (listed (members_view l.name-iterator)) l.meter;
+      (planned l.plan) l.fn.meter l.keywords.items (listed (members_view l.name-iterator)) l.meter;
   before : List (String Global × Value);
   entries : before ++ l.name-iterator ≡ l.members.entries;
-  next : (goal.iterator-compile_each-loop-name g).can_next l.name-iterator;
-  ends : (goal.iterator-compile_each-loop-name g).is_finite l.name-iterator;
+  next : (goal.iterator-compile_object-loop-name-2 g).can_next l.name-iterator;
+  ends : (goal.iterator-compile_object-loop-name-2 g).is_finite l.name-iterator;
 }
