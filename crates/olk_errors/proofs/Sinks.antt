@@ -283,6 +283,11 @@ module _ {old new : ErrorSink} {So : Fault → Type 0} where
         let longer = all_kept all stops.so in
         ap (λ k. take k es) len ∙ ap (take (length (held old))) (is (wants_same stops.so ∙ all) ∙ longer.is) ∙ take-append_seam (held old) longer.added
 
+-- what a walk to its end leaves in a list of all errors
+module _ {old new : ErrorSink} {o : Outcome} (on : GoesOn old new o) where
+  pub list_of_all : {es fs : List ValidationError} → wants_one old ≡ false → held old ≡ es → (wants_one new ≡ false → fs ≡ held new) → Appends es fs o.all
+  list_of_all all before is = rw (← before, is (on.same ∙ all)) (goes_appending all on)
+
 -- where there was no memory for an error more
 pub takes_none : {T : Type 0} {r : Result T Stop} {old : ErrorSink} {o : Outcome} {So : Fault → Type 0} {es fs : Vec ValidationError Global} → IsErr r → old.held ≡ All es → fs.items ≡ es.items
     → EndsBy r old (record { alloc = old.alloc; held = All fs }) o So

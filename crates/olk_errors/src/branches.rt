@@ -90,7 +90,6 @@ pub(crate) fn errors_of<'a, N: Walk<'a>>(
 }
 
 /// The first error of a node, if there is one.
-#[tactic(auto, using(crate::proofs::Sinks::stopping_error))]
 pub(crate) fn first_error_of<'a, N: Walk<'a>>(
     alloc: Global,
     asked: &'a N,

@@ -103,7 +103,6 @@ pub trait Errors<'a>: IsValid + Reports {
 }
 
 impl<'a, W: Walk<'a>> Errors<'a> for W {
-    #[tactic(auto, using(crate::proofs::Sinks::stopping_error))]
     fn validate(
         &'a self,
         alloc: Global,
@@ -122,7 +121,6 @@ impl<'a, W: Walk<'a>> Errors<'a> for W {
         }
     }
 
-    #[tactic(auto, using(crate::proofs::Sinks::stopping_list))]
     fn collect_errors(
         &'a self,
         alloc: Global,

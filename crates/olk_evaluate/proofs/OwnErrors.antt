@@ -140,6 +140,15 @@ module _ (f : Name → Fault) where
   two_missing false true n k h = h
   two_missing false false n k h = h
 
+both_or_lacking : (a b : Bool) (n k : Name) → not (a && b) ≡ not (is_empty (put_if (not a) n (put_if (not b) k [])))
+both_or_lacking true true n k = refl
+both_or_lacking true false n k = refl
+both_or_lacking false b n k = refl
+
+-- of two names one is lacking where not both are there
+pub one_of_two_lacking : (ms : Members) (n k : Name) {a b c : Bool} → a ≡ has n (object ms) → b ≡ has k (object ms) → a && b ≡ c → not c ≡ not (is_empty (missing (n ∷ k ∷ []) (object ms)))
+one_of_two_lacking ms n k h i e = sym (ap not e) ∙ (λ j. not (h j && i j)) ∙ both_or_lacking (has n (object ms)) (has k (object ms)) n k
+
 module _ (ms : Members) (f : Name → Fault) (names ys : List (String Global)) (i : ℕ) where
   -- the faults of the names from i on
   abbrev pub faults_from_at : ℕ → List Fault

@@ -1,10 +1,9 @@
 //! `required`: what it shows.
 ghost use Rattle.std.specs.Prelude.{◌≡◌, ◌∷◌, [], not, map, OnOk, string_bytes};
 ghost use Rattle.olk_base.specs.Nodes.{data_of};
-ghost use Rattle.olk_spec.specs.Names.{Path, is_empty};
+ghost use Rattle.olk_spec.specs.Names.{Path};
 ghost use Rattle.olk_spec.specs.Faults.{fault, Required};
 ghost use Rattle.olk_spec.specs.Schemas.{has};
-ghost use Rattle.olk_spec.specs.Accepts.{missing};
 ghost use Rattle.olk_spec.specs.Reports.{fault_if, required_faults};
 ghost use Rattle.olk_reports.specs.Evaluations.{AddsErrors, shown_of};
 ghost use Rattle.olk_tree.specs.Maps.{texts_of, two_texts};
@@ -82,17 +81,6 @@ fn add_error_if_missing<'a>(
     outcome.mark_errored_by(kind, node)
 }
 
-/// Whether one of the names is no member.
-fn lacks_either(members: &Map<String, Value>, first: &str, second: &str) -> bool
-    ensures { result ≡ not (is_empty
-        (missing (first.now ∷ second.now ∷ []) (object_of members.now.entries))) }
-{
-    if !has_member(members, first) {
-        return true;
-    }
-    !has_member(members, second)
-}
-
 /// A child more at the place of `required`, where one of two names is no member.
 pub(crate) fn add_missing_child<'a, N>(
     keyword: &'a SmallPropertiesWithRequired2<N>,
@@ -109,7 +97,7 @@ pub(crate) fn add_missing_child<'a, N>(
 {
     let first = keyword.first.as_str();
     let second = keyword.second.as_str();
-    if !lacks_either(members, first, second) {
+    if has_member(members, first) & has_member(members, second) {
         return Ok(());
     }
     outcome.mark_invalid();

@@ -1,0 +1,19 @@
+use Rattle.std.proofs.Common.{sym, ◌∙◌, ap, length}
+use Rattle.olk_errors.proofs.Sinks.{list_of_all, stopping_list}
+use Rattle.olk_errors.proofs.AnyErrors.collect_errors.Goals as goal
+
+pub returns-in-Ok-clause-report : goal.returns-in-Ok-clause-report
+returns-in-Ok-clause-report g c = rw (← c.as_str.ensures) (list_of_all c.in-Ok.ensures.ends.so c.all-sink.ensures.all
+    (c.all-sink.ensures.held ∙ ap (λ v. v.items) c.replace-so_far.ensures.value) c.into_errors.ensures)
+
+pub returns-in-Ok-clause-context : goal.returns-in-Ok-clause-context
+returns-in-Ok-clause-context g c = c.walk-walked.ensures.only
+
+pub returns-in-Err-clause-memory : goal.returns-in-Err-clause-memory
+returns-in-Err-clause-memory g c =
+    let held = c.all-sink.ensures.held ∙ ap (λ v. v.items) c.replace-so_far.ensures.value in
+    c.truncate.ensures.items
+    ∙ stopping_list c.in-Err.ensures.ends c.all-sink.ensures.all (c.len-len.ensures ∙ c.args.errors.now.ok.0 ∙ ap length (sym held)) c.into_errors.ensures ∙ held
+
+pub returns-in-Err-clause-context : goal.returns-in-Err-clause-context
+returns-in-Err-clause-context g c = c.walk-walked.ensures.only
