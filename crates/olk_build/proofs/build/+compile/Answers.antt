@@ -211,8 +211,8 @@ compile_object-loop-name-2-init g t c =
       so_far = none_so_far record {
         plan = c.of-plan.ensures.plan;
         distinct = c.of-plan.ensures.distinct;
-        no_condition = sym c.is_condition.ensures ∙ c.if-is_condition.false;
-        unrestricted = sym c.is_restricted.ensures ∙ c.if-is_restricted.false;
+        no_condition = search rules;
+        unrestricted = search rules;
       } c.in_ok-keywords.ensures.items (listed_alike c.into_iter-name-iterator-2.ensures.into_iter_gives.0);
       before = [];
       entries = c.into_iter-name-iterator-2.ensures.into_iter_gives.0;
