@@ -1,5 +1,10 @@
 pub mod Built
-mod Each
+mod Groups
+mod Found
+pub mod Neighbouring
+mod Keywords
+mod Keyword
+pub mod Appending
 mod Parts
 mod Places
 mod Sizes

@@ -1,10 +1,9 @@
 -- The parts of a schema object: each is built, or why there is none.
-use Rattle.std.specs.Prelude.{◌≡◌, Bool, true, false, List, [], ◌∷◌, ◌++◌, map}
+use Rattle.std.specs.Prelude.{◌≡◌, Bool, true, false, List, [], ◌++◌, map}
 use Rattle.std.specs.List.{flat_map}
 use Rattle.std.proofs.Common.{refl, sym, ◌∙◌, ap, subst}
 use mathlib.Core.Bool.{true≢false}
 use Rattle.std.proofs.lemmas.List.{append-nil}
-use Rattle.std.proofs.lemmas.Grind.{flat_map-append}
 use Rattle.serde_json.specs.Data.{Data, boolean, Members}
 use Rattle.olk_spec.specs.Names.{Name, Path, ◌//◌, down}
 use Rattle.olk_spec.specs.Vocabulary.{Keyword, pattern_properties, additional_properties, keyword_named}
@@ -19,7 +18,6 @@ use Rattle.olk_reports.specs.declared.error.BuildError.TheVariants.{Memory}
 use Rattle.std.specs.declared.alloc.AllocError.{AllocError}
 use Rattle.olk_base.specs.Kit.{Kit}
 use Rattle.olk_meaning.specs.Dependencies.{schema_entries}
-use Rattle.olk_meaning.specs.Members.{member_malformations, member_cost}
 use Rattle.olk_read.specs.Refusing.{Spends}
 use Rattle.olk_build.specs.Building.{RefusesPart}
 use Rattle.olk_read.specs.Reading.{reads_of, own_faults, own_cost_of, IsShape, Fits, IsRead, RefusesKeyword}
@@ -31,8 +29,8 @@ use Rattle.olk_read.specs.declared.shape.ReadPlaces.TheVariants.{Nothing, Itself
 use Rattle.olk_spec.proofs.Named.{Named, named as is_named}
 use Rattle.olk_meaning.proofs.Conditions.{places_by_condition}
 use Rattle.olk_meaning.proofs.PatternProperties.{pattern_properties_known_cost}
-use Rattle.olk_build.specs.Placing.{places_malformed, places_cost, PlacesAreBuilt, RefusesPlaces, PartsAreBuilt, IsPart}
-use Rattle.olk_make.specs.Standing.{StandAt, PartStands, PartsStand}
+use Rattle.olk_build.specs.Placing.{places_malformed, places_cost, PlacesAreBuilt, RefusesPlaces, IsPart}
+use Rattle.olk_make.specs.Standing.{StandAt}
 use Rattle.olk_tree.specs.Answers.{Answers}
 use Rattle.olk_make.specs.declared.part.Part.{Part}
 use Rattle.olk_read.specs.declared.shape.Shape.{Shape}
@@ -41,8 +39,8 @@ use Rattle.olk_meaning.proofs.Facts.{numbered-map, each_malformations, each_cost
 use Rattle.olk_meaning.proofs.Dependencies.{dependencies_places}
 use Rattle.olk_meaning.proofs.PropertyNames.{false_is_no_object}
 use Rattle.olk_meaning.proofs.PropertyDependencies.{inner_places, property_dependencies_places, inner_malformations, inner_costs}
-use Rattle.olk_spec.proofs.CostSums.{sum_last, total_cost-append}
-use Rattle.olk_read.proofs.Spending.{spends_nothing, spends_append, spends_same, within_after, within_before, within_same, within_nothing, refuses_memory, tells_left, tells_right, tells_same}
+use Rattle.olk_spec.proofs.CostSums.{sum_last}
+use Rattle.olk_read.proofs.Spending.{spends_append, spends_same, within_after, within_before, within_same, within_nothing, refuses_memory, tells_left, tells_right, tells_same}
 
 branch_entries : {X : Type 0} (step : Schema X → X) (d : Data) → branches (read step d) ≡ map (entry step) (numbered (items_of_array d))
 branch_entries step d = branches_read step d ∙ numbered-map (place step) (items_of_array d)
@@ -205,25 +203,3 @@ module _ {K R N : Type 0} {o : Kit K R} {answers : N → Answers} where
         spends = spends_same a b _ _ (sym (sum_last _))
             (spends_append a m b _ _ (own_spent h ms known) (spends_same m b _ _ (sym (places_summed o ms d c k known p.shape h.shape h.fits)) built.spends));
       }
-
-  -- ---- one more member
-
-  module _ (c : Known) (P : Path) (p : Part K R N) (e : Name × Data) where
-    parts_push : (ps : List (Part K R N)) (es : List (Name × Data)) → PartsStand o answers c ps es P → PartStands o answers c p e P → PartsStand o answers c (ps ++ p ∷ []) (es ++ e ∷ []) P
-    parts_push [] [] h s = (s, tt)
-    parts_push (y ∷ ps) (x ∷ es) h s = (h.0, parts_push ps es h.1 s)
-    parts_push _ _ h s = absurd h
-
-  module _ {ms : Members} {P : Path} where
-    pub no_parts : {a : Counts} {ps : List (Part K R N)} → ps ≡ [] → PartsAreBuilt o answers ms ps [] P a a
-    no_parts {a} e = record { stand = subst (λ x. PartsStand o answers (known_of ms) x [] P) (sym e) tt; clean = refl; spends = spends_nothing a }
-
-    pub one_more_part : {ps new : List (Part K R N)} {es : List (Name × Data)} {p : Part K R N} {x : Name × Data} {a m b : Counts}
-        → new ≡ ps ++ p ∷ [] → PartsAreBuilt o answers ms ps es P a m → PartsAreBuilt o answers ms (p ∷ []) (x ∷ []) P m b → PartsAreBuilt o answers ms new (es ++ x ∷ []) P a b
-    one_more_part {ps} {es = es} {p} {x} {a} {m} {b} q h one = record {
-      stand = subst (λ l. PartsStand o answers (known_of ms) l (es ++ x ∷ []) P) (sym q) (parts_push (known_of ms) P p x ps es h.stand one.stand.0);
-      clean = flat_map-append (λ y. member_malformations o.world ms y (keyword_named o.world y.0) P) es (x ∷ []) ∙ (λ i. h.clean i ++ one.clean i);
-      spends =
-          spends_same a b _ _ (sym (total_cost-append (λ y. member_cost o.world ms y (keyword_named o.world y.0)) es (x ∷ [])))
-          (spends_append a m b _ _ h.spends one.spends);
-    }

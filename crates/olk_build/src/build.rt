@@ -11,13 +11,15 @@ ghost use Rattle.olk_build.specs.Building.{IsBuilt, ObjectIsBuilt, AreBuilt, Inn
 ghost use Rattle.olk_meaning.specs.Conditions.{known, known_of};
 ghost use Rattle.olk_read.specs.Refusing.{TellsOneOf, Spends, SpendsWithin};
 ghost use Rattle.olk_build.specs.Placing.{IsPart, PlacesAreBuilt, RefusesPlaces};
+ghost use Rattle.olk_build.specs.Beside.{takes_of, IsNeighbour, RefusesNeighbour, AreBeside, RefusesBeside, KeywordIsBuilt, RefusesKeyword};
 
 use crate::context::Context;
 use olk_base::{MakeLeaf, MakeRegex, Meter, append, append_all, one};
-use olk_make::{Part, append_keyword, make_keywords};
+use crate::taking::{Beside, append_alone, append_taking, is_taken, make_taking, takes, takes_any};
+use olk_make::Part;
 use olk_meaning::{Neighbours, Plan};
 use olk_paths::Location;
-use olk_read::{Makers, ReadPlaces, Stop, read_keyword, refuse};
+use olk_read::{Makers, ReadPlaces, Shape, Stop, read_keyword, refuse};
 use olk_reports::{BuildError, ValidationErrorKind};
 use olk_tree::built_node::BuiltNode;
 use olk_tree::node::{Body, KeywordOver};
@@ -84,25 +86,86 @@ fn compile_object<'a, L: MakeLeaf, M: MakeRegex, N: BuiltNode<L::Leaf, M::Engine
 {
     let plan = Plan::of(members);
     let neighbours = Neighbours::of(members);
-    if plan.is_condition() || plan.is_restricted() {
-        let mut parts = Vec::with_capacity(alloc, members.len())?;
-        for (name, value) in members {
-            let name = name.as_str();
-            let location = place.join(alloc, name)?;
-            let part = compile_part(alloc, makers, meter, neighbours, location, name, value)?;
-            append(&mut parts, part)?;
-        }
-        return Ok(make_keywords(alloc, plan, place, parts)?);
-    }
-    // None takes what another holds: they are made without a list of their parts.
     let mut keywords = Vec::with_capacity(alloc, members.len())?;
     for (name, value) in members {
         let name = name.as_str();
-        let location = place.join(alloc, name)?;
-        let part = compile_part(alloc, makers, meter, neighbours, location, name, value)?;
-        append_keyword(alloc, plan, place, part, &mut keywords)?;
+        if !is_taken(plan, name) {
+            let location = place.join(alloc, name)?;
+            let part = compile_part(alloc, makers, meter, neighbours, location, name, value)?;
+            if takes_any(&part.shape) {
+                let beside = compile_beside(alloc, makers, meter, place, members, &part.shape)?;
+                append_taking(alloc, plan, place, part, beside, &mut keywords)?;
+            } else {
+                append_alone(alloc, plan, place, part, &mut keywords)?;
+            }
+        }
     }
     Ok(keywords)
+}
+
+/// The parts of the two neighbours that the keyword of a part of this shape takes, as far as they
+/// are there.
+///
+/// # Errors
+///
+/// One of the neighbours' malformations; else out of memory.
+#[cycle(compile)]
+fn compile_beside<'a, L: MakeLeaf, M: MakeRegex, N: BuiltNode<L::Leaf, M::Engine>>(
+    alloc: Global,
+    makers: &Makers<'_, L, M>,
+    meter: &mut Meter,
+    place: &Location,
+    members: &'a Map<String, Value>,
+    shape: &Shape<L::Leaf, M::Engine>,
+) -> Result<Beside<L::Leaf, M::Engine, N>, Stop<'a>>
+    ensures built { IfOk result (AreBeside (kit L.Leaf.Leaf M.Engine.RegexEngine) N.answers
+        (members_view members.now.entries) (takes_of shape.now)
+        place.now meter.old meter.new) }
+    ensures refused { IfErr result (RefusesBeside (kit L.Leaf.Leaf M.Engine.RegexEngine)
+        (members_view members.now.entries) (takes_of shape.now)
+        place.now meter.old meter.new) }
+{
+    match takes(shape) {
+        Some((first, second)) => {
+            let first = compile_neighbour(alloc, makers, meter, place, members, first)?;
+            let second = compile_neighbour(alloc, makers, meter, place, members, second)?;
+            Ok(Beside { first, second })
+        }
+        None => Ok(Beside {
+            first: None,
+            second: None,
+        }),
+    }
+}
+
+/// The part of the member of this name, if there is one.
+///
+/// # Errors
+///
+/// One of the member's malformations; else out of memory.
+#[cycle(compile)]
+fn compile_neighbour<'a, L: MakeLeaf, M: MakeRegex, N: BuiltNode<L::Leaf, M::Engine>>(
+    alloc: Global,
+    makers: &Makers<'_, L, M>,
+    meter: &mut Meter,
+    place: &Location,
+    members: &'a Map<String, Value>,
+    name: &'static str,
+) -> Result<Option<Part<L::Leaf, M::Engine, N>>, Stop<'a>>
+    ensures built { IfOk result (λ p. IsNeighbour (kit L.Leaf.Leaf M.Engine.RegexEngine) N.answers
+        (members_view members.now.entries) p name.now place.now meter.old meter.new) }
+    ensures refused { IfErr result (RefusesNeighbour (kit L.Leaf.Leaf M.Engine.RegexEngine)
+        (members_view members.now.entries) name.now place.now meter.old meter.new) }
+{
+    let neighbours = Neighbours::of(members);
+    match members.get(name) {
+        Some(value) => {
+            let location = place.join(alloc, name)?;
+            let part = compile_part(alloc, makers, meter, neighbours, location, name, value)?;
+            Ok(Some(part))
+        }
+        None => Ok(None),
+    }
 }
 
 /// The part of a member of a schema object, by what it has to know of its neighbours.
@@ -283,39 +346,38 @@ fn compile_branches<'a, L: MakeLeaf, M: MakeRegex, N: BuiltNode<L::Leaf, M::Engi
     Ok(nodes)
 }
 
-/// The part of a member of the schema object at the context's place, which is left as it was; of
-/// `if`, `then`, `else` and `patternProperties` it is that of the parent's member.
+/// The keyword of this name and value in the object at the context's place, with the neighbours of
+/// the parent that it takes; none where it is not read, or the parent's plan names another for it.
+///
+/// The meter rises by the cost of the keyword and of what it takes, or by a part of it where
+/// nothing is built; the context's place is left as it was.
 ///
 /// # Errors
 ///
-/// One of the member's malformations; else out of memory.
-pub fn compile_member<'a, L: MakeLeaf, M: MakeRegex, N: BuiltNode<L::Leaf, M::Engine>>(
+/// One of the malformations of the keyword and of what it takes; else out of memory.
+pub fn compile_keyword<'a, L: MakeLeaf, M: MakeRegex, N: BuiltNode<L::Leaf, M::Engine>>(
     alloc: Global,
     ctx: &mut Context<'_, L, M>,
-    parent: &Map<String, Value>,
+    parent: &'a Map<String, Value>,
     name: &'a str,
     value: &'a Value,
-) -> Result<Part<L::Leaf, M::Engine, N>, BuildError<'a>>
-    ensures built { IfOk result (λ p. IsPart (kit L.Leaf.Leaf M.Engine.RegexEngine) N.answers p
-        (known_of (members_view parent.now.entries)) name.now (view value.now)
-        (one_below ctx.old.place name.now) ctx.old.meter.now ctx.new.meter.now) }
-    ensures refused { IfErr result (RefusesPart (kit L.Leaf.Leaf M.Engine.RegexEngine)
-        (known_of (members_view parent.now.entries)) name.now (view value.now)
-        (one_below ctx.old.place name.now) ctx.old.meter.now ctx.new.meter.now) }
+) -> Result<Option<KeywordOver<L::Leaf, M::Engine, N>>, BuildError<'a>>
+    ensures built { IfOk result (KeywordIsBuilt (kit L.Leaf.Leaf M.Engine.RegexEngine) N.answers
+        (members_view parent.now.entries) name.now (view value.now) ctx.old.place
+        ctx.old.meter.now ctx.new.meter.now) }
+    ensures refused { IfErr result (RefusesKeyword (kit L.Leaf.Leaf M.Engine.RegexEngine)
+        (members_view parent.now.entries) name.now (view value.now) ctx.old.place
+        ctx.old.meter.now ctx.new.meter.now) }
     ensures place { ctx.new.place ≡ ctx.old.place }
     ensures same_meter { ctx.new.meter.ghost_name ≡ ctx.old.meter.ghost_name }
 {
-    let location = ctx.place.join(alloc, name)?;
+    let plan = Plan::of(parent);
     let neighbours = Neighbours::of(parent);
-    Ok(compile_part(
-        alloc,
-        &ctx.makers,
-        ctx.meter,
-        neighbours,
-        location,
-        name,
-        value,
-    )?)
+    let location = ctx.place.join(alloc, name)?;
+    let part = compile_part(alloc, &ctx.makers, ctx.meter, neighbours, location, name, value)?;
+    let beside = compile_beside(alloc, &ctx.makers, ctx.meter, &ctx.place, parent, &part.shape)?;
+    let keyword = make_taking(alloc, plan, &ctx.place, part, beside)?;
+    Ok(keyword)
 }
 
 /// The nodes of the entries of an object, each below the keyword of this name at the context's

@@ -6,6 +6,7 @@
 
 pub mod build;
 pub mod context;
+mod taking;
 
-pub use build::{compile, compile_declared, compile_member};
+pub use build::{compile, compile_declared, compile_keyword};
 pub use context::Context;

@@ -1,5 +1,2 @@
 mod Modules
 mod Patterns
-pub mod Together
-pub mod Conditions
-pub mod AdditionalProperties

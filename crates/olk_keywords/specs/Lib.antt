@@ -1,4 +1,2 @@
 pub mod Parts
 pub mod Together
-pub mod Conditions
-pub mod AdditionalProperties

@@ -1,5 +1,5 @@
 -- What is built of a member together with neighbours that its validator takes over.
-use Rattle.std.specs.Prelude.{◌≡◌, List, [], ◌∷◌, ◌++◌, map, codes, Option, Some, option_to_list, Result, IfOk, IfErr}
+use Rattle.std.specs.Prelude.{◌≡◌, List, [], ◌∷◌, ◌++◌, map, codes, Some, option_to_list, Result, IfOk, IfErr}
 use Rattle.serde_json.specs.Data.{Data, Members}
 use Rattle.olk_spec.specs.Names.{Name, Path, lookup_name}
 use Rattle.olk_spec.specs.Schemas.{listed}
@@ -12,7 +12,6 @@ use Rattle.olk_meaning.specs.Plans.{plan_of, head, claims}
 use Rattle.olk_read.specs.Refusing.{Spends, Refuses}
 use Rattle.olk_make.specs.Holding.{all_malformed}
 use Rattle.olk_make.specs.Making.{KeywordsMean}
-use Rattle.olk_make.specs.Standing.{Fills}
 use Rattle.olk_build.specs.Building.{all_cost}
 
 -- the member of this name, if there is one
@@ -26,18 +25,6 @@ condition_members ms d = (codes "if", d) ∷ (member_at (codes "then") ms ++ mem
 -- `additionalProperties` with the value d, and `properties` and `patternProperties` that stand beside it
 abbrev pub restriction_members : Members → Data → List (Name × Data)
 restriction_members ms d = (codes "additionalProperties", d) ∷ (member_at (codes "properties") ms ++ member_at (codes "patternProperties") ms)
-
--- ---- one neighbour
-
-module _ {K R : Type 0} (o : Kit K R) (ms : Members) {X : Type 0} (Stands : X → Data → Type 0) where
-  -- what is built of the member of the name k in the object at P, if there is one, stands for it in this sense
-  pub record NeighbourIsBuilt (x : Option X) (k : Name) (P : Path) (old new : Counts) : Type 0 where
-    pub stands : Fills Stands x (lookup_name k (listed ms))
-    pub clean : all_malformed o ms P (member_at k ms) ≡ []
-    pub spends : Spends old new (all_cost o ms (member_at k ms))
-
-  abbrev pub BuildsNeighbour : Name → Path → Counts → Counts → Result (Option X) BuildError → Type 0
-  BuildsNeighbour k P old new r = IfOk r (λ x. NeighbourIsBuilt x k P old new) × IfErr r (Refuses (all_malformed o ms P (member_at k ms)) (all_cost o ms (member_at k ms)) old new)
 
 -- ---- all together
 

@@ -7,8 +7,7 @@ ghost use Rattle.olk_make.specs.Forms.{IsAnyOf};
 ghost use Rattle.olk_keywords.specs.Parts.{GivesMember, Gives};
 
 use olk_base::{Leaf, MakeLeaf, MakeRegex, RegexEngine};
-use olk_build::{Context, compile_member};
-use olk_make::any_of::make;
+use olk_build::{Context, compile_keyword};
 use olk_reports::BuildError;
 use olk_tree::built_node::BuiltNode;
 use olk_tree::node::KeywordOver;
@@ -37,8 +36,5 @@ pub fn compile<'a, L: MakeLeaf, M: MakeRegex, N: BuiltNode<L::Leaf, M::Engine>>(
     ensures place { ctx.new.place ≡ ctx.old.place }
     ensures same_meter { ctx.new.meter.ghost_name ≡ ctx.old.meter.ghost_name }
 {
-    match compile_member(alloc, ctx, parent, "anyOf", schema) {
-        Ok(part) => Some(Ok(make(part.location, part.nodes))),
-        Err(error) => Some(Err(error)),
-    }
+    compile_keyword(alloc, ctx, parent, "anyOf", schema).transpose()
 }

@@ -9,10 +9,7 @@ ghost use Rattle.olk_make.specs.Forms.{IsDependencies};
 ghost use Rattle.olk_keywords.specs.Parts.{GivesMember, Gives};
 
 use olk_base::{Leaf, MakeLeaf, MakeRegex, RegexEngine};
-use olk_build::{Context, compile_member};
-use olk_make::Part;
-use olk_make::dependencies::{make, make_required, make_schemas};
-use olk_read::Shape;
+use olk_build::{Context, compile_keyword};
 use olk_reports::BuildError;
 use olk_tree::built_node::BuiltNode;
 use olk_tree::node::KeywordOver;
@@ -42,23 +39,7 @@ pub fn compile<'a, L: MakeLeaf, M: MakeRegex, N: BuiltNode<L::Leaf, M::Engine>>(
     ensures place { ctx.new.place ≡ ctx.old.place }
     ensures same_meter { ctx.new.meter.ghost_name ≡ ctx.old.meter.ghost_name }
 {
-    match compile_member(alloc, ctx, parent, "dependencies", schema) {
-        Ok(part) => {
-            let Part {
-                location,
-                shape,
-                nodes,
-            } = part;
-            let Shape::Dependencies(keys, lists) = shape else {
-                unreachable!()
-            };
-            match make(alloc, location, keys, lists, nodes) {
-                Ok(keyword) => Some(Ok(keyword)),
-                Err(error) => Some(Err(BuildError::Memory(error))),
-            }
-        }
-        Err(error) => Some(Err(error)),
-    }
+    compile_keyword(alloc, ctx, parent, "dependencies", schema).transpose()
 }
 
 /// The keyword of `dependentRequired` in the object at the context's place (JSON Schema 2020-12
@@ -84,23 +65,7 @@ pub fn compile_dependent_required<'a, L: MakeLeaf, M: MakeRegex, N: BuiltNode<L:
     ensures place { ctx.new.place ≡ ctx.old.place }
     ensures same_meter { ctx.new.meter.ghost_name ≡ ctx.old.meter.ghost_name }
 {
-    match compile_member::<L, M, N>(alloc, ctx, parent, "dependentRequired", schema) {
-        Ok(part) => {
-            let Part {
-                location,
-                shape,
-                nodes: _,
-            } = part;
-            let Shape::DependentRequired(keys, lists) = shape else {
-                unreachable!()
-            };
-            match make_required(alloc, location, keys, lists) {
-                Ok(keyword) => Some(Ok(keyword)),
-                Err(error) => Some(Err(BuildError::Memory(error))),
-            }
-        }
-        Err(error) => Some(Err(error)),
-    }
+    compile_keyword(alloc, ctx, parent, "dependentRequired", schema).transpose()
 }
 
 /// The keyword of `dependentSchemas` in the object at the context's place (JSON Schema 2020-12
@@ -126,21 +91,5 @@ pub fn compile_dependent_schemas<'a, L: MakeLeaf, M: MakeRegex, N: BuiltNode<L::
     ensures place { ctx.new.place ≡ ctx.old.place }
     ensures same_meter { ctx.new.meter.ghost_name ≡ ctx.old.meter.ghost_name }
 {
-    match compile_member(alloc, ctx, parent, "dependentSchemas", schema) {
-        Ok(part) => {
-            let Part {
-                location,
-                shape,
-                nodes,
-            } = part;
-            let Shape::DependentSchemas(keys) = shape else {
-                unreachable!()
-            };
-            match make_schemas(alloc, location, keys, nodes) {
-                Ok(keyword) => Some(Ok(keyword)),
-                Err(error) => Some(Err(BuildError::Memory(error))),
-            }
-        }
-        Err(error) => Some(Err(error)),
-    }
+    compile_keyword(alloc, ctx, parent, "dependentSchemas", schema).transpose()
 }

@@ -7,14 +7,10 @@ ghost use Rattle.olk_make.specs.Forms.{IsNot};
 ghost use Rattle.olk_keywords.specs.Parts.{GivesMember, Gives};
 
 use olk_base::{Leaf, MakeLeaf, MakeRegex, RegexEngine};
-use olk_build::{Context, compile_member};
-use olk_make::Part;
-use olk_make::not::make;
-use olk_read::Shape;
+use olk_build::{Context, compile_keyword};
 use olk_reports::BuildError;
 use olk_tree::built_node::BuiltNode;
 use olk_tree::node::KeywordOver;
-use olk_tree::not::Not;
 use serde_json::{Map, Value};
 use std::alloc::Global;
 
@@ -38,21 +34,5 @@ pub fn compile<'a, L: MakeLeaf, M: MakeRegex, N: BuiltNode<L::Leaf, M::Engine>>(
     ensures place { ctx.new.place ≡ ctx.old.place }
     ensures same_meter { ctx.new.meter.ghost_name ≡ ctx.old.meter.ghost_name }
 {
-    match compile_member(alloc, ctx, parent, "not", schema) {
-        Ok(part) => {
-            let Part {
-                location,
-                shape,
-                nodes,
-            } = part;
-            let Shape::Not(original) = shape else {
-                unreachable!()
-            };
-            let Some(keyword) = make(location, original, nodes) else {
-                unreachable!()
-            };
-            Some(Ok(keyword))
-        }
-        Err(error) => Some(Err(error)),
-    }
+    compile_keyword(alloc, ctx, parent, "not", schema).transpose()
 }

@@ -11,11 +11,10 @@ ghost use Rattle.olk_build.specs.Building.{PatternsAreBuilt, RefusesPatternEntri
 ghost use Rattle.olk_keywords.specs.Parts.{BuildsWhereFree, Gives};
 
 use olk_base::{CompiledPattern, Leaf, MakeLeaf, MakeRegex, RegexEngine};
-use olk_build::{Context, compile_declared, compile_member};
-use olk_make::Part;
-use olk_make::pattern_properties::{make, with_nodes};
+use olk_build::{Context, compile_declared, compile_keyword};
+use olk_make::pattern_properties::with_nodes;
 use olk_meaning::is_restricted;
-use olk_read::{Shape, patterns_of_entries};
+use olk_read::patterns_of_entries;
 use olk_reports::BuildError;
 use olk_tree::built_node::BuiltNode;
 use olk_tree::node::KeywordOver;
@@ -52,23 +51,7 @@ pub fn compile<'a, L: MakeLeaf, M: MakeRegex, N: BuiltNode<L::Leaf, M::Engine>>(
     if is_restricted(parent) {
         return None;
     }
-    match compile_member(alloc, ctx, parent, "patternProperties", schema) {
-        Ok(part) => {
-            let Part {
-                location,
-                shape,
-                nodes,
-            } = part;
-            let Shape::PatternProperties(patterns, _table) = shape else {
-                unreachable!()
-            };
-            match make(alloc, location, patterns, nodes) {
-                Ok(keyword) => Some(Ok(keyword)),
-                Err(error) => Some(Err(BuildError::Memory(error))),
-            }
-        }
-        Err(error) => Some(Err(error)),
-    }
+    compile_keyword(alloc, ctx, parent, "patternProperties", schema).transpose()
 }
 
 /// The patterns, in the order of their bytes, and beside each the node of its subschema, below

@@ -13,11 +13,8 @@ ghost use Rattle.olk_build.specs.Building.{AreBuilt, RefusesEach};
 ghost use Rattle.olk_keywords.specs.Parts.{BuildsClaims, Gives};
 
 use olk_base::{Leaf, MakeLeaf, MakeRegex, RegexEngine};
-use olk_build::{Context, compile_declared, compile_member};
-use olk_make::Part;
-use olk_make::properties::make;
-use olk_meaning::Plan;
-use olk_read::Shape;
+use olk_build::{Context, compile_declared, compile_keyword};
+use olk_meaning::is_restricted;
 use olk_reports::BuildError;
 use olk_tree::big_map::BigMap;
 use olk_tree::built_node::BuiltNode;
@@ -55,27 +52,10 @@ pub fn compile<'a, L: MakeLeaf, M: MakeRegex, N: BuiltNode<L::Leaf, M::Engine>>(
     ensures place { ctx.new.place ≡ ctx.old.place }
     ensures same_meter { ctx.new.meter.ghost_name ≡ ctx.old.meter.ghost_name }
 {
-    let plan = Plan::of(parent);
-    if plan.is_restricted() {
+    if is_restricted(parent) {
         return None;
     }
-    match compile_member(alloc, ctx, parent, "properties", schema) {
-        Ok(part) => {
-            let Part {
-                location,
-                shape,
-                nodes,
-            } = part;
-            let Shape::Properties(names) = shape else {
-                unreachable!()
-            };
-            match make(alloc, plan, &ctx.place, location, names, nodes) {
-                Ok(keyword) => Some(Ok(keyword)),
-                Err(error) => Some(Err(BuildError::Memory(error))),
-            }
-        }
-        Err(error) => Some(Err(error)),
-    }
+    compile_keyword(alloc, ctx, parent, "properties", schema).transpose()
 }
 
 /// The declared names, found by bisection, and beside each the node of its subschema, below

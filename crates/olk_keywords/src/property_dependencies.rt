@@ -8,10 +8,7 @@ ghost use Rattle.olk_make.specs.Forms.{IsPropertyDependencies};
 ghost use Rattle.olk_keywords.specs.Parts.{GivesMember, Gives};
 
 use olk_base::{Leaf, MakeLeaf, MakeRegex, RegexEngine};
-use olk_build::{Context, compile_member};
-use olk_make::Part;
-use olk_make::property_dependencies::make;
-use olk_read::Shape;
+use olk_build::{Context, compile_keyword};
 use olk_reports::BuildError;
 use olk_tree::built_node::BuiltNode;
 use olk_tree::node::KeywordOver;
@@ -44,21 +41,5 @@ pub fn compile<'a, L: MakeLeaf, M: MakeRegex, N: BuiltNode<L::Leaf, M::Engine>>(
     ensures place { ctx.new.place ≡ ctx.old.place }
     ensures same_meter { ctx.new.meter.ghost_name ≡ ctx.old.meter.ghost_name }
 {
-    match compile_member(alloc, ctx, parent, "propertyDependencies", schema) {
-        Ok(part) => {
-            let Part {
-                location,
-                shape,
-                nodes,
-            } = part;
-            let Shape::PropertyDependencies(keys, texts) = shape else {
-                unreachable!()
-            };
-            match make(alloc, location, keys, texts, nodes) {
-                Ok(keyword) => Some(Ok(keyword)),
-                Err(error) => Some(Err(BuildError::Memory(error))),
-            }
-        }
-        Err(error) => Some(Err(error)),
-    }
+    compile_keyword(alloc, ctx, parent, "propertyDependencies", schema).transpose()
 }

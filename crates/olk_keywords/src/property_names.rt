@@ -9,10 +9,7 @@ ghost use Rattle.olk_make.specs.Forms.{IsPropertyNames, IsPropertyNamesFalse};
 ghost use Rattle.olk_keywords.specs.Parts.{Builds, Gives};
 
 use olk_base::{Leaf, MakeLeaf, MakeRegex, RegexEngine};
-use olk_build::{Context, compile_member};
-use olk_make::Part;
-use olk_make::property_names::{make, make_false};
-use olk_read::Shape;
+use olk_build::{Context, compile_keyword};
 use olk_reports::BuildError;
 use olk_tree::built_node::BuiltNode;
 use olk_tree::node::KeywordOver;
@@ -51,24 +48,7 @@ pub fn compile<'a, L: MakeLeaf, M: MakeRegex, N: BuiltNode<L::Leaf, M::Engine>>(
     if !restricts_names(schema) {
         return None;
     }
-    match compile_member(alloc, ctx, parent, "propertyNames", schema) {
-        Ok(part) => {
-            let Part {
-                location,
-                shape,
-                nodes,
-            } = part;
-            match shape {
-                Shape::PropertyNames => match make(location, nodes) {
-                    Some(keyword) => Some(Ok(keyword)),
-                    None => unreachable!(),
-                },
-                Shape::NoNames => Some(Ok(make_false(location))),
-                _ => unreachable!(),
-            }
-        }
-        Err(error) => Some(Err(error)),
-    }
+    compile_keyword(alloc, ctx, parent, "propertyNames", schema).transpose()
 }
 
 /// Whether names are restricted at all: by a schema that is an object, or by `false`.

@@ -9,14 +9,11 @@ ghost use Rattle.olk_meaning.specs.Plans.{plan_of};
 ghost use Rattle.olk_keywords.specs.Parts.{Builds, Gives};
 
 use olk_base::{Leaf, MakeLeaf, MakeRegex, RegexEngine};
-use olk_build::{Context, compile_member};
-use olk_make::Part;
+use olk_build::{Context, compile_keyword};
 use olk_meaning::Plan;
-use olk_read::Shape;
 use olk_reports::BuildError;
 use olk_tree::built_node::BuiltNode;
 use olk_tree::node::KeywordOver;
-use olk_tree::required::RequiredValidator;
 use serde_json::{Map, Value};
 use std::alloc::Global;
 
@@ -52,18 +49,5 @@ pub fn compile<'a, L: MakeLeaf, M: MakeRegex, N: BuiltNode<L::Leaf, M::Engine>>(
     if plan.fuses() || plan.fused_one().is_some() {
         return None;
     }
-    match compile_member::<L, M, N>(alloc, ctx, parent, "required", schema) {
-        Ok(part) => {
-            let Part {
-                location,
-                shape,
-                nodes: _,
-            } = part;
-            let Shape::Required(required) = shape else {
-                unreachable!()
-            };
-            Some(Ok(KeywordOver::Required(RequiredValidator { required, location })))
-        }
-        Err(error) => Some(Err(error)),
-    }
+    compile_keyword(alloc, ctx, parent, "required", schema).transpose()
 }

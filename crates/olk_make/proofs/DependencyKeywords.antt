@@ -33,7 +33,8 @@ use Rattle.olk_read.specs.Lists.{list_of, names_in, names_in_list}
 use Rattle.olk_make.specs.Forms.{IsListAt, AreListsAt, AreInOrder, IsDependencies, IsFormOfDependencies}
 use Rattle.olk_make.specs.Holding.{StandEach}
 use Rattle.olk_read.specs.declared.shape.Shape.TheVariants as shape
-use Rattle.olk_make.specs.Making.{KeywordMeans, MakesDependencies, MakesMember}
+use Rattle.olk_make.specs.Made.{MakesDependencies}
+use Rattle.olk_make.specs.Making.{KeywordMeans, MakesMember}
 use Rattle.olk_make.proofs.Entries.{Rows, EntryAnswers, AnswersFor, AnswerEach, each_accept, each_ask, each_find, each_show, schema_answers, schema_answer, schemas_answer}
 use Rattle.olk_make.proofs.Held.{question, shown, found, one, same_within}
 use Rattle.olk_make.proofs.Formed.{has_form, is_formed, just_one_formed, each_keys, each_held_formed}

@@ -12,4 +12,4 @@ pub mod PatternProperties
 pub mod AdditionalProperties
 pub mod Makes
 pub mod Taking
-pub mod Untaken
+pub mod Made

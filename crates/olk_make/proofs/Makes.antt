@@ -3,50 +3,41 @@ use Rattle.olk_make.proofs.Taking.{apart_by}
 use Rattle.olk_tree.specs.Maps.{keys_in}
 use Rattle.olk_tree.specs.Answers.{Answers}
 use Rattle.std.specs.Prelude.{◌≡◌, Bool, true, false, not, List, [], ◌∷◌, ◌++◌, ◌&&◌, ◌||◌, map, codes, bytes_eq, Option, Some, None, is_some, Vec, String, string_bytes}
-use Rattle.std.specs.List.{flat_map}
 use Rattle.std.specs.declared.alloc.Global.{Global}
-use Rattle.std.proofs.Common.{refl, sym, ◌∙◌, ap, subst, ◌⊎◌, inl, inr}
-use Rattle.std.proofs.lemmas.List.{append-nil, append_assoc, map-append}
-use Rattle.std.proofs.lemmas.List.Folds.{list_any-append}
+use Rattle.std.proofs.Common.{refl, sym, ◌∙◌, ap, subst}
 use Rattle.std.proofs.Math.Bool.{or-true}
 use mathlib.Core.Bool.{true≢false}
 use Rattle.serde_json.specs.Data.{Data, object, Members}
 use Rattle.serde_json.specs.declared.value.Value.{Value}
-use Rattle.olk_spec.specs.Names.{Name, Path, ◌//◌, lookup_name, filter_once, put_if, is_among}
+use Rattle.olk_spec.specs.Names.{Name, Path, ◌//◌, lookup_name}
 use Rattle.olk_spec.specs.World.{World}
 use Rattle.olk_spec.specs.Vocabulary.{Keyword, properties, pattern_properties, additional_properties, required, if_keyword, then_keyword, else_keyword, keyword_named}
 use Rattle.olk_spec.specs.Schemas.{listed, members, texts, is_object, is_truth}
 use Rattle.olk_spec.specs.Malformed.{has_repeat}
-use Rattle.olk_spec.specs.Tree.{Tree}
-use Rattle.olk_spec.proofs.Each.{Each, Each-filter_once}
-use Rattle.olk_spec.proofs.Walks.{same_name, bytes_eq-sym, bytes_eq-itself, neither, Distinct, Distinct-from, Each-found}
+use Rattle.olk_spec.proofs.Walks.{bytes_eq-sym, neither}
 use Rattle.olk_base.specs.Kit.{Kit}
 use Rattle.olk_base.specs.declared.pattern.CompiledPattern.{CompiledPattern}
-use Rattle.olk_meaning.specs.Plans.{Planned, plan_of, is_case, tells_members, head, claims}
+use Rattle.olk_meaning.specs.Plans.{Planned, plan_of, is_case, tells_members, claims}
 use Rattle.olk_make.specs.Forms.{IsFormOfProperties, IsFormOfAllOf, IsFormOfAnyOf, IsFormOfOneOf}
-use Rattle.olk_make.specs.Holding.{StandEach, which, Covers}
-use Rattle.olk_meaning.specs.Conditions.{Known, known_of, is_condition, is_restriction, is_restricted}
+use Rattle.olk_make.specs.Holding.{StandEach}
+use Rattle.olk_meaning.specs.Conditions.{is_condition, is_restriction, is_restricted}
 use Rattle.olk_meaning.specs.Fused.{fused_pair}
-use Rattle.olk_meaning.specs.Members.{member_child}
 use Rattle.olk_meaning.proofs.TakenOver.{never_taken, free_takes_nothing}
-use Rattle.olk_meaning.proofs.RestrictedClaims.{claims_no_properties, claims_no_patterns}
-use Rattle.olk_meaning.proofs.RestrictionShown.{properties_show_none, patterns_show_none}
 use Rattle.olk_meaning.proofs.Heads.{names_of}
-use Rattle.olk_read.specs.Reading.{reads_of, IsShape, Fits}
-use Rattle.olk_make.specs.Standing.{StandAt, is_taken, untaken, is_if_shape, is_restriction_shape, PartsStand, CasesStand, BesideStands}
-use Rattle.olk_make.specs.Making.{KeywordsMean, MakesMember, MakesClaims, MakesPart}
+use Rattle.olk_read.specs.Reading.{reads_of, IsShape}
+use Rattle.olk_make.specs.Standing.{StandAt, is_taken, is_restriction_shape}
+use Rattle.olk_make.specs.Making.{MakesMember, MakesClaims, MakesPart}
 use Rattle.olk_make.specs.declared.part.Taken.{Taken}
 use Rattle.olk_tree.specs.Tables.{Table}
 use Rattle.olk_tree.specs.declared.node.KeywordOver.{KeywordOver}
 use Rattle.olk_tree.specs.declared.node.KeywordOver.TheVariants as keyword
-use Rattle.olk_make.specs.declared.part.Part.{Part}
 use Rattle.olk_read.specs.declared.shape.Shape.{Shape}
 use Rattle.olk_read.specs.declared.shape.Shape.TheVariants as shape
 use Rattle.olk_read.specs.declared.shape.ReadPlaces.TheVariants.{Nothing}
-use Rattle.olk_meaning.proofs.Claims.{heads_there, claims_no_case, IsNoCase}
-use Rattle.olk_make.proofs.Together.{by_its_name, MeanClaim, claim_by_name, no_keywords_mean, one_more_keyword, heads_mean_all}
+use Rattle.olk_meaning.proofs.Claims.{IsNoCase}
+use Rattle.olk_make.proofs.Together.{by_its_name, MeanClaim, claim_by_name}
 use Rattle.olk_make.proofs.Held.{unrestricted_if_untaken, means_all_of, means_any_of, means_not, means_form, means_fused, means_fused_one, means_own, means_leaf, means_unread, means_required, means_required_alone}
-use Rattle.olk_make.proofs.Entries.{Rows, last_stands}
+use Rattle.olk_make.proofs.Entries.{last_stands}
 use Rattle.olk_make.proofs.OneOf.{means_one_of}
 
 object_of : (d : Data) → is_object d ≡ true → (fs : Members) × (d ≡ object fs)
@@ -184,184 +175,7 @@ module _ {K R N : Type 0} (o : Kit K R) (answers : N → Answers) where
       → ((k : Name) (d : Data) → IsShape o k d y → k ≡ n) → neighbours (keyword_named o.world n) ≡ false → MakesMember o answers y L ns ks → MakesPart o answers x L ns t P p ks
   part_of_own ns t e named apart = part_of_alone ns t e (λ k d s. ap (λ n. neighbours (keyword_named o.world n)) (named k d s) ∙ apart)
 
-  -- ---- the parts of an object, one after the other
-
-  if_named : (x : Shape K R) (k : Name) (d : Data) → IsShape o k d x → is_if_shape x ≡ true → k ≡ codes "if"
-  if_named shape.If k d s e = s
-  if_named x k d s e = absurd (true≢false (sym e))
-
-  pub if_fits : (x : Shape K R) (c : Known) → Fits o c x → is_if_shape x ≡ true → c.condition ≡ true
-  if_fits shape.If c f e = f
-  if_fits x c f e = absurd (true≢false (sym e))
-
   pub restriction_named : (x : Shape K R) (k : Name) (d : Data) → IsShape o k d x → is_restriction_shape x ≡ true → (k ≡ codes "additionalProperties") × (is_restriction (Some d) ≡ true)
   restriction_named shape.AdditionalProperties k d s e = (s.0, ap (λ b. is_truth false d || b) s.1 ∙ or-true (is_truth false d))
   restriction_named shape.NoOthers k d s e = (s.0, ap (λ b. b || is_object d) s.1)
   restriction_named x k d s e = absurd (true≢false (sym e))
-
-  -- a shape is not the one of a name that it doesn't have
-  not_so : (n k : Name) (b : Bool) → (b ≡ true → k ≡ n) → bytes_eq n k ≡ false → b ≡ false
-  not_so n k true named e = absurd (true≢false (sym (ap (bytes_eq n) (named refl) ∙ bytes_eq-itself n) ∙ e))
-  not_so n k false named e = refl
-
-  distinct_those : (test : Name × Data → Bool) (es : Rows) → Distinct es → Distinct (filter_once test es)
-  distinct_those test [] h = tt
-  distinct_those test (m ∷ es) h = by (test m) (distinct_those test es h.1)
-    where
-      by : (b : Bool) → Distinct (filter_once test es) → Distinct (put_if b m (filter_once test es))
-      by true later = (Each-filter_once (λ x. bytes_eq m.0 x.0 ≡ false) test es h.0, later)
-      by false later = later
-
-  at_place : {X : Type 0} (Q : X → Type 0) (done : List X) (x : X) (rest : List X) → Each Q (done ++ x ∷ rest) → Q x
-  at_place Q [] x rest h = h.0
-  at_place Q (y ∷ done) x rest h = at_place Q done x rest h.1
-
-  -- no earlier member has the name of a later one
-  not_before : (done : Rows) (m : Name × Data) (rest : Rows) → Distinct (done ++ m ∷ rest) → is_among m.0 (names_of done) ≡ false
-  not_before [] m rest h = refl
-  not_before (x ∷ done) m rest h = λ i. (bytes_eq-sym m.0 x.0 ∙ at_place (λ y. bytes_eq x.0 y.0 ≡ false) done m rest h.0) i || not_before done m rest h.1 i
-
-  module _ (ms : Members) (P : Path) where
-    abbrev heads : Name → Name
-    heads n = head (plan_of ms) n
-
-    abbrev stays : Rows
-    stays = untaken (plan_of ms) (listed ms)
-
-    -- the keywords so far mean what the members so far claim, and the parts that are left stand for the others; what was taken is there until `if` and `additionalProperties` have it
-    pub record MadeSoFar (ks : List (KeywordOver K R N)) (ps : List (Part K R N)) (t : Taken R N) : Type 0 where
-      pub done : Rows
-      pub left : Rows
-      pub mean : KeywordsMean o answers ms ks (flat_map (claims heads (listed ms)) done) done P
-      pub stand : PartsStand o answers (known_of ms) ps left P
-      pub cases : is_condition ms ≡ true → is_among (codes "if") (names_of done) ≡ false → CasesStand o answers t.cases ms P
-      pub beside : is_restricted ms ≡ true → is_among (codes "additionalProperties") (names_of done) ≡ false → BesideStands o answers (known_of ms) t.beside ms P
-      pub whole : done ++ left ≡ stays
-
-    pub none_made : {ks : List (KeywordOver K R N)} {ps : List (Part K R N)} {t : Taken R N} → ks ≡ [] → PartsStand o answers (known_of ms) ps stays P
-        → (is_condition ms ≡ true → CasesStand o answers t.cases ms P) → (is_restricted ms ≡ true → BesideStands o answers (known_of ms) t.beside ms P) → MadeSoFar ks ps t
-    none_made {ks} e h cases beside =
-        record { done = []; left = stays; mean = no_keywords_mean o answers ms P ks e; stand = h; cases = λ read none. cases read; beside = λ restricted none. beside restricted; whole = refl }
-
-    -- a name that is not among one more is among none
-    earlier : (k : Name) (done : Rows) (m : Name × Data) → is_among k (names_of (done ++ m ∷ [])) ≡ false → (is_among k (names_of done) ≡ false) × (bytes_eq k m.0 ≡ false)
-    earlier k done m none =
-        let h = neither (is_among k (names_of done)) (bytes_eq k m.0 || false) (sym (ap (is_among k) (map-append (λ (x : Name × Data). x.0) done (m ∷ [])) ∙ list_any-append (bytes_eq k) (names_of done) (m.0 ∷ [])) ∙ none) in
-        (h.0, (neither (bytes_eq k m.0) false h.1).0)
-
-    -- where another keyword takes what a member holds, it claims nothing and shows nothing
-    module _ (m : Name × Data) (taken : is_taken (plan_of ms) m.0 ≡ true) where
-      abbrev TakenBy : Type 0
-      TakenBy = ((is_restricted ms ≡ true) × (m.0 ≡ codes "properties")) ⊎ ((is_restricted ms ≡ true) × (m.0 ≡ codes "patternProperties"))
-          ⊎ ((is_condition ms ≡ true) × (m.0 ≡ codes "then")) ⊎ ((is_condition ms ≡ true) × (m.0 ≡ codes "else"))
-
-      taken_by : TakenBy
-      taken_by =
-          by (is_restricted ms) (bytes_eq m.0 (codes "properties")) (bytes_eq m.0 (codes "patternProperties")) (is_condition ms) (bytes_eq m.0 (codes "then"))
-          (bytes_eq m.0 (codes "else")) refl refl refl refl refl refl taken
-        where
-          by : (r a b c t e : Bool) → is_restricted ms ≡ r → bytes_eq m.0 (codes "properties") ≡ a → bytes_eq m.0 (codes "patternProperties") ≡ b
-              → is_condition ms ≡ c → bytes_eq m.0 (codes "then") ≡ t → bytes_eq m.0 (codes "else") ≡ e → ((r && (a || (b || false))) || (c && (t || (e || false)))) ≡ true
-              → TakenBy
-          by true true b c t e q i j r k l h = inl (q, same_name m.0 (codes "properties") i)
-          by true false true c t e q i j r k l h = inr (inl (q, same_name m.0 (codes "patternProperties") j))
-          by true false false true true e q i j r k l h = inr (inr (inl (r, same_name m.0 (codes "then") k)))
-          by true false false true false true q i j r k l h = inr (inr (inr (r, same_name m.0 (codes "else") l)))
-          by false a b true true e q i j r k l h = inr (inr (inl (r, same_name m.0 (codes "then") k)))
-          by false a b true false true q i j r k l h = inr (inr (inr (r, same_name m.0 (codes "else") l)))
-          by _ _ _ _ _ _ q i j r k l h = absurd (true≢false (sym h))
-
-      taken_claims_none : claims heads (listed ms) m ≡ []
-      taken_claims_none = by taken_by
-        where
-          by : TakenBy → claims heads (listed ms) m ≡ []
-          by (inl h) = ap (λ k. claims heads (listed ms) (k, m.1)) h.1 ∙ claims_no_properties ms h.0 (listed ms) m.1
-          by (inr (inl h)) = ap (λ k. claims heads (listed ms) (k, m.1)) h.1 ∙ claims_no_patterns ms h.0 (listed ms) m.1
-          by (inr (inr (inl h))) = claims_no_case (plan_of ms) h.0 (listed ms) m (ap is_case h.1)
-          by (inr (inr (inr h))) = claims_no_case (plan_of ms) h.0 (listed ms) m (ap is_case h.1)
-
-      abbrev shown_as : Bool → Data → Path → Name → List Tree
-      shown_as u v Q k = member_child o.world ms (k, m.1) (which o ms (k, m.1)) u v P Q
-
-      taken_shows_none : (u : Bool) (v : Data) (Q : Path) → member_child o.world ms m (which o ms m) u v P Q ≡ []
-      taken_shows_none u v Q = by taken_by
-        where
-          by : TakenBy → shown_as u v Q m.0 ≡ []
-          by (inl h) = ap (shown_as u v Q) h.1 ∙ properties_show_none o.world ms u v P Q m.1 h.0
-          by (inr (inl h)) = ap (shown_as u v Q) h.1 ∙ patterns_show_none o.world ms u v P Q m.1 h.0
-          by (inr (inr (inl h))) = ap (shown_as u v Q) h.1
-          by (inr (inr (inr h))) = ap (shown_as u v Q) h.1
-
-    flat_untaken : {Y : Type 0} (f : Name × Data → List Y) → ((m : Name × Data) → is_taken (plan_of ms) m.0 ≡ true → f m ≡ []) → (es : Rows)
-        → flat_map f (untaken (plan_of ms) es) ≡ flat_map f es
-    flat_untaken f none [] = refl
-    flat_untaken f none (m ∷ es) = by (is_taken (plan_of ms) m.0) refl (flat_untaken f none es)
-      where
-        by : (b : Bool) → is_taken (plan_of ms) m.0 ≡ b → flat_map f (untaken (plan_of ms) es) ≡ flat_map f es → flat_map f (put_if (not b) m (untaken (plan_of ms) es)) ≡ f m ++ flat_map f es
-        by true q later = later ∙ ap (λ l. l ++ flat_map f es) (sym (none m q))
-        by false q later = ap (λ l. f m ++ l) later
-
-    module _ (p : Planned) (chosen : p ≡ plan_of ms) (distinct : has_repeat (keys_in (listed ms)) ≡ false) where
-      stays_distinct : Distinct stays
-      stays_distinct = distinct_those (λ m. not (is_taken (plan_of ms) m.0)) (listed ms) (Distinct-from (listed ms) distinct)
-
-      stays_found : Each (λ m. lookup_name m.0 (listed ms) ≡ Some m.1) stays
-      stays_found = Each-filter_once (λ m. lookup_name m.0 (listed ms) ≡ Some m.1) (λ m. not (is_taken (plan_of ms) m.0)) (listed ms) (Each-found (listed ms) (Distinct-from (listed ms) distinct))
-
-      stays_untaken : (es : Rows) → Each (λ m. is_taken (plan_of ms) m.0 ≡ false) (untaken (plan_of ms) es)
-      stays_untaken [] = tt
-      stays_untaken (m ∷ es) = by (is_taken (plan_of ms) m.0) refl (stays_untaken es)
-        where
-          by : (b : Bool) → is_taken (plan_of ms) m.0 ≡ b → Each (λ m. is_taken (plan_of ms) m.0 ≡ false) (untaken (plan_of ms) es)
-              → Each (λ m. is_taken (plan_of ms) m.0 ≡ false) (put_if (not b) m (untaken (plan_of ms) es))
-          by true q later = later
-          by false q later = (q, later)
-
-      pub one_more_made : {ks ls new : List (KeywordOver K R N)} {part : Part K R N} {ps all : List (Part K R N)} {t after : Taken R N} → new ≡ ks ++ ls
-          → all ≡ part ∷ ps → MadeSoFar ks all t → MakesPart o answers part.shape part.location part.nodes.items t P p ls
-          → (is_if_shape part.shape ≡ false → after.cases ≡ t.cases) → (is_restriction_shape part.shape ≡ false → after.beside ≡ t.beside) → MadeSoFar new ps after
-      one_more_made {ks} {ls} {new} {part} {ps} {all} {t} {after} q e h make cases_kept beside_kept = by h.left (subst (λ l. PartsStand o answers (known_of ms) l h.left P) e h.stand) h.whole
-        where
-          by : (left : Rows) → PartsStand o answers (known_of ms) (part ∷ ps) left P → h.done ++ left ≡ stays → MadeSoFar new ps after
-          by [] stand w = absurd stand
-          by (m ∷ left) stand w = record {
-            done = h.done ++ m ∷ [];
-            left = left;
-            mean = one_more_keyword o answers ms P heads ks ls new h.done m q h.mean (subst (λ s. MeanClaim o answers ms s ls m P) chosen
-                (make ms m stand.0.place stand.0.shape stand.0.fits (subst (λ L. StandAt o answers (reads_of part.shape) part.nodes.items m.1 L) (sym stand.0.place) stand.0.nodes)
-                (λ taking. h.cases (if_fits part.shape (known_of ms) stand.0.fits taking) (first (codes "if") (if_named part.shape m.0 m.1 stand.0.shape taking)))
-                (λ taking. let r = restriction_named part.shape m.0 m.1 stand.0.shape taking in
-                h.beside (ap is_restriction (ap (λ k. lookup_name k (listed ms)) (sym r.0) ∙ found) ∙ r.1) (first (codes "additionalProperties") r.0))
-                distinct found chosen (ap (λ s. is_taken s m.0) chosen ∙ at_place (λ x. is_taken (plan_of ms) x.0 ≡ false) h.done m left (subst (Each (λ x. is_taken (plan_of ms) x.0 ≡ false)) (sym w) (stays_untaken (listed ms))))));
-            stand = stand.1;
-            cases = λ read none. let before = earlier (codes "if") h.done m none in
-                subst (λ x. CasesStand o answers x ms P) (sym (cases_kept
-                (not_so (codes "if") m.0 (is_if_shape part.shape) (if_named part.shape m.0 m.1 stand.0.shape) before.1))) (h.cases read before.0);
-            beside = λ restricted none. let before = earlier (codes "additionalProperties") h.done m none in
-                subst (λ x. BesideStands o answers (known_of ms) x ms P)
-                (sym (beside_kept (not_so (codes "additionalProperties") m.0 (is_restriction_shape part.shape)
-                (λ r. (restriction_named part.shape m.0 m.1 stand.0.shape r).0) before.1))) (h.beside restricted before.0);
-            whole = append_assoc h.done (m ∷ []) left ∙ w;
-          }
-            where
-              first : (k : Name) → m.0 ≡ k → is_among k (names_of h.done) ≡ false
-              first k named = ap (λ n. is_among n (names_of h.done)) (sym named) ∙ not_before h.done m left (subst Distinct (sym w) stays_distinct)
-
-              found : lookup_name m.0 (listed ms) ≡ Some m.1
-              found = at_place (λ x. lookup_name x.0 (listed ms) ≡ Some x.1) h.done m left (subst (Each (λ x. lookup_name x.0 (listed ms) ≡ Some x.1)) (sym w) stays_found)
-
-      pub all_made : {ks : List (KeywordOver K R N)} {ps : List (Part K R N)} {t : Taken R N} → ps ≡ [] → MadeSoFar ks ps t → KeywordsMean o answers ms ks (listed ms) (listed ms) P
-      all_made {ks} e h = by h.left (subst (λ l. PartsStand o answers (known_of ms) l h.left P) e h.stand) h.whole
-        where
-          with_taken : KeywordsMean o answers ms ks (flat_map (claims heads (listed ms)) stays) stays P → KeywordsMean o answers ms ks (flat_map (claims heads (listed ms)) (listed ms)) (listed ms) P
-          with_taken k = record {
-            covers = subst (λ rows. Covers o answers ms ks rows P) (flat_untaken (claims heads (listed ms)) taken_claims_none (listed ms)) k.covers;
-            shows = λ clean u v Q. k.shows clean u v Q ∙ flat_untaken (λ m. member_child o.world ms m (which o ms m) u v P Q) (λ m taken. taken_shows_none m taken u v Q) (listed ms);
-            formed = k.formed;
-          }
-
-          by : (left : Rows) → PartsStand o answers (known_of ms) [] left P → h.done ++ left ≡ stays → KeywordsMean o answers ms ks (listed ms) (listed ms) P
-          by [] stand w =
-              heads_mean_all o answers ms P heads ks distinct (heads_there ms distinct (plan_of ms) refl)
-              (with_taken (subst (λ es. KeywordsMean o answers ms ks (flat_map (claims heads (listed ms)) es) es P) (sym (append-nil h.done) ∙ w) h.mean))
-          by (m ∷ left) stand w = absurd stand

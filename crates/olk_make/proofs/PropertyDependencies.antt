@@ -41,7 +41,8 @@ use Rattle.olk_read.specs.Lists.{names_of}
 use Rattle.olk_read.specs.declared.shape.Shape.TheVariants as shape
 use Rattle.olk_make.specs.Forms.{AreCut, IsPropertyDependencies}
 use Rattle.olk_make.specs.Holding.{StandInner}
-use Rattle.olk_make.specs.Making.{KeywordMeans, MakesMember, MakesPropertyDependencies}
+use Rattle.olk_make.specs.Made.{MakesPropertyDependencies}
+use Rattle.olk_make.specs.Making.{KeywordMeans, MakesMember}
 use Rattle.olk_make.proofs.Entries.{Rows, AnswersFor, AnswerEach, each_count, each_accept, each_ask, each_find, each_show, schema_answers, schemas_answer}
 use Rattle.olk_make.proofs.Held.{one}
 use Rattle.olk_make.proofs.Formed.{has_form, just_one_formed, each_keys, each_held_formed}

@@ -103,6 +103,10 @@ IsFormOfIf L n None (Some e) (keyword.IfElse k) = (k.value.schema ≡ n) × (k.v
 IsFormOfIf L n (Some t) (Some e) (keyword.IfThenElse k) = (k.value.schema ≡ n) × (k.value.then_schema ≡ t) × (k.value.else_schema ≡ e) × (k.value.location ≡ L)
 IsFormOfIf L n t e k = ⊥
 
+-- `required` over these names
+abbrev pub IsRequiredOver : {K R N : Type 0} → Vec (String Global) Global → Path → KeywordOver K R N → Type 0
+IsRequiredOver v L k = k ≡ keyword.Required (record { required = v; location = L })
+
 -- ---- nodes of lists of names, and nodes that are cut into maps
 
 module _ {K R N : Type 0} (o : Kit K R) (answers : N → Answers) (L : Path) where

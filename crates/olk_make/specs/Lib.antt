@@ -1,4 +1,5 @@
 pub mod Holding
 pub mod Forms
 pub mod Standing
+pub mod Made
 pub mod Making

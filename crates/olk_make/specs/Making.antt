@@ -9,13 +9,13 @@ use Rattle.olk_base.specs.Kit.{Kit}
 use Rattle.olk_tree.specs.declared.node.KeywordOver.{KeywordOver}
 use Rattle.olk_meaning.specs.Plans.{Planned, plan_of, head, claims}
 use Rattle.olk_meaning.specs.Members.{member_child, StandsAlone}
-use Rattle.olk_make.specs.Forms.{IsDependencies, IsPropertyDependencies}
 use Rattle.olk_make.specs.Holding.{which, all_malformed, show, all_formed, Holds, Covers}
 use Rattle.olk_meaning.specs.Conditions.{is_condition, known_of}
 use Rattle.olk_tree.specs.Answers.{Answers}
 use Rattle.olk_tree.specs.Places.{Stands}
 use Rattle.olk_read.specs.Reading.{reads_of, IsShape, Fits}
-use Rattle.olk_make.specs.Standing.{StandAt, is_taken, is_if_shape, is_restriction_shape, RestStands, PartsStand, CasesStand, BesideStands, nothing_taken}
+use Rattle.olk_make.specs.Standing.{StandAt, is_taken, is_if_shape, is_restriction_shape, RestStands, CasesStand, BesideStands}
+use Rattle.olk_make.specs.Made.{which_of, stands_alone}
 use Rattle.olk_make.specs.declared.part.Cases.{Cases}
 use Rattle.olk_make.specs.declared.part.Beside.{Beside}
 use Rattle.olk_make.specs.declared.part.Part.{Part}
@@ -44,15 +44,6 @@ module _ {K R N : Type 0} (o : Kit K R) (answers : N → Answers) where
   abbrev pub MakesMember : Shape K R → Path → List N → List (KeywordOver K R N) → Type 0
   MakesMember x L ns ks = (ms : Members) (m : Name × Data) (P : Path) → L ≡ P // m.0 → IsShape o m.0 m.1 x → StandAt o answers (reads_of x) ns m.1 L → KeywordMeans ms ks m P
 
-  -- a keyword that is made of a shape and nodes at L has the keys of each value whose part these are
-  abbrev pub MakesDependencies : Shape K R → Path → List N → KeywordOver K R N → Type 0
-  MakesDependencies x L ns k = (m : Name × Data) → IsShape o m.0 m.1 x → StandAt o answers (reads_of x) ns m.1 L → IsDependencies L (map (λ e. e.0) (members m.1)) k
-
-  -- and the texts at each
-  abbrev pub MakesPropertyDependencies : Shape K R → Path → List N → KeywordOver K R N → Type 0
-  MakesPropertyDependencies x L ns k = (m : Name × Data) → IsShape o m.0 m.1 x → StandAt o answers (reads_of x) ns m.1 L
-      → IsPropertyDependencies L (map (λ e. e.0) (members m.1)) (map (λ e. map (λ c. c.0) (members e.1)) (members m.1)) k
-
   -- and what it claims in each object at P that has this plan, where no other keyword takes what it holds
   abbrev pub MakesClaims : Shape K R → Path → List N → Path → Planned → List (KeywordOver K R N) → Type 0
   MakesClaims x L ns P p ks = (ms : Members) (m : Name × Data) → L ≡ P // m.0 → IsShape o m.0 m.1 x → StandAt o answers (reads_of x) ns m.1 L
@@ -78,12 +69,6 @@ module _ {K R N : Type 0} (o : Kit K R) (answers : N → Answers) where
       → has_repeat (map (λ m. m.0) (listed ms)) ≡ false → lookup_name m.0 (listed ms) ≡ Some m.1 → p ≡ plan_of ms → is_taken p m.0 ≡ false
       → KeywordsMean ms ks (claims (head p) (listed ms) m) (m ∷ []) P
 
-  -- new keywords behind old ones are made of a part for which nothing was taken
-  pub record AppendsPart (x : Shape K R) (L : Path) (ns : List N) (P : Path) (p : Planned) (old new : List (KeywordOver K R N)) : Type 0 where
-    pub made : List (KeywordOver K R N)
-    pub behind : new ≡ old ++ made
-    pub makes : MakesPart x L ns nothing_taken P p made
-
-  -- keywords that are made of parts mean what each object at P means that has this plan and that the parts stand for
-  abbrev pub MakesObject : List (Part K R N) → Path → Planned → List (KeywordOver K R N) → Type 0
-  MakesObject ps P p ks = (ms : Members) → has_repeat (map (λ m. m.0) (listed ms)) ≡ false → p ≡ plan_of ms → PartsStand o answers (known_of ms) ps (listed ms) P → ObjectIsMade ms ks P
+  -- keywords that are made of a part of a keyword that has no neighbours mean its member in each object
+  abbrev pub MakesAlone : Shape K R → Path → List N → List (KeywordOver K R N) → Type 0
+  MakesAlone x L ns ks = stands_alone (which_of x) ≡ true → MakesMember x L ns ks

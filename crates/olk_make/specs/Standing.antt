@@ -29,10 +29,6 @@ use Rattle.olk_read.specs.declared.shape.Shape.TheVariants as shape
 abbrev pub is_taken : Planned → Name → Bool
 is_taken p k = (p.restricted && tells_members k) || (p.condition && is_case k)
 
--- the members whose parts stay: those that no other keyword takes
-abbrev pub untaken : Planned → List (Name × Data) → List (Name × Data)
-untaken p es = filter_once (λ m. not (is_taken p m.0)) es
-
 abbrev pub is_if_shape : {K R : Type 0} → Shape K R → Bool
 is_if_shape shape.If = true
 is_if_shape x = false
@@ -48,29 +44,12 @@ abbrev pub IsLast : {X : Type 0} → List X → Option X → Type 0
 IsLast xs None = xs ≡ []
 IsLast {X} xs (Some x) = (before : List X) × (xs ≡ before ++ x ∷ [])
 
--- the last member of the name, if there is one
-abbrev pub last_named : Name → List (Name × Data) → Option Data → Option Data
-last_named k [] d = d
-last_named k (m ∷ es) d = last_named k es (cond (bytes_eq k m.0) (Some m.1) d)
-
 -- something, or nothing, for the schema that is there, or for none
 abbrev pub Fills : {X : Type 0} → (X → Data → Type 0) → Option X → Option Data → Type 0
 Fills Stands None None = ⊤
 Fills Stands None (Some d) = ⊥
 Fills Stands (Some x) None = ⊥
 Fills Stands (Some x) (Some d) = Stands x d
-
-abbrev pub nothing_taken : {R N : Type 0} → Taken R N
-nothing_taken = record { cases = record { then_schema = None; else_schema = None }; beside = record { properties = None; patterns = None } }
-
--- what is taken of a part of this shape, and what is left of it
-module _ {K R N : Type 0} (p : Planned) where
-  abbrev pub Takes : Shape K R → Part K R N → Taken R N → Taken R N → Option (Part K R N) → Type 0
-  Takes shape.Then part old new left = (left ≡ None) × IsLast part.nodes.items new.cases.then_schema × (new.cases.else_schema ≡ old.cases.else_schema) × (new.beside ≡ old.beside)
-  Takes shape.Else part old new left = (left ≡ None) × IsLast part.nodes.items new.cases.else_schema × (new.cases.then_schema ≡ old.cases.then_schema) × (new.beside ≡ old.beside)
-  Takes (shape.Properties names) part old new left = cond p.restricted ((left ≡ None) × (new ≡ record old { beside = record old.beside { properties = Some (record { names = names; nodes = part.nodes }) } })) ((left ≡ Some part) × (new ≡ old))
-  Takes (shape.PatternProperties v t) part old new left = cond p.restricted ((left ≡ None) × (new ≡ record old { beside = record old.beside { patterns = Some (record { location = part.location; patterns = v; table = t; nodes = part.nodes }) } })) ((left ≡ Some part) × (new ≡ old))
-  Takes x part old new left = (left ≡ Some part) × (new ≡ old)
 
 module _ {K R N : Type 0} (o : Kit K R) (answers : N → Answers) where
   -- nodes for the places that are read in a value at L
@@ -133,11 +112,3 @@ module _ {K R N : Type 0} (o : Kit K R) (answers : N → Answers) where
   -- and for what stands at `properties` and at `patternProperties`
   abbrev pub BesideStands : Known → Beside R N → Members → Path → Type 0
   BesideStands c b ms P = Fills (λ x. DeclaredStand x (P // codes "properties")) b.properties (lookup_name (codes "properties") (listed ms)) × Fills (λ x. PatternsStand c x (P // codes "patternProperties")) b.patterns (lookup_name (codes "patternProperties") (listed ms))
-
-  -- taken out of the parts for the members es by the plan p: the parts that are left, and what was taken
-  pub record AreTaken (p : Planned) (c : Known) (es : List (Name × Data)) (P : Path) (t : Taken R N) (ps : List (Part K R N)) : Type 0 where
-    pub left : PartsStand c ps (untaken p es) P
-    pub at_then : p.condition ≡ true → Fills (λ n d. Stands o answers n d (P // codes "then")) t.cases.then_schema (last_named (codes "then") es None)
-    pub at_else : p.condition ≡ true → Fills (λ n d. Stands o answers n d (P // codes "else")) t.cases.else_schema (last_named (codes "else") es None)
-    pub at_properties : p.restricted ≡ true → Fills (λ x. DeclaredStand x (P // codes "properties")) t.beside.properties (last_named (codes "properties") es None)
-    pub at_patterns : p.restricted ≡ true → Fills (λ x. PatternsStand c x (P // codes "patternProperties")) t.beside.patterns (last_named (codes "patternProperties") es None)

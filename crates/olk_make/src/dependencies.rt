@@ -2,7 +2,8 @@
 ghost use Rattle.std.specs.Prelude.{◌∷◌, [], IfOk, zip};
 ghost use Rattle.olk_base.specs.Kit.{kit};
 ghost use Rattle.olk_make.specs.Forms.{IsFormOfDependencies, IsListAt, AreListsAt, AreInOrder};
-ghost use Rattle.olk_make.specs.Making.{MakesDependencies, MakesMember};
+ghost use Rattle.olk_make.specs.Made.{MakesDependencies};
+ghost use Rattle.olk_make.specs.Making.{MakesMember};
 ghost use Rattle.olk_read.specs.declared.shape.Shape.TheVariants as shape;
 
 use olk_base::{Leaf, RegexEngine, append};

@@ -19,5 +19,5 @@ pub mod property_dependencies;
 pub mod property_names;
 pub mod required;
 
-pub use making::{append_keyword, make_keywords};
+pub use making::make_keyword;
 pub use part::{Beside, Cases, DeclaredNodes, Part, Patterns, Taken};

@@ -105,18 +105,3 @@ pub struct Taken<R, N> {
     pub cases: Cases<N>,
     pub beside: Beside<R, N>,
 }
-
-impl<R, N> Taken<R, N> {
-    /// Nothing.
-    pub fn none() -> Taken<R, N>
-        ensures then_schema { result.cases.then_schema ≡ None }
-        ensures else_schema { result.cases.else_schema ≡ None }
-        ensures properties { result.beside.properties ≡ None }
-        ensures patterns { result.beside.patterns ≡ None }
-    {
-        Taken {
-            cases: Cases::none(),
-            beside: Beside::none(),
-        }
-    }
-}

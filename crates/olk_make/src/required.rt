@@ -1,8 +1,10 @@
 //! `required`: making its validator.
-ghost use Rattle.std.specs.Prelude.{option_to_list};
+ghost use Rattle.std.specs.Prelude.{◌≡◌, ◌||◌, true, is_some, option_to_list};
+ghost use Rattle.std.specs.Option.{IfSome, IfNone};
 ghost use Rattle.olk_spec.specs.Names.{Path};
 ghost use Rattle.olk_base.specs.Kit.{kit};
 ghost use Rattle.olk_meaning.specs.Plans.{planned};
+ghost use Rattle.olk_make.specs.Forms.{IsRequiredOver};
 ghost use Rattle.olk_make.specs.Making.{MakesClaims};
 ghost use Rattle.olk_read.specs.declared.shape.Shape.TheVariants as shape;
 
@@ -21,7 +23,10 @@ pub fn make<K: Leaf, R: RegexEngine, N: BuiltNode<K, R>>(
     required: Vec<String>,
     nodes: Vec<N>,
 ) -> Option<KeywordOver<K, R, N>>
-    ensures { (P : Path) → MakesClaims (kit K.Leaf R.RegexEngine)
+    ensures none { IfNone result ((is_some (planned plan.entry).fused_pair
+        || is_some (planned plan.entry).fused_one) ≡ true) }
+    ensures form { IfSome result (IsRequiredOver required location) }
+    ensures makes { (P : Path) → MakesClaims (kit K.Leaf R.RegexEngine)
         N.answers (shape.Required required)
         location nodes.items P (planned plan.entry) (option_to_list result) }
 {

@@ -2,7 +2,7 @@ use borrow.Author.Count.{falls}
 use Rattle.std.proofs.lemmas.Result.{IfOk-weaker}
 use Rattle.olk_build.proofs.Places.{no_object_no_members, no_array_no_items, none_are_built, itself_is_built}
 use Rattle.olk_read.specs.declared.shape.ReadPlaces.TheVariants.{Nothing, Entries, SchemaEntries, InnerEntries, Branches}
-use Rattle.std.proofs.Common.{arith, rules, true, false, inl, inr, ◌++◌, [], ◌∷◌, map, refl, sym, ap, ◌∙◌}
+use Rattle.std.proofs.Common.{arith, rules, true, false, inl, inr, ◌++◌, [], ◌∷◌, map, refl, sym, ap, subst, ◌≡◌, ◌∙◌}
 use Rattle.olk_meaning.specs.Conditions.{known}
 use Rattle.std.proofs.lemmas.List.{append_assoc}
 use Rattle.serde_json.specs.View.{view, members_view}
@@ -21,7 +21,12 @@ use Rattle.olk_meaning.proofs.Objects.{no_schema_is}
 use Rattle.olk_build.proofs.Parts.{refuses_part_own, refuses_part_inside, part_is_built}
 use Rattle.serde_json.proofs.value.Value.TheLaws.{the_size}
 use Rattle.olk_build.proofs.Sizes.{size_among}
-use Rattle.olk_build.proofs.Each.{no_parts_so_far, none_so_far, memory_so_far, parts_are_built, each_is_built, member_refused, one_more_so_far, one_more_meant}
+use Rattle.std.proofs.Common.{Some, None, String, Global, List}
+use Rattle.olk_meaning.specs.Plans.{planned}
+use Rattle.olk_make.specs.Standing.{is_taken}
+use Rattle.olk_build.proofs.Found.{member_lookup}
+use Rattle.olk_build.proofs.Neighbouring.{neighbour_refused, no_neighbour, neighbour_built, both_beside, first_beside_refused, second_beside_refused}
+use Rattle.olk_build.proofs.Keywords.{no_keywords_so_far, keywords_memory, object_is_built, past_taken, part_refused, beside_refused, appending_memory, one_more_read, alone_memory, one_more_alone}
 use Rattle.olk_build.proofs.build.+compile.Goals as goal
 
 pub compile_entries-returns-in_err-nodes-clause-refused : goal.compile_entries-returns-in_err-nodes-clause-refused
@@ -149,114 +154,6 @@ compile_part-returns-in_err-nodes-clause-refused g t c = exit_with _ _ _ c.from_
 pub compile_part-returns-clause-built : goal.compile_part-returns-clause-built
 compile_part-returns-clause-built g t c = part_is_built c.in_ok-shape.ensures.built c.reads.ensures c.in_ok-nodes.ensures.built
 
-pub compile_object-returns-in_err-parts-clause-refused : goal.compile_object-returns-in_err-parts-clause-refused
-compile_object-returns-in_err-parts-clause-refused g t c = exit _ _ _ c.from_residual.ensures.1 (refuses_memory within_nothing)
-
-pub compile_object-loop-name-init : goal.compile_object-loop-name-init
-compile_object-loop-name-init g t c =
-    record {
-      so_far = no_parts_so_far c.in_ok-parts.ensures.items (listed_alike c.into_iter-name-iterator.ensures.into_iter_gives.0);
-      next = tt;
-      ends = tt;
-    }
-
-pub compile_object-join-requires-text-segment : goal.compile_object-join-requires-text-segment
-compile_object-join-requires-text-segment g t c κs = c.as_str-name.utf8
-
-pub compile_object-returns-in_err-location-clause-refused : goal.compile_object-returns-in_err-location-clause-refused
-compile_object-returns-in_err-location-clause-refused g t c =
-    exit _ _ _ c.from_residual-in_err-location.ensures.1 (memory_so_far c.loop-name.invariant.so_far)
-
-pub compile_object-compile_part-requires-text-name : goal.compile_object-compile_part-requires-text-name
-compile_object-compile_part-requires-text-name g t c κs within = c.as_str-name.utf8
-
-pub compile_object-returns-in_err-part-clause-refused : goal.compile_object-returns-in_err-part-clause-refused
-compile_object-returns-in_err-part-clause-refused g t c =
-    exit_with _ _ _ c.from_residual-in_err-part.ensures.1 (member_refused c.loop-name.invariant.so_far (listed_alike c.in-Some.ensures.steps) c.of-neighbours.ensures
-    (below _ c.in_ok-location.ensures c.as_str-name.ensures.value) c.as_str-name.ensures.value c.in_err-part.ensures.refused)
-
-pub compile_object-loop-name-preserved : goal.compile_object-loop-name-preserved
-compile_object-loop-name-preserved g t c =
-    record {
-      so_far = one_more_so_far c.loop-name.invariant.so_far (listed_alike c.in-Some.ensures.steps) c.of-neighbours.ensures
-          (below _ c.in_ok-location.ensures c.as_str-name.ensures.value) c.as_str-name.ensures.value c.in_ok-part.ensures.built c.in_ok-append.ensures.items;
-      next = tt;
-      ends = tt;
-    }
-
-pub compile_object-returns-in_err-append-clause-refused : goal.compile_object-returns-in_err-append-clause-refused
-compile_object-returns-in_err-append-clause-refused g t c =
-    exit _ _ _ c.from_residual-in_err-append.ensures.1 (memory_so_far (one_more_so_far c.loop-name.invariant.so_far (listed_alike c.in-Some.ensures.steps) c.of-neighbours.ensures
-    (below _ c.in_ok-location.ensures c.as_str-name.ensures.value) c.as_str-name.ensures.value c.in_ok-part.ensures.built refl))
-
-pub compile_object-returns-in_err-make_keywords-clause-refused : goal.compile_object-returns-in_err-make_keywords-clause-refused
-compile_object-returns-in_err-make_keywords-clause-refused g t c =
-    exit _ _ _ c.from_residual-in_err-make_keywords.ensures.1 (memory_so_far c.loop-name.invariant.so_far)
-
-pub compile_object-returns-then-is_condition-clause-built : goal.compile_object-returns-then-is_condition-clause-built
-compile_object-returns-then-is_condition-clause-built g t c =
-    let parts = parts_are_built c.loop-name.invariant.so_far (listed_alike c.in-None.ensures.steps.0) in
-    record {
-      mean = c.in_ok-make_keywords.ensures (members_view c.args.members.now.entries) c.of-plan.ensures.distinct c.of-plan.ensures.plan parts.stand;
-      clean = parts.clean;
-      spends = parts.spends;
-    }
-
-pub compile_object-returns-in_err-keywords-clause-refused : goal.compile_object-returns-in_err-keywords-clause-refused
-compile_object-returns-in_err-keywords-clause-refused g t c = exit _ _ _ c.from_residual-in_err-keywords.ensures.1 (refuses_memory within_nothing)
-
-pub compile_object-loop-name-2-init : goal.compile_object-loop-name-2-init
-compile_object-loop-name-2-init g t c =
-    record {
-      so_far = none_so_far record {
-        plan = c.of-plan.ensures.plan;
-        distinct = c.of-plan.ensures.distinct;
-        no_condition = search rules;
-        unrestricted = search rules;
-      } c.in_ok-keywords.ensures.items (listed_alike c.into_iter-name-iterator-2.ensures.into_iter_gives.0);
-      before = [];
-      entries = c.into_iter-name-iterator-2.ensures.into_iter_gives.0;
-      next = tt;
-      ends = tt;
-    }
-
-pub compile_object-join-requires-in-loop-name-2-text-segment : goal.compile_object-join-requires-in-loop-name-2-text-segment
-compile_object-join-requires-in-loop-name-2-text-segment g t c κs = c.as_str-name-in-loop-name-2.utf8
-
-pub compile_object-returns-in_err-location-2-clause-refused : goal.compile_object-returns-in_err-location-2-clause-refused
-compile_object-returns-in_err-location-2-clause-refused g t c =
-    exit _ _ _ c.from_residual-in_err-location-2.ensures.1 (memory_so_far c.loop-name-2.invariant.so_far.built)
-
-pub compile_object-compile_part-requires-in-loop-name-2 : goal.compile_object-compile_part-requires-in-loop-name-2
-compile_object-compile_part-requires-in-loop-name-2 g t c κs within =
-    let lower = size_among the_size c.loop-name-2.invariant.before c.in-Some-2.name.now c.in-Some-2.value.now c.next-in-loop-name-2.new.self c.args.members.now.entries
-    (ap (λ l. c.loop-name-2.invariant.before ++ l) (sym c.in-Some-2.ensures.steps) ∙ c.loop-name-2.invariant.entries) in
-    (omega (arith, c.decreases, lower), within)
-
-pub compile_object-returns-in_err-part-2-clause-refused : goal.compile_object-returns-in_err-part-2-clause-refused
-compile_object-returns-in_err-part-2-clause-refused g t c =
-    exit_with _ _ _ c.from_residual-in_err-part-2.ensures.1 (member_refused c.loop-name-2.invariant.so_far.built (listed_alike c.in-Some-2.ensures.steps) c.of-neighbours.ensures
-    (below _ c.in_ok-location-2.ensures c.as_str-name-in-loop-name-2.ensures.value) c.as_str-name-in-loop-name-2.ensures.value c.in_err-part-2.ensures.refused)
-
-pub compile_object-loop-name-2-preserved : goal.compile_object-loop-name-2-preserved
-compile_object-loop-name-2-preserved g t c = record {
-  so_far = one_more_meant c.loop-name-2.invariant.so_far (listed_alike c.in-Some-2.ensures.steps) c.of-neighbours.ensures
-      (below _ c.in_ok-location-2.ensures c.as_str-name-in-loop-name-2.ensures.value) c.as_str-name-in-loop-name-2.ensures.value c.in_ok-part-2.ensures.built c.in_ok-append_keyword.ensures;
-  before = c.loop-name-2.invariant.before ++ (c.in-Some-2.name.now, c.in-Some-2.value.now) ∷ [];
-  entries = append_assoc c.loop-name-2.invariant.before ((c.in-Some-2.name.now, c.in-Some-2.value.now) ∷ []) c.next-in-loop-name-2.new.self
-      ∙ ap (λ l. c.loop-name-2.invariant.before ++ l) (sym c.in-Some-2.ensures.steps) ∙ c.loop-name-2.invariant.entries;
-  next = tt;
-  ends = tt;
-}
-
-pub compile_object-returns-in_err-append_keyword-clause-refused : goal.compile_object-returns-in_err-append_keyword-clause-refused
-compile_object-returns-in_err-append_keyword-clause-refused g t c =
-    exit _ _ _ c.from_residual-in_err-append_keyword.ensures.1 (memory_so_far (one_more_so_far c.loop-name-2.invariant.so_far.built (listed_alike c.in-Some-2.ensures.steps) c.of-neighbours.ensures
-    (below _ c.in_ok-location-2.ensures c.as_str-name-in-loop-name-2.ensures.value) c.as_str-name-in-loop-name-2.ensures.value c.in_ok-part-2.ensures.built refl))
-
-pub compile_object-returns-clause-built : goal.compile_object-returns-clause-built
-compile_object-returns-clause-built g t c = each_is_built c.loop-name-2.invariant.so_far (listed_alike c.in-None-2.ensures.steps.0)
-
 pub compile_places-returns-in_err-place-in-Itself-clause-refused : goal.compile_places-returns-in_err-place-in-Itself-clause-refused
 compile_places-returns-in_err-place-in-Itself-clause-refused g t c = exit _ _ _ c.from_residual.ensures.1 (refuses_memory within_nothing)
 
@@ -344,3 +241,107 @@ compile_schema-returns-clause-refused g t c =
         ]
       ]
     ])) c.tick_compiled.ensures (rw kind_of_multiple_types at c.refuse.ensures)
+
+pub compile_object-returns-in_err-keywords-clause-refused : goal.compile_object-returns-in_err-keywords-clause-refused
+compile_object-returns-in_err-keywords-clause-refused g t c = exit _ _ _ c.from_residual.ensures.1 (refuses_memory within_nothing)
+
+pub compile_beside-returns-in_err-first-in-Some-clause-refused : goal.compile_beside-returns-in_err-first-in-Some-clause-refused
+compile_beside-returns-in_err-first-in-Some-clause-refused g t c =
+    exit_with _ _ _ c.from_residual.ensures.1 (first_beside_refused (kit g.L.Leaf.Leaf g.M.Engine.RegexEngine) (members_view c.args.members.now.entries) c.args.place.now _ _ _ _ _ (sym c.in-Some.ensures) c.in_err-first-in-Some.ensures.refused)
+
+pub compile_beside-returns-in_err-second-in-Some-clause-refused : goal.compile_beside-returns-in_err-second-in-Some-clause-refused
+compile_beside-returns-in_err-second-in-Some-clause-refused g t c =
+    exit_with _ _ _ c.from_residual-in_err-second-in-Some.ensures.1 (second_beside_refused _ _ _ (sym c.in-Some.ensures) c.in_ok-first-in-Some.ensures.built c.in_err-second-in-Some.ensures.refused)
+
+pub compile_beside-returns-in_ok-second-in-Some-clause-built : goal.compile_beside-returns-in_ok-second-in-Some-clause-built
+compile_beside-returns-in_ok-second-in-Some-clause-built g t c =
+    both_beside (sym c.in-Some.ensures) c.in_ok-first-in-Some.ensures.built c.in_ok-second-in-Some.ensures.built
+
+pub compile_neighbour-returns-in_err-location-in-Some-clause-refused : goal.compile_neighbour-returns-in_err-location-in-Some-clause-refused
+compile_neighbour-returns-in_err-location-in-Some-clause-refused g t c =
+    exit _ _ _ c.from_residual.ensures.1 (refuses_memory within_nothing)
+
+pub compile_neighbour-returns-in_err-part-in-Some-clause-refused : goal.compile_neighbour-returns-in_err-part-in-Some-clause-refused
+compile_neighbour-returns-in_err-part-in-Some-clause-refused g t c =
+    exit_with _ _ _ c.from_residual-in_err-part-in-Some.ensures.1 (neighbour_refused (kit g.L.Leaf.Leaf g.M.Engine.RegexEngine) (members_view c.args.members.now.entries) c.args.place.now c.of-neighbours.ensures (sym (member_lookup (Some c.in-Some.value) c.args.name.now c.args.members.now.entries c.in-Some.ensures.value)) c.in_ok-location-in-Some.ensures c.in_err-part-in-Some.ensures.refused)
+
+pub compile_neighbour-returns-in_ok-part-in-Some-clause-built : goal.compile_neighbour-returns-in_ok-part-in-Some-clause-built
+compile_neighbour-returns-in_ok-part-in-Some-clause-built g t c =
+    neighbour_built c.of-neighbours.ensures (sym (member_lookup (Some c.in-Some.value) c.args.name.now c.args.members.now.entries c.in-Some.ensures.value)) c.in_ok-location-in-Some.ensures c.in_ok-part-in-Some.ensures.built
+
+pub compile_neighbour-returns-in-None-clause-built : goal.compile_neighbour-returns-in-None-clause-built
+compile_neighbour-returns-in-None-clause-built g t c =
+    no_neighbour (sym (member_lookup None c.args.name.now c.args.members.now.entries c.in-None.ensures.value))
+
+pub compile_object-loop-name-init : goal.compile_object-loop-name-init
+compile_object-loop-name-init g t c =
+    record {
+      so_far = no_keywords_so_far c.of-plan.ensures.plan c.of-plan.ensures.distinct c.in_ok-keywords.ensures.items (listed_alike c.into_iter-name-iterator.ensures.into_iter_gives.0);
+      before = [];
+      entries = c.into_iter-name-iterator.ensures.into_iter_gives.0;
+      next = tt;
+      ends = tt;
+    }
+
+pub compile_object-returns-in_err-location-clause-refused : goal.compile_object-returns-in_err-location-clause-refused
+compile_object-returns-in_err-location-clause-refused g t c =
+    exit _ _ _ c.from_residual-in_err-location.ensures.1 (keywords_memory c.loop-name.invariant.so_far)
+
+pub compile_object-compile_part-requires : goal.compile_object-compile_part-requires
+compile_object-compile_part-requires g t c κs within =
+    let lower = size_among the_size c.loop-name.invariant.before c.in-Some.name.now c.in-Some.value.now c.next.new.self c.args.members.now.entries
+    (ap (λ l. c.loop-name.invariant.before ++ l) (sym c.in-Some.ensures.steps) ∙ c.loop-name.invariant.entries) in
+    (omega (arith, c.decreases, lower), within)
+
+pub compile_object-returns-in_err-part-clause-refused : goal.compile_object-returns-in_err-part-clause-refused
+compile_object-returns-in_err-part-clause-refused g t c =
+    exit_with _ _ _ c.from_residual-in_err-part.ensures.1 (part_refused c.loop-name.invariant.so_far (listed_alike c.in-Some.ensures.steps) (subst (λ x. c.is_taken.result ≡ is_taken (planned c.of-plan.result) x) c.as_str-name.ensures.value c.is_taken.ensures) c.if-not-is_taken.true c.of-neighbours.ensures (below _ c.in_ok-location.ensures c.as_str-name.ensures.value) c.as_str-name.ensures.value c.in_err-part.ensures.refused)
+
+pub compile_object-returns-in_err-beside-clause-refused : goal.compile_object-returns-in_err-beside-clause-refused
+compile_object-returns-in_err-beside-clause-refused g t c =
+    exit_with _ _ _ c.from_residual-in_err-beside.ensures.1 (beside_refused c.loop-name.invariant.so_far (listed_alike c.in-Some.ensures.steps) (subst (λ x. c.is_taken.result ≡ is_taken (planned c.of-plan.result) x) c.as_str-name.ensures.value c.is_taken.ensures) c.if-not-is_taken.true c.of-neighbours.ensures (below _ c.in_ok-location.ensures c.as_str-name.ensures.value) c.as_str-name.ensures.value c.in_ok-part.ensures.built c.in_err-beside.ensures.refused)
+
+pub compile_object-loop-name-preserved-in-Continue-branch-5 : goal.compile_object-loop-name-preserved-in-Continue-branch-5
+compile_object-loop-name-preserved-in-Continue-branch-5 g t c =
+    record {
+      so_far = one_more_read c.loop-name.invariant.so_far (listed_alike c.in-Some.ensures.steps) (subst (λ x. c.is_taken.result ≡ is_taken (planned c.of-plan.result) x) c.as_str-name.ensures.value c.is_taken.ensures) c.if-not-is_taken.true c.of-neighbours.ensures (below _ c.in_ok-location.ensures c.as_str-name.ensures.value) c.as_str-name.ensures.value c.in_ok-part.ensures.built c.in_ok-beside.ensures.built c.in_ok-append_taking.ensures;
+      before = c.loop-name.invariant.before ++ (c.in-Some.name.now, c.in-Some.value.now) ∷ [];
+      entries = append_assoc c.loop-name.invariant.before ((c.in-Some.name.now, c.in-Some.value.now) ∷ []) c.next.new.self
+          ∙ ap (λ l. c.loop-name.invariant.before ++ l) (sym c.in-Some.ensures.steps) ∙ c.loop-name.invariant.entries;
+      next = tt;
+      ends = tt;
+    }
+
+pub compile_object-returns-in_err-append_taking-clause-refused : goal.compile_object-returns-in_err-append_taking-clause-refused
+compile_object-returns-in_err-append_taking-clause-refused g t c =
+    exit _ _ _ c.from_residual-in_err-append_taking.ensures.1 (appending_memory c.loop-name.invariant.so_far (listed_alike c.in-Some.ensures.steps) (subst (λ x. c.is_taken.result ≡ is_taken (planned c.of-plan.result) x) c.as_str-name.ensures.value c.is_taken.ensures) c.if-not-is_taken.true c.of-neighbours.ensures (below _ c.in_ok-location.ensures c.as_str-name.ensures.value) c.as_str-name.ensures.value c.in_ok-part.ensures.built c.in_ok-beside.ensures.built)
+
+pub compile_object-returns-in_err-append_alone-clause-refused : goal.compile_object-returns-in_err-append_alone-clause-refused
+compile_object-returns-in_err-append_alone-clause-refused g t c =
+    exit _ _ _ c.from_residual-in_err-append_alone.ensures.1 (alone_memory c.loop-name.invariant.so_far (listed_alike c.in-Some.ensures.steps) (subst (λ x. c.is_taken.result ≡ is_taken (planned c.of-plan.result) x) c.as_str-name.ensures.value c.is_taken.ensures) c.if-not-is_taken.true c.of-neighbours.ensures (below _ c.in_ok-location.ensures c.as_str-name.ensures.value) c.as_str-name.ensures.value c.in_ok-part.ensures.built c.takes_any.ensures c.if-takes_any.false)
+
+pub compile_object-loop-name-preserved-in-Continue-branch-6 : goal.compile_object-loop-name-preserved-in-Continue-branch-6
+compile_object-loop-name-preserved-in-Continue-branch-6 g t c =
+    record {
+      so_far = one_more_alone c.loop-name.invariant.so_far (listed_alike c.in-Some.ensures.steps) (subst (λ x. c.is_taken.result ≡ is_taken (planned c.of-plan.result) x) c.as_str-name.ensures.value c.is_taken.ensures) c.if-not-is_taken.true c.of-neighbours.ensures (below _ c.in_ok-location.ensures c.as_str-name.ensures.value) c.as_str-name.ensures.value c.in_ok-part.ensures.built c.takes_any.ensures c.if-takes_any.false c.in_ok-append_alone.ensures;
+      before = c.loop-name.invariant.before ++ (c.in-Some.name.now, c.in-Some.value.now) ∷ [];
+      entries = append_assoc c.loop-name.invariant.before ((c.in-Some.name.now, c.in-Some.value.now) ∷ []) c.next.new.self
+          ∙ ap (λ l. c.loop-name.invariant.before ++ l) (sym c.in-Some.ensures.steps) ∙ c.loop-name.invariant.entries;
+      next = tt;
+      ends = tt;
+    }
+
+pub compile_object-loop-name-preserved : goal.compile_object-loop-name-preserved
+compile_object-loop-name-preserved g t c =
+    record {
+      so_far = past_taken c.loop-name.invariant.so_far (listed_alike c.in-Some.ensures.steps) (subst (λ x. c.is_taken.result ≡ is_taken (planned c.of-plan.result) x) c.as_str-name.ensures.value c.is_taken.ensures) c.if-not-is_taken.false;
+      before = c.loop-name.invariant.before ++ (c.in-Some.name.now, c.in-Some.value.now) ∷ [];
+      entries = append_assoc c.loop-name.invariant.before ((c.in-Some.name.now, c.in-Some.value.now) ∷ []) c.next.new.self
+          ∙ ap (λ l. c.loop-name.invariant.before ++ l) (sym c.in-Some.ensures.steps) ∙ c.loop-name.invariant.entries;
+      next = tt;
+      ends = tt;
+    }
+
+pub compile_object-returns-clause-built : goal.compile_object-returns-clause-built
+compile_object-returns-clause-built g t c =
+    object_is_built c.loop-name.invariant.so_far (listed_alike c.in-None.ensures.steps.0)

@@ -7,7 +7,7 @@ use Rattle.olk_base.specs.Kit.{kit}
 use Rattle.olk_build.specs.Building.{entries_read}
 use Rattle.olk_build.proofs.Built.{EntriesSoFar, InnerSoFar, branches_from}
 use Rattle.olk_meaning.specs.Plans.{planned}
-use Rattle.olk_build.proofs.Each.{PartsSoFar, EachSoFar}
+use Rattle.olk_build.proofs.Keywords.{KeywordsSoFar}
 use Rattle.olk_build.proofs.build.+compile.Given as goal
 
 -- the nodes so far are built for those of the entries so far that are read
@@ -31,22 +31,13 @@ abbrev pub invariant-compile_branches-loop-i : goal.invariant-compile_branches-l
 invariant-compile_branches-loop-i g l =
     EntriesSoFar (kit g.L.Leaf.Leaf g.M.Engine.RegexEngine) g.N.BuiltNode.answers l.fn.place (numbered (items_list (items_view l.items.items))) l.fn.meter l.nodes.items (branches_from l.i l.schema-items) l.meter
 
--- the parts so far are built for the members so far
+-- the keywords so far mean what the members so far claim; the entries so far, which the next is none of, bound its size
 abbrev pub invariant-compile_object-loop-name : goal.invariant-compile_object-loop-name
 invariant-compile_object-loop-name g l = record {
-  so_far : PartsSoFar (kit g.L.Leaf.Leaf g.M.Engine.RegexEngine) g.N.BuiltNode.answers (members_view l.members.entries) l.fn.place l.parts.items l.fn.meter
-      (listed (members_view l.name-iterator)) l.meter;
-  next : (goal.iterator-compile_object-loop-name g).can_next l.name-iterator;
-  ends : (goal.iterator-compile_object-loop-name g).is_finite l.name-iterator;
-}
-
--- the keywords so far mean what the members so far claim; the entries so far, which the next is none of, bound its size
-abbrev pub invariant-compile_object-loop-name-2 : goal.invariant-compile_object-loop-name-2
-invariant-compile_object-loop-name-2 g l = record {
-  so_far : EachSoFar (kit g.L.Leaf.Leaf g.M.Engine.RegexEngine) g.N.BuiltNode.answers (members_view l.members.entries) l.fn.place
+  so_far : KeywordsSoFar (kit g.L.Leaf.Leaf g.M.Engine.RegexEngine) g.N.BuiltNode.answers (members_view l.members.entries) l.fn.place
       (planned l.plan) l.fn.meter l.keywords.items (listed (members_view l.name-iterator)) l.meter;
   before : List (String Global × Value);
   entries : before ++ l.name-iterator ≡ l.members.entries;
-  next : (goal.iterator-compile_object-loop-name-2 g).can_next l.name-iterator;
-  ends : (goal.iterator-compile_object-loop-name-2 g).is_finite l.name-iterator;
+  next : (goal.iterator-compile_object-loop-name g).can_next l.name-iterator;
+  ends : (goal.iterator-compile_object-loop-name g).is_finite l.name-iterator;
 }

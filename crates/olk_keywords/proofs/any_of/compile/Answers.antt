@@ -1,18 +1,18 @@
 use Rattle.std.specs.Prelude.{codes}
 use Rattle.std.proofs.Common.{refl}
+use Rattle.serde_json.specs.View.{view, members_view}
 use Rattle.olk_base.specs.Kit.{kit}
-use Rattle.serde_json.specs.View.{view}
-use Rattle.olk_keywords.proofs.Modules.{built_of_shape, any_of_shape, any_of_is_formed, refuses_member}
+use Rattle.olk_keywords.proofs.Modules.{any_of_formed, gives_form, gives_member}
 use Rattle.olk_keywords.proofs.any_of.compile.Goals as goal
 
-pub returns-in-Ok-clause-gives : goal.returns-in-Ok-clause-gives
-returns-in-Ok-clause-gives g c =
-    (built_of_shape _ c.in-Ok.ensures.built refl (any_of_shape _ c.in-Ok.ensures.built) c.make.ensures.makes, tt)
+pub returns-clause-gives : goal.returns-clause-gives
+returns-clause-gives g c =
+    rw c.transpose.ensures (gives_member (kit g.L.Leaf.Leaf g.M.Engine.RegexEngine) g.N.BuiltNode.answers
+    (members_view c.args.parent.now.entries) (codes "anyOf") (view c.args.schema.now) c.args.ctx.now.place
+    c.args.ctx.now.meter.now c.compile_keyword.new.ctx.meter.now c.compile_keyword.result c.compile_keyword.ensures.built c.compile_keyword.ensures.refused refl refl refl refl refl)
 
-pub returns-in-Ok-clause-form : goal.returns-in-Ok-clause-form
-returns-in-Ok-clause-form g c =
-    any_of_is_formed _ c.in-Ok.ensures.built c.make.result c.make.ensures.form
-
-pub returns-in-Err-clause-gives : goal.returns-in-Err-clause-gives
-returns-in-Err-clause-gives g c =
-    (tt, refuses_member (kit g.L.Leaf.Leaf g.M.Engine.RegexEngine) _ (codes "anyOf") (view c.args.schema.now) refl c.in-Err.ensures.refused)
+pub returns-clause-form : goal.returns-clause-form
+returns-clause-form g c =
+    rw c.transpose.ensures (gives_form (kit g.L.Leaf.Leaf g.M.Engine.RegexEngine) g.N.BuiltNode.answers
+    (members_view c.args.parent.now.entries) (codes "anyOf") (view c.args.schema.now) c.args.ctx.now.place
+    c.args.ctx.now.meter.now c.compile_keyword.new.ctx.meter.now c.compile_keyword.result c.compile_keyword.ensures.built _ any_of_formed)

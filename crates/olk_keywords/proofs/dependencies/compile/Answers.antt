@@ -1,30 +1,18 @@
 use Rattle.std.specs.Prelude.{codes}
 use Rattle.std.proofs.Common.{refl}
-use Rattle.serde_json.specs.View.{view}
+use Rattle.serde_json.specs.View.{view, members_view}
 use Rattle.olk_base.specs.Kit.{kit}
-use Rattle.olk_keywords.proofs.Modules.{named, no_other_dependencies, keys_of_shape, built_of_shape, memory_after, refuses_member}
+use Rattle.olk_keywords.proofs.Modules.{dependencies_formed, gives_form, gives_member}
 use Rattle.olk_keywords.proofs.dependencies.compile.Goals as goal
 
-pub unreachable-requires : goal.unreachable-requires
-unreachable-requires g c =
-    no_other_dependencies _ c.in_default.not-Dependencies (named _ c.in-Ok.ensures.built refl refl)
+pub returns-clause-gives : goal.returns-clause-gives
+returns-clause-gives g c =
+    rw c.transpose.ensures (gives_member (kit g.L.Leaf.Leaf g.M.Engine.RegexEngine) g.N.BuiltNode.answers
+    (members_view c.args.parent.now.entries) (codes "dependencies") (view c.args.schema.now) c.args.ctx.now.place
+    c.args.ctx.now.meter.now c.compile_keyword.new.ctx.meter.now c.compile_keyword.result c.compile_keyword.ensures.built c.compile_keyword.ensures.refused refl refl refl refl refl)
 
-pub returns-in-Ok-make-clause-gives : goal.returns-in-Ok-make-clause-gives
-returns-in-Ok-make-clause-gives g c = (
-  built_of_shape _ c.in-Ok.ensures.built refl c.in-Dependencies.is c.in-Ok-make.ensures.makes,
-  tt,
-)
-
-pub returns-in-Ok-make-clause-form : goal.returns-in-Ok-make-clause-form
-returns-in-Ok-make-clause-form g c =
-    keys_of_shape _ c.in-Ok.ensures.built refl c.in-Dependencies.is c.in-Ok-make.keyword c.in-Ok-make.ensures.form
-
-pub returns-in-Err-make-clause-gives : goal.returns-in-Err-make-clause-gives
-returns-in-Err-make-clause-gives g c = (
-  tt,
-  memory_after _ c.in-Ok.ensures.built refl _ refl,
-)
-
-pub returns-in-Err-clause-gives : goal.returns-in-Err-clause-gives
-returns-in-Err-clause-gives g c =
-    (tt, refuses_member (kit g.L.Leaf.Leaf g.M.Engine.RegexEngine) _ (codes "dependencies") (view c.args.schema.now) refl c.in-Err.ensures.refused)
+pub returns-clause-form : goal.returns-clause-form
+returns-clause-form g c =
+    rw c.transpose.ensures (gives_form (kit g.L.Leaf.Leaf g.M.Engine.RegexEngine) g.N.BuiltNode.answers
+    (members_view c.args.parent.now.entries) (codes "dependencies") (view c.args.schema.now) c.args.ctx.now.place
+    c.args.ctx.now.meter.now c.compile_keyword.new.ctx.meter.now c.compile_keyword.result c.compile_keyword.ensures.built _ dependencies_formed)

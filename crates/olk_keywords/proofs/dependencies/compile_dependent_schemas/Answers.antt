@@ -1,30 +1,18 @@
 use Rattle.std.specs.Prelude.{codes}
 use Rattle.std.proofs.Common.{refl}
-use Rattle.serde_json.specs.View.{view}
+use Rattle.serde_json.specs.View.{view, members_view}
 use Rattle.olk_base.specs.Kit.{kit}
-use Rattle.olk_keywords.proofs.Modules.{named, no_other_dependent_schemas, keys_of_shape, built_of_shape, memory_after, refuses_member}
+use Rattle.olk_keywords.proofs.Modules.{dependent_schemas_formed, gives_form, gives_member}
 use Rattle.olk_keywords.proofs.dependencies.compile_dependent_schemas.Goals as goal
 
-pub unreachable-requires : goal.unreachable-requires
-unreachable-requires g c =
-    no_other_dependent_schemas _ c.in_default.not-DependentSchemas (named _ c.in-Ok.ensures.built refl refl)
+pub returns-clause-gives : goal.returns-clause-gives
+returns-clause-gives g c =
+    rw c.transpose.ensures (gives_member (kit g.L.Leaf.Leaf g.M.Engine.RegexEngine) g.N.BuiltNode.answers
+    (members_view c.args.parent.now.entries) (codes "dependentSchemas") (view c.args.schema.now) c.args.ctx.now.place
+    c.args.ctx.now.meter.now c.compile_keyword.new.ctx.meter.now c.compile_keyword.result c.compile_keyword.ensures.built c.compile_keyword.ensures.refused refl refl refl refl refl)
 
-pub returns-in-Ok-make_schemas-clause-gives : goal.returns-in-Ok-make_schemas-clause-gives
-returns-in-Ok-make_schemas-clause-gives g c = (
-  built_of_shape _ c.in-Ok.ensures.built refl c.in-DependentSchemas.is c.in-Ok-make_schemas.ensures.makes,
-  tt,
-)
-
-pub returns-in-Ok-make_schemas-clause-form : goal.returns-in-Ok-make_schemas-clause-form
-returns-in-Ok-make_schemas-clause-form g c =
-    keys_of_shape _ c.in-Ok.ensures.built refl c.in-DependentSchemas.is c.in-Ok-make_schemas.keyword c.in-Ok-make_schemas.ensures.form
-
-pub returns-in-Err-make_schemas-clause-gives : goal.returns-in-Err-make_schemas-clause-gives
-returns-in-Err-make_schemas-clause-gives g c = (
-  tt,
-  memory_after _ c.in-Ok.ensures.built refl _ refl,
-)
-
-pub returns-in-Err-clause-gives : goal.returns-in-Err-clause-gives
-returns-in-Err-clause-gives g c =
-    (tt, refuses_member (kit g.L.Leaf.Leaf g.M.Engine.RegexEngine) _ (codes "dependentSchemas") (view c.args.schema.now) refl c.in-Err.ensures.refused)
+pub returns-clause-form : goal.returns-clause-form
+returns-clause-form g c =
+    rw c.transpose.ensures (gives_form (kit g.L.Leaf.Leaf g.M.Engine.RegexEngine) g.N.BuiltNode.answers
+    (members_view c.args.parent.now.entries) (codes "dependentSchemas") (view c.args.schema.now) c.args.ctx.now.place
+    c.args.ctx.now.meter.now c.compile_keyword.new.ctx.meter.now c.compile_keyword.result c.compile_keyword.ensures.built _ dependent_schemas_formed)

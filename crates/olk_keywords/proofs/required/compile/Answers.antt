@@ -1,21 +1,30 @@
 use Rattle.std.specs.Prelude.{codes}
-use Rattle.std.proofs.Common.{refl}
-use Rattle.serde_json.specs.View.{view}
+use Rattle.std.proofs.Common.{refl, ◌∙◌, rules}
+use Rattle.serde_json.specs.View.{view, members_view}
 use Rattle.olk_base.specs.Kit.{kit}
-use Rattle.olk_keywords.proofs.Modules.{named, no_other_required, required_built, required_is_formed, refuses_member}
+use Rattle.olk_keywords.proofs.Modules.{gives, gives_form, gives_some, none_at_no_cost, required_formed, required_given, required_makes}
 use Rattle.olk_keywords.proofs.required.compile.Goals as goal
 
-pub unreachable-requires : goal.unreachable-requires
-unreachable-requires g c = no_other_required _ c.in_default.not-Required (named _ c.in-Ok.ensures.built refl refl)
+pub returns-clause-gives : goal.returns-clause-gives
+returns-clause-gives g c =
+    rw c.transpose.ensures (gives (kit g.L.Leaf.Leaf g.M.Engine.RegexEngine) g.N.BuiltNode.answers
+    (members_view c.args.parent.now.entries) (codes "required") (view c.args.schema.now) c.args.ctx.now.place
+    c.args.ctx.now.meter.now c.compile_keyword.new.ctx.meter.now c.compile_keyword.result c.compile_keyword.ensures.built c.compile_keyword.ensures.refused refl refl refl required_makes)
 
-pub returns-in-Required-clause-gives : goal.returns-in-Required-clause-gives
-returns-in-Required-clause-gives g c =
-    (required_built _ c.in-Ok.ensures.built c.in-Required.required c.in-Required.is, tt)
+pub returns-clause-form : goal.returns-clause-form
+returns-clause-form g c =
+    rw c.transpose.ensures (gives_form (kit g.L.Leaf.Leaf g.M.Engine.RegexEngine) g.N.BuiltNode.answers
+    (members_view c.args.parent.now.entries) (codes "required") (view c.args.schema.now) c.args.ctx.now.place
+    c.args.ctx.now.meter.now c.compile_keyword.new.ctx.meter.now c.compile_keyword.result c.compile_keyword.ensures.built _ required_formed)
 
-pub returns-in-Required-clause-form : goal.returns-in-Required-clause-form
-returns-in-Required-clause-form g c =
-    required_is_formed _ c.in-Ok.ensures.built c.in-Required.required c.in-Required.is
+pub returns-clause-fused : goal.returns-clause-fused
+returns-clause-fused g c =
+    rw c.transpose.ensures (gives_some (kit g.L.Leaf.Leaf g.M.Engine.RegexEngine) g.N.BuiltNode.answers
+    (members_view c.args.parent.now.entries) (codes "required") (view c.args.schema.now) c.args.ctx.now.place
+    c.args.ctx.now.meter.now c.compile_keyword.new.ctx.meter.now c.compile_keyword.result c.compile_keyword.ensures.built (required_given (search rules)) ∙ search rules)
 
-pub returns-in-Err-clause-gives : goal.returns-in-Err-clause-gives
-returns-in-Err-clause-gives g c =
-    (tt, refuses_member (kit g.L.Leaf.Leaf g.M.Engine.RegexEngine) _ (codes "required") (view c.args.schema.now) refl c.in-Err.ensures.refused)
+pub returns-clause-fused_at_no_cost : goal.returns-clause-fused_at_no_cost
+returns-clause-fused_at_no_cost g c =
+    rw c.transpose.ensures (none_at_no_cost (kit g.L.Leaf.Leaf g.M.Engine.RegexEngine) g.N.BuiltNode.answers
+    (members_view c.args.parent.now.entries) (codes "required") (view c.args.schema.now) c.args.ctx.now.place
+    c.args.ctx.now.meter.now c.compile_keyword.new.ctx.meter.now c.compile_keyword.result c.compile_keyword.ensures.built (required_given (search rules)) _)

@@ -1,0 +1,156 @@
+-- What a keyword takes from its neighbours, and what is built of these.
+use Rattle.std.specs.Prelude.{◌≡◌, ⊤, ◌&&◌, Bool, true, false, cond, List, [], ◌∷◌, ◌++◌, map, codes, bytes_eq, Option, Some, None, option_to_list}
+use Rattle.serde_json.specs.Data.{Data, Members}
+use Rattle.olk_spec.specs.Names.{Name, Path, ◌//◌, lookup_name}
+use Rattle.olk_spec.specs.Schemas.{listed}
+use Rattle.olk_spec.specs.Malformed.{has_repeat}
+use Rattle.olk_base.specs.Count.{Counts}
+use Rattle.olk_base.specs.Kit.{Kit}
+use Rattle.olk_reports.specs.declared.error.BuildError.{BuildError}
+use Rattle.olk_meaning.specs.AdditionalProperties.{rows_at}
+use Rattle.olk_meaning.specs.Conditions.{known_of, IsKnown}
+use Rattle.olk_meaning.specs.Plans.{Planned, plan_of, head, claims}
+use Rattle.olk_read.specs.Refusing.{Spends, Refuses}
+use Rattle.olk_read.specs.Reading.{reads_of, IsShape, Fits}
+use Rattle.olk_read.specs.declared.shape.Shape.{Shape}
+use Rattle.olk_read.specs.declared.shape.Shape.TheVariants as shape
+use Rattle.olk_tree.specs.Answers.{Answers}
+use Rattle.olk_tree.specs.declared.node.KeywordOver.{KeywordOver}
+use Rattle.olk_make.specs.Holding.{all_malformed}
+use Rattle.olk_make.specs.Standing.{StandAt, PartStands, Fills, IsLast, is_taken}
+use Rattle.olk_make.specs.Making.{KeywordsMean, MakesAlone}
+use Rattle.olk_make.specs.Made.{IsMade}
+use Rattle.olk_make.specs.declared.part.Part.{Part}
+use Rattle.olk_make.specs.declared.part.DeclaredNodes.{DeclaredNodes}
+use Rattle.olk_make.specs.declared.part.Patterns.{Patterns}
+use Rattle.olk_make.specs.declared.part.Taken.{Taken}
+use Rattle.olk_build.specs.Building.{all_cost, RefusesPart}
+use Rattle.olk_build.specs.Placing.{IsPart}
+use Rattle.olk_build.specs.declared.taking.Beside.{Beside}
+
+-- the two neighbours that the keyword of the name k takes: `if` takes `then` and `else`, and `additionalProperties` the keywords that tell members by their names
+abbrev pub takes : Planned → Name → Option (Name × Name)
+takes p k = cond (p.condition && bytes_eq (codes "if") k) (Some (codes "then", codes "else")) (cond (p.restricted && bytes_eq (codes "additionalProperties") k) (Some (codes "properties", codes "patternProperties")) None)
+
+-- and by its shape
+abbrev pub takes_of : {K R : Type 0} → Shape K R → Option (Name × Name)
+takes_of shape.If = Some (codes "then", codes "else")
+takes_of shape.AdditionalProperties = Some (codes "properties", codes "patternProperties")
+takes_of shape.NoOthers = Some (codes "properties", codes "patternProperties")
+takes_of x = None
+
+-- the members that stand there
+abbrev pub rows_taken : Members → Option (Name × Name) → List (Name × Data)
+rows_taken ms None = []
+rows_taken ms (Some t) = rows_at t.0 ms ++ rows_at t.1 ms
+
+-- the members that are read for a member: itself and those that it takes, and none where it is taken
+abbrev pub rows_read : Members → Name × Data → List (Name × Data)
+rows_read ms m = cond (is_taken (plan_of ms) m.0) [] (m ∷ rows_taken ms (takes (plan_of ms) m.0))
+
+-- ---- what is taken of a part, if there is one
+
+abbrev pub IsNode : {K R N : Type 0} → Option (Part K R N) → Option N → Type 0
+IsNode None t = t ≡ None
+IsNode (Some p) t = IsLast p.nodes.items t
+
+abbrev pub DeclaredBy : {K R N : Type 0} → Shape K R → Part K R N → Option (DeclaredNodes N) → Type 0
+DeclaredBy (shape.Properties names) p t = t ≡ Some (record { names = names; nodes = p.nodes })
+DeclaredBy x p t = t ≡ None
+
+abbrev pub IsDeclared : {K R N : Type 0} → Option (Part K R N) → Option (DeclaredNodes N) → Type 0
+IsDeclared None t = t ≡ None
+IsDeclared (Some p) t = DeclaredBy p.shape p t
+
+abbrev pub PatternsBy : {K R N : Type 0} → Shape K R → Part K R N → Option (Patterns R N) → Type 0
+PatternsBy (shape.PatternProperties v w) p t = t ≡ Some (record { location = p.location; patterns = v; table = w; nodes = p.nodes })
+PatternsBy x p t = t ≡ None
+
+abbrev pub IsPatterns : {K R N : Type 0} → Option (Part K R N) → Option (Patterns R N) → Type 0
+IsPatterns None t = t ≡ None
+IsPatterns (Some p) t = PatternsBy p.shape p t
+
+-- what a keyword of this shape takes of them
+abbrev pub TakenBy : {K R N : Type 0} → Shape K R → Beside K R N → Taken R N → Type 0
+TakenBy shape.If b t = IsNode b.first t.cases.then_schema × IsNode b.second t.cases.else_schema
+TakenBy x b t = IsDeclared b.first t.beside.properties × IsPatterns b.second t.beside.patterns
+
+-- ---- neighbours, in the schema object with the members ms at P
+
+module _ {K R : Type 0} (o : Kit K R) (ms : Members) where
+  abbrev pub RefusesNeighbour : Name → Path → Counts → Counts → BuildError → Type 0
+  RefusesNeighbour k P old new e = Refuses (all_malformed o ms P (rows_at k ms)) (all_cost o ms (rows_at k ms)) old new e
+
+  abbrev pub RefusesBeside : Option (Name × Name) → Path → Counts → Counts → BuildError → Type 0
+  RefusesBeside t P old new e = Refuses (all_malformed o ms P (rows_taken ms t)) (all_cost o ms (rows_taken ms t)) old new e
+
+module _ {K R N : Type 0} (o : Kit K R) (answers : N → Answers) (ms : Members) where
+  -- a part stands for the member of the name k, and there is none where there is no such member
+  abbrev pub PartFills : Option (Part K R N) → Name → Path → Type 0
+  PartFills p k P = Fills (λ x d. PartStands o answers (known_of ms) x (k, d) P) p (lookup_name k (listed ms))
+
+  pub record IsNeighbour (p : Option (Part K R N)) (k : Name) (P : Path) (old new : Counts) : Type 0 where
+    pub stands : PartFills p k P
+    pub clean : all_malformed o ms P (rows_at k ms) ≡ []
+    pub spends : Spends old new (all_cost o ms (rows_at k ms))
+
+  -- both stand for what is taken
+  abbrev pub BesideFills : Option (Name × Name) → Path → Beside K R N → Type 0
+  BesideFills None P b = ⊤
+  BesideFills (Some t) P b = PartFills b.first t.0 P × PartFills b.second t.1 P
+
+  pub record AreBeside (t : Option (Name × Name)) (P : Path) (old new : Counts) (b : Beside K R N) : Type 0 where
+    pub stand : BesideFills t P b
+    pub clean : all_malformed o ms P (rows_taken ms t) ≡ []
+    pub spends : Spends old new (all_cost o ms (rows_taken ms t))
+
+module _ {K R N : Type 0} (o : Kit K R) (answers : N → Answers) where
+  -- keywords that are made of a shape and nodes at L mean what the part's member claims, in each object at P that has this plan and where the neighbours' parts stand for what is taken
+  abbrev pub MakesBeside : Shape K R → Path → List N → Beside K R N → Path → Planned → List (KeywordOver K R N) → Type 0
+  MakesBeside x L ns b P q ks = (ms : Members) (m : Name × Data) → L ≡ P // m.0 → IsShape o m.0 m.1 x → Fits o (known_of ms) x → StandAt o answers (reads_of x) ns m.1 L → BesideFills o answers ms (takes_of x) P b
+      → has_repeat (map (λ m. m.0) (listed ms)) ≡ false → lookup_name m.0 (listed ms) ≡ Some m.1 → q ≡ plan_of ms → is_taken q m.0 ≡ false
+      → KeywordsMean o answers ms ks (claims (head q) (listed ms) m) (m ∷ []) P
+
+  -- what is made of a part, and of what is taken of its neighbours' parts
+  pub record MakesTaking (p : Part K R N) (b : Beside K R N) (P : Path) (q : Planned) (r : Option (KeywordOver K R N)) : Type 0 where
+    pub taken : Taken R N
+    pub takes : TakenBy p.shape b taken
+    pub makes : MakesBeside p.shape p.location p.nodes.items b P q (option_to_list r)
+    pub alone : MakesAlone o answers p.shape p.location p.nodes.items (option_to_list r)
+    pub form : IsMade o answers p.shape p.location p.nodes.items taken P q r
+
+  -- new keywords behind old ones are made of it
+  pub record AppendsTaking (x : Shape K R) (L : Path) (ns : List N) (b : Beside K R N) (P : Path) (q : Planned) (old new : List (KeywordOver K R N)) : Type 0 where
+    pub made : List (KeywordOver K R N)
+    pub behind : new ≡ old ++ made
+    pub makes : MakesBeside x L ns b P q made
+
+  -- the same of a part that takes nothing
+  pub record AppendsAlone (x : Shape K R) (L : Path) (ns : List N) (P : Path) (q : Planned) (old new : List (KeywordOver K R N)) : Type 0 where
+    pub made : List (KeywordOver K R N)
+    pub behind : new ≡ old ++ made
+    pub makes : takes_of x ≡ None → (b : Beside K R N) → MakesBeside x L ns b P q made
+
+  -- ---- the keyword of the name k and the value d at P, with what it takes from the object with the members ms
+
+  module _ (ms : Members) (k : Name) (d : Data) (P : Path) (old new : Counts) where
+    -- it is made of its part and of its neighbours' parts
+    pub record KeywordIsBuilt (r : Option (KeywordOver K R N)) : Type 0 where
+      pub distinct : has_repeat (map (λ x. x.0) (listed ms)) ≡ false
+      pub part : Part K R N
+      pub beside : Beside K R N
+      pub between : Counts
+      pub is_part : IsPart o answers part (known_of ms) k d (P // k) old between
+      pub are_beside : AreBeside o answers ms (takes_of part.shape) P between new beside
+      pub makes : MakesTaking part beside P (plan_of ms) r
+
+-- the shapes that this value can have at this name take t
+abbrev pub AllTake : {K R : Type 0} → Kit K R → Members → Name → Data → Option (Name × Name) → Type 0
+AllTake {K} {R} o ms k d t = (x : Shape K R) → IsShape o k d x → Fits o (known_of ms) x → takes_of x ≡ t
+
+module _ {K R : Type 0} (o : Kit K R) (ms : Members) (k : Name) (d : Data) (P : Path) (old new : Counts) where
+  -- what is told where there is none: of itself, if it takes nothing, in each object of which it knows enough, and else of all that is read, in this one
+  pub record RefusesKeyword (e : BuildError) : Type 0 where
+    pub alone : ((x : Shape K R) → IsShape o k d x → takes_of x ≡ None) → RefusesPart o (known_of ms) k d (P // k) old new e
+    pub together : (t : Option (Name × Name)) → AllTake o ms k d t → IsKnown (known_of ms) ms k
+        → Refuses (all_malformed o ms P ((k, d) ∷ rows_taken ms t)) (all_cost o ms ((k, d) ∷ rows_taken ms t)) old new e
