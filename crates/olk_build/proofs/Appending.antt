@@ -1,11 +1,12 @@
 -- The keyword of a part, with what it takes from its neighbours' parts.
-use Rattle.std.specs.Prelude.{◌≡◌, ◌&&◌, Bool, true, false, not, cond, List, [], ◌∷◌, ◌++◌, codes, bytes_eq, Option, Some, None, is_some, option_to_list}
+use Rattle.std.specs.Prelude.{◌≡◌, ◌&&◌, Bool, true, false, not, cond, List, [], ◌∷◌, ◌++◌, map, codes, bytes_eq, Option, Some, None, is_some, option_to_list}
 use Rattle.std.proofs.Common.{refl, sym, ◌∙◌, ap, subst}
 use Rattle.std.proofs.Math.Bool.{and-false}
 use mathlib.Core.Bool.{true≢false}
 use Rattle.serde_json.specs.Data.{Data, boolean, Members}
 use Rattle.olk_spec.specs.Names.{Name, Path, ◌//◌, lookup_name}
 use Rattle.olk_spec.specs.Vocabulary.{Keyword, leaf, unread, keyword_named}
+use Rattle.olk_spec.specs.Malformed.{has_repeat}
 use Rattle.olk_spec.specs.Schemas.{listed, is_truth}
 use Rattle.olk_base.specs.Kit.{Kit}
 use Rattle.olk_tree.specs.Answers.{Answers}
@@ -13,20 +14,23 @@ use Rattle.olk_tree.specs.Places.{Stands}
 use Rattle.olk_tree.specs.declared.node.KeywordOver.{KeywordOver}
 use Rattle.olk_tree.specs.declared.node.KeywordOver.TheVariants as keyword
 use Rattle.olk_meaning.specs.Conditions.{Known, known_of, is_conditional_name, is_condition, is_restriction, is_restricted}
-use Rattle.olk_meaning.specs.Plans.{Planned, plan_of}
+use Rattle.olk_meaning.specs.Plans.{Planned, plan_of, head, claims}
 use Rattle.olk_read.specs.Reading.{reads_of, IsShape, Fits}
 use Rattle.olk_read.specs.declared.shape.Shape.{Shape}
 use Rattle.olk_read.specs.declared.shape.Shape.TheVariants as shape
 use Rattle.olk_read.specs.declared.shape.ReadPlaces.TheVariants.{Itself}
-use Rattle.olk_make.specs.Making.{MakesPart}
-use Rattle.olk_make.specs.Standing.{StandAt, PartStands, Fills, is_if_shape, is_restriction_shape, DeclaredStand, PatternsStand}
+use Rattle.olk_make.specs.Made.{IsMade}
+use Rattle.olk_make.specs.Making.{KeywordsMean, MakesPart, IsMadeOf}
+use Rattle.olk_make.specs.Standing.{StandAt, PartStands, Fills, is_if_shape, is_restriction_shape, is_taken, DeclaredStand, PatternsStand, CasesStand, BesideStands}
 use Rattle.olk_make.specs.declared.part.Part.{Part}
 use Rattle.olk_make.specs.declared.part.Taken.{Taken}
 use Rattle.olk_make.specs.declared.part.DeclaredNodes.{DeclaredNodes}
 use Rattle.olk_make.specs.declared.part.Patterns.{Patterns}
+use Rattle.olk_make.proofs.Choosing.{chosen}
 use Rattle.olk_make.proofs.Makes.{neighbours, part_of_alone, makes_leaf, restriction_named}
 use Rattle.olk_make.proofs.Taking.{apart_by, taken_stands}
-use Rattle.olk_build.specs.Beside.{takes, takes_of, IsNode, DeclaredBy, IsDeclared, PatternsBy, IsPatterns, TakenBy, BesideFills, MakesBeside, MakesTaking, AppendsTaking}
+use Rattle.olk_build.specs.Building.{IsMember}
+use Rattle.olk_build.specs.Beside.{takes, takes_of, IsNode, DeclaredBy, IsDeclared, PatternsBy, IsPatterns, TakenBy, BesideFills, MakesBeside}
 use Rattle.olk_build.specs.declared.taking.Beside.{Beside}
 
 abbrev pub has_no_shape : Keyword → Bool
@@ -111,51 +115,56 @@ module _ {K R N : Type 0} (o : Kit K R) (answers : N → Answers) where
   if_takes shape.If e = refl
   if_takes x e = absurd (true≢false (sym e))
 
-  -- a part that takes nothing
-  pub makes_nothing : (x : Shape K R) {L : Path} (ns : List N) (t : Taken R N) {P : Path} {q : Planned} {ks : List (KeywordOver K R N)} → MakesPart o answers x L ns t P q ks
-      → takes_of x ≡ None → (b : Beside K R N) → MakesBeside o answers x L ns b P q ks
-  makes_nothing x ns t make none b ms m place s f stand fills distinct found chosen untaken =
-      make ms m place s f stand
-      (λ taking. absurd (true≢false (sym (ap is_some (if_takes x taking)) ∙ ap is_some none)))
-      (λ taking. absurd (true≢false (sym (ap is_some (restriction_takes x taking)) ∙ ap is_some none))) distinct found chosen untaken
+  module _ (x : Shape K R) {L : Path} (ns : List N) (t : Taken R N) {P : Path} {q : Planned} {r : Option (KeywordOver K R N)}
+      (make : MakesPart o answers x L ns t P q (option_to_list r)) (form : IsMade o answers x L ns t P q r) where
+    -- where all that it takes stands there
+    made_of : (ms : Members) (m : Name × Data) → L ≡ P // m.0 → IsShape o m.0 m.1 x → Fits o (known_of ms) x → StandAt o answers (reads_of x) ns m.1 L
+        → (is_if_shape x ≡ true → CasesStand o answers t.cases ms P) → (is_restriction_shape x ≡ true → BesideStands o answers (known_of ms) t.beside ms P)
+        → has_repeat (map (λ m. m.0) (listed ms)) ≡ false → IsMember ms m → q ≡ plan_of ms → is_taken q m.0 ≡ false → IsMadeOf o answers ms m P r
+    made_of ms m place s f stand cases beside distinct found same untaken = record {
+      means = subst (λ p. KeywordsMean o answers ms (option_to_list r) (claims (head p) (listed ms) m) (m ∷ []) P) same (make ms m place s f stand cases beside distinct found same untaken);
+      chosen = chosen o answers ms P m.0 m.1 L place ns t x s f stand cases beside (subst (λ p. is_taken p m.0 ≡ false) same untaken) r (subst (λ p. IsMade o answers x L ns t P p r) same form);
+    }
 
-  module _ (x : Shape K R) {L : Path} (ns : List N) (b : Beside K R N) (t : Taken R N) {P : Path} {q : Planned} {ks : List (KeywordOver K R N)}
-      (make : MakesPart o answers x L ns t P q ks) where
-    makes_condition : x ≡ shape.If → IsNode b.first t.cases.then_schema → IsNode b.second t.cases.else_schema → MakesBeside o answers x L ns b P q ks
-    makes_condition is first second ms m place s f stand fills distinct found chosen untaken =
-        let read = subst (Fits o (known_of ms)) is f in
-        let both = subst (λ y. BesideFills o answers ms (takes_of y) P b) is fills in
-        make ms m place s f stand
-        (λ taking. (
-          node_fills ms P (codes "then") refl refl read b.first t.cases.then_schema _ first both.0,
-          node_fills ms P (codes "else") refl refl read b.second t.cases.else_schema _ second both.1,
-        ))
-        (λ taking. absurd (true≢false (sym taking ∙ ap is_restriction_shape is))) distinct found chosen untaken
+    -- a part that takes nothing
+    pub makes_nothing : takes_of x ≡ None → (b : Beside K R N) → MakesBeside o answers x L ns b P q r
+    makes_nothing none b ms m place s f stand fills distinct found same untaken =
+        made_of ms m place s f stand
+        (λ taking. absurd (true≢false (sym (ap is_some (if_takes x taking)) ∙ ap is_some none)))
+        (λ taking. absurd (true≢false (sym (ap is_some (restriction_takes x taking)) ∙ ap is_some none))) distinct found same untaken
 
-    makes_other : is_if_shape x ≡ false → IsDeclared b.first t.beside.properties → IsPatterns b.second t.beside.patterns → MakesBeside o answers x L ns b P q ks
-    makes_other is first second ms m place s f stand fills distinct found chosen untaken =
-        make ms m place s f stand
-        (λ taking. absurd (true≢false (sym taking ∙ is)))
-        (λ taking.
-        let both = subst (λ w. BesideFills o answers ms w P b) (restriction_takes x taking) fills in
-        (declared_fills ms P b.first t.beside.properties _ first both.0, patterns_fill ms P b.second t.beside.patterns _ second both.1)) distinct found chosen untaken
+    module _ (b : Beside K R N) where
+      makes_condition : x ≡ shape.If → IsNode b.first t.cases.then_schema → IsNode b.second t.cases.else_schema → MakesBeside o answers x L ns b P q r
+      makes_condition is first second ms m place s f stand fills distinct found same untaken =
+          let read = subst (Fits o (known_of ms)) is f in
+          let both = subst (λ y. BesideFills o answers ms (takes_of y) P b) is fills in
+          made_of ms m place s f stand
+          (λ taking. (
+            node_fills ms P (codes "then") refl refl read b.first t.cases.then_schema _ first both.0,
+            node_fills ms P (codes "else") refl refl read b.second t.cases.else_schema _ second both.1,
+          ))
+          (λ taking. absurd (true≢false (sym taking ∙ ap is_restriction_shape is))) distinct found same untaken
 
-    pub makes_beside : TakenBy x b t → MakesBeside o answers x L ns b P q ks
-    makes_beside h = by x refl h
-      where
-        by : (y : Shape K R) → x ≡ y → TakenBy y b t → MakesBeside o answers x L ns b P q ks
-        by shape.If e h = makes_condition e h.0 h.1
-        by y e h = makes_other (ap is_if_shape e) h.0 h.1
+      makes_other : is_if_shape x ≡ false → IsDeclared b.first t.beside.properties → IsPatterns b.second t.beside.patterns → MakesBeside o answers x L ns b P q r
+      makes_other is first second ms m place s f stand fills distinct found same untaken =
+          made_of ms m place s f stand
+          (λ taking. absurd (true≢false (sym taking ∙ is)))
+          (λ taking.
+          let both = subst (λ w. BesideFills o answers ms w P b) (restriction_takes x taking) fills in
+          (declared_fills ms P b.first t.beside.properties _ first both.0, patterns_fill ms P b.second t.beside.patterns _ second both.1)) distinct found same untaken
 
-  pub appends_made : {p : Part K R N} {b : Beside K R N} {P : Path} {q : Planned} {r : Option (KeywordOver K R N)} {old new : List (KeywordOver K R N)}
-      → MakesTaking o answers p b P q r → new ≡ old ++ option_to_list r → AppendsTaking o answers p.shape p.location p.nodes.items b P q old new
-  appends_made {r = r} h e = record { made = option_to_list r; behind = e; makes = h.makes }
+      pub makes_beside : TakenBy x b t → MakesBeside o answers x L ns b P q r
+      makes_beside h = by x refl h
+        where
+          by : (y : Shape K R) → x ≡ y → TakenBy y b t → MakesBeside o answers x L ns b P q r
+          by shape.If e h = makes_condition e h.0 h.1
+          by y e h = makes_other (ap is_if_shape e) h.0 h.1
 
   -- a leaf takes nothing
-  pub makes_leaf_beside : {x : Shape K R} (l : K) {L : Path} (ns : List N) (b : Beside K R N) {P : Path} {q : Planned} → x ≡ shape.Leaf l → MakesBeside o answers x L ns b P q (keyword.Leaf L l ∷ [])
-  makes_leaf_beside l {L} ns b {P} {q} is ms m place s f stand fills distinct found chosen untaken =
-      part_of_alone o answers {L = L} {P = P} {ks = keyword.Leaf L l ∷ []} {p = q} ns nothing is (λ k d s. ap neighbours s.0) (makes_leaf o answers l L ns) ms m place s f stand
-      (λ taking. absurd (true≢false (sym taking ∙ ap is_if_shape is))) (λ taking. absurd (true≢false (sym taking ∙ ap is_restriction_shape is))) distinct found chosen untaken
+  pub makes_leaf_beside : {x : Shape K R} (l : K) {L : Path} (ns : List N) (b : Beside K R N) {P : Path} {q : Planned} → x ≡ shape.Leaf l → MakesBeside o answers x L ns b P q (Some (keyword.Leaf L l))
+  makes_leaf_beside {x} l {L} ns b {P} {q} is =
+      makes_nothing x ns nothing (part_of_alone o answers {L = L} {P = P} {ks = keyword.Leaf L l ∷ []} {p = q} ns nothing is (λ k d s. ap neighbours s.0) (makes_leaf o answers l L ns))
+      (subst (λ y. IsMade o answers y L ns nothing P q (Some (keyword.Leaf L l))) (sym is) refl) (ap takes_of is) b
     where
       nothing : Taken R N
       nothing = record { cases = record { then_schema = None; else_schema = None }; beside = record { properties = None; patterns = None } }

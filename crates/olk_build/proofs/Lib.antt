@@ -3,7 +3,7 @@ mod Groups
 mod Found
 pub mod Neighbouring
 mod Keywords
-mod Keyword
+mod Member
 pub mod Appending
 mod Parts
 mod Places

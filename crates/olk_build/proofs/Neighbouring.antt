@@ -34,7 +34,7 @@ module _ {K R : Type 0} (o : Kit K R) (ms : Members) (P : Path) where
   costs m = member_cost o.world ms m (which o ms m)
 
   -- the name of a member that is there is known as far as its keyword has to know its neighbours
-  there_known : (k : Name) (d : Data) → lookup_name k (listed ms) ≡ Some d → IsKnown (known_of ms) ms k
+  pub there_known : (k : Name) (d : Data) → lookup_name k (listed ms) ≡ Some d → IsKnown (known_of ms) ms k
   there_known k d there = ((λ e. (refl, ap is_some there)), λ e. refl)
 
   -- ---- one neighbour

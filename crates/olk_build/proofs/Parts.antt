@@ -165,9 +165,6 @@ refuses_part_own o c k d {a = a} {b} {e} h ms P p known = record {
   spends = within_before a b _ (summed o ms d k (keyword_named o.world k)) (within_same (sym (own_of_keyword o ms d c k known)) h.spends);
 }
 
-pub refuses_part_memory : {K R : Type 0} (o : Kit K R) (c : Known) (k : Name) (d : Data) (L : Path) (a : Counts) {m : AllocError} (e : BuildError) → e ≡ Memory m → RefusesPart o c k d L a a e
-refuses_part_memory o c k d L a e q ms P p known = refuses_memory within_nothing e q
-
 module _ {K R : Type 0} {o : Kit K R} {x : Shape K R} {c : Known} {k : Name} {d : Data} {L : Path} {a m : Counts} (h : IsRead o x c k d L a m) where
   own_spent : (ms : Members) → IsKnown c ms k → Spends a m (owned o ms d (keyword_named o.world k))
   own_spent ms known = spends_same a m _ _ (sym (own_of_keyword o ms d c k known)) h.spends

@@ -1,5 +1,6 @@
 -- What a keyword takes from its neighbours, and what is built of these.
-use Rattle.std.specs.Prelude.{◌≡◌, ⊤, ◌&&◌, Bool, true, false, cond, List, [], ◌∷◌, ◌++◌, map, codes, bytes_eq, Option, Some, None, option_to_list}
+use Rattle.std.specs.Prelude.{◌≡◌, ⊤, ◌&&◌, Bool, true, false, cond, List, [], ◌∷◌, ◌++◌, map, codes, bytes_eq, Option, Some, None, option_to_list, Result, IfOk, IfErr}
+use Rattle.std.specs.Option.{IfSome}
 use Rattle.serde_json.specs.Data.{Data, Members}
 use Rattle.olk_spec.specs.Names.{Name, Path, ◌//◌, lookup_name}
 use Rattle.olk_spec.specs.Schemas.{listed}
@@ -8,8 +9,8 @@ use Rattle.olk_base.specs.Count.{Counts}
 use Rattle.olk_base.specs.Kit.{Kit}
 use Rattle.olk_reports.specs.declared.error.BuildError.{BuildError}
 use Rattle.olk_meaning.specs.AdditionalProperties.{rows_at}
-use Rattle.olk_meaning.specs.Conditions.{known_of, IsKnown}
-use Rattle.olk_meaning.specs.Plans.{Planned, plan_of, head, claims}
+use Rattle.olk_meaning.specs.Conditions.{known_of}
+use Rattle.olk_meaning.specs.Plans.{Planned, plan_of}
 use Rattle.olk_read.specs.Refusing.{Spends, Refuses}
 use Rattle.olk_read.specs.Reading.{reads_of, IsShape, Fits}
 use Rattle.olk_read.specs.declared.shape.Shape.{Shape}
@@ -18,14 +19,12 @@ use Rattle.olk_tree.specs.Answers.{Answers}
 use Rattle.olk_tree.specs.declared.node.KeywordOver.{KeywordOver}
 use Rattle.olk_make.specs.Holding.{all_malformed}
 use Rattle.olk_make.specs.Standing.{StandAt, PartStands, Fills, IsLast, is_taken}
-use Rattle.olk_make.specs.Making.{KeywordsMean, MakesAlone}
-use Rattle.olk_make.specs.Made.{IsMade}
+use Rattle.olk_make.specs.Making.{IsMadeOf}
 use Rattle.olk_make.specs.declared.part.Part.{Part}
 use Rattle.olk_make.specs.declared.part.DeclaredNodes.{DeclaredNodes}
 use Rattle.olk_make.specs.declared.part.Patterns.{Patterns}
 use Rattle.olk_make.specs.declared.part.Taken.{Taken}
-use Rattle.olk_build.specs.Building.{all_cost, RefusesPart}
-use Rattle.olk_build.specs.Placing.{IsPart}
+use Rattle.olk_build.specs.Building.{IsMember, all_cost}
 use Rattle.olk_build.specs.declared.taking.Beside.{Beside}
 
 -- the two neighbours that the keyword of the name k takes: `if` takes `then` and `else`, and `additionalProperties` the keywords that tell members by their names
@@ -105,52 +104,38 @@ module _ {K R N : Type 0} (o : Kit K R) (answers : N → Answers) (ms : Members)
     pub spends : Spends old new (all_cost o ms (rows_taken ms t))
 
 module _ {K R N : Type 0} (o : Kit K R) (answers : N → Answers) where
-  -- keywords that are made of a shape and nodes at L mean what the part's member claims, in each object at P that has this plan and where the neighbours' parts stand for what is taken
-  abbrev pub MakesBeside : Shape K R → Path → List N → Beside K R N → Path → Planned → List (KeywordOver K R N) → Type 0
-  MakesBeside x L ns b P q ks = (ms : Members) (m : Name × Data) → L ≡ P // m.0 → IsShape o m.0 m.1 x → Fits o (known_of ms) x → StandAt o answers (reads_of x) ns m.1 L → BesideFills o answers ms (takes_of x) P b
-      → has_repeat (map (λ m. m.0) (listed ms)) ≡ false → lookup_name m.0 (listed ms) ≡ Some m.1 → q ≡ plan_of ms → is_taken q m.0 ≡ false
-      → KeywordsMean o answers ms ks (claims (head q) (listed ms) m) (m ∷ []) P
+  -- what is made of a shape and nodes at L is made of the part's member, in each object at P that has this plan and where the neighbours' parts stand for what is taken
+  abbrev pub MakesBeside : Shape K R → Path → List N → Beside K R N → Path → Planned → Option (KeywordOver K R N) → Type 0
+  MakesBeside x L ns b P q r = (ms : Members) (m : Name × Data) → L ≡ P // m.0 → IsShape o m.0 m.1 x → Fits o (known_of ms) x → StandAt o answers (reads_of x) ns m.1 L → BesideFills o answers ms (takes_of x) P b
+      → has_repeat (map (λ m. m.0) (listed ms)) ≡ false → IsMember ms m → q ≡ plan_of ms → is_taken q m.0 ≡ false → IsMadeOf o answers ms m P r
 
-  -- what is made of a part, and of what is taken of its neighbours' parts
-  pub record MakesTaking (p : Part K R N) (b : Beside K R N) (P : Path) (q : Planned) (r : Option (KeywordOver K R N)) : Type 0 where
-    pub taken : Taken R N
-    pub takes : TakenBy p.shape b taken
-    pub makes : MakesBeside p.shape p.location p.nodes.items b P q (option_to_list r)
-    pub alone : MakesAlone o answers p.shape p.location p.nodes.items (option_to_list r)
-    pub form : IsMade o answers p.shape p.location p.nodes.items taken P q r
-
-  -- new keywords behind old ones are made of it
+  -- it stands behind the keywords before it
   pub record AppendsTaking (x : Shape K R) (L : Path) (ns : List N) (b : Beside K R N) (P : Path) (q : Planned) (old new : List (KeywordOver K R N)) : Type 0 where
-    pub made : List (KeywordOver K R N)
-    pub behind : new ≡ old ++ made
+    pub made : Option (KeywordOver K R N)
+    pub behind : new ≡ old ++ option_to_list made
     pub makes : MakesBeside x L ns b P q made
 
   -- the same of a part that takes nothing
   pub record AppendsAlone (x : Shape K R) (L : Path) (ns : List N) (P : Path) (q : Planned) (old new : List (KeywordOver K R N)) : Type 0 where
-    pub made : List (KeywordOver K R N)
-    pub behind : new ≡ old ++ made
+    pub made : Option (KeywordOver K R N)
+    pub behind : new ≡ old ++ option_to_list made
     pub makes : takes_of x ≡ None → (b : Beside K R N) → MakesBeside x L ns b P q made
 
-  -- ---- the keyword of the name k and the value d at P, with what it takes from the object with the members ms
+-- ---- the member m of the schema object with the members ms at P, with the members that it takes
 
-  module _ (ms : Members) (k : Name) (d : Data) (P : Path) (old new : Counts) where
-    -- it is made of its part and of its neighbours' parts
-    pub record KeywordIsBuilt (r : Option (KeywordOver K R N)) : Type 0 where
-      pub distinct : has_repeat (map (λ x. x.0) (listed ms)) ≡ false
-      pub part : Part K R N
-      pub beside : Beside K R N
-      pub between : Counts
-      pub is_part : IsPart o answers part (known_of ms) k d (P // k) old between
-      pub are_beside : AreBeside o answers ms (takes_of part.shape) P between new beside
-      pub makes : MakesTaking part beside P (plan_of ms) r
+module _ {K R : Type 0} (o : Kit K R) (ms : Members) (m : Name × Data) (P : Path) (old new : Counts) where
+  pub record MemberIsBuilt {N : Type 0} (answers : N → Answers) (r : Option (KeywordOver K R N)) : Type 0 where
+    pub made : IsMadeOf o answers ms m P r
+    pub clean : all_malformed o ms P (rows_read ms m) ≡ []
+    pub spends : Spends old new (all_cost o ms (rows_read ms m))
 
--- the shapes that this value can have at this name take t
-abbrev pub AllTake : {K R : Type 0} → Kit K R → Members → Name → Data → Option (Name × Name) → Type 0
-AllTake {K} {R} o ms k d t = (x : Shape K R) → IsShape o k d x → Fits o (known_of ms) x → takes_of x ≡ t
+  abbrev pub RefusesMember : BuildError → Type 0
+  RefusesMember e = Refuses (all_malformed o ms P (rows_read ms m)) (all_cost o ms (rows_read ms m)) old new e
 
-module _ {K R : Type 0} (o : Kit K R) (ms : Members) (k : Name) (d : Data) (P : Path) (old new : Counts) where
-  -- what is told where there is none: of itself, if it takes nothing, in each object of which it knows enough, and else of all that is read, in this one
-  pub record RefusesKeyword (e : BuildError) : Type 0 where
-    pub alone : ((x : Shape K R) → IsShape o k d x → takes_of x ≡ None) → RefusesPart o (known_of ms) k d (P // k) old new e
-    pub together : (t : Option (Name × Name)) → AllTake o ms k d t → IsKnown (known_of ms) ms k
-        → Refuses (all_malformed o ms P ((k, d) ∷ rows_taken ms t)) (all_cost o ms ((k, d) ∷ rows_taken ms t)) old new e
+  -- its keyword, or why there is none, if any of these is given
+  abbrev pub GivesMember : {N : Type 0} → (N → Answers) → Option (Result (KeywordOver K R N) BuildError) → Type 0
+  GivesMember answers r = IsMember ms m → IfSome r (λ x. IfOk x (λ k. MemberIsBuilt answers (Some k)) × IfErr x RefusesMember)
+
+-- what is given of the member is of this form
+abbrev pub Gives : {X E : Type 0} → Members → Name × Data → Option (Result X E) → (X → Type 0) → Type 0
+Gives ms m r form = IsMember ms m → IfSome r (λ x. IfOk x form)

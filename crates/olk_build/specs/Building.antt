@@ -1,9 +1,10 @@
 -- What building a node, or a part of one, promises.
-use Rattle.std.specs.Prelude.{◌≡◌, Bool, true, false, not, List, [], ◌++◌}
+use Rattle.std.specs.Prelude.{◌≡◌, Bool, true, false, not, List, [], ◌++◌, Some}
 use Rattle.std.specs.List.{flat_map}
 use Rattle.serde_json.specs.Data.{Data, Members}
-use Rattle.olk_spec.specs.Names.{Name, Path, ◌//◌, filter_once}
+use Rattle.olk_spec.specs.Names.{Name, Path, ◌//◌, lookup_name, filter_once}
 use Rattle.olk_spec.specs.Faults.{Fault}
+use Rattle.olk_spec.specs.Vocabulary.{keyword_named}
 use Rattle.olk_spec.specs.Schemas.{listed, members, is_array}
 use Rattle.olk_spec.specs.Costs.{Cost, cost, total_cost, ◌⊕◌}
 use Rattle.olk_spec.specs.Malformed.{malformations_at}
@@ -13,12 +14,13 @@ use Rattle.olk_base.specs.Kit.{Kit}
 use Rattle.olk_base.specs.declared.pattern.CompiledPattern.{CompiledPattern}
 use Rattle.olk_tree.specs.Answers.{Answers}
 use Rattle.olk_tree.specs.Places.{Stands}
-use Rattle.olk_meaning.specs.Conditions.{Known, is_restricted, IsKnown}
+use Rattle.olk_meaning.specs.Conditions.{Known, IsKnown}
 use Rattle.olk_meaning.specs.Members.{member_malformations, member_cost}
 use Rattle.olk_read.specs.Refusing.{Spends, Refuses}
 use Rattle.olk_read.specs.Patterns.{patterns_wrong, patterns_cost}
 use Rattle.olk_make.specs.Holding.{StandEach, StandInner, which, all_malformed}
 use Rattle.olk_make.specs.Standing.{EntriesStand}
+use Rattle.olk_make.specs.Chooser.{AreChosen}
 use Rattle.olk_make.specs.Making.{ObjectIsMade}
 use Rattle.olk_tree.specs.declared.node.KeywordOver.{KeywordOver}
 
@@ -34,6 +36,10 @@ entries_read false es = es
 abbrev pub is_read : Bool → Data → Bool
 is_read true d = not (is_array d)
 is_read false d = true
+
+-- the member stands in the schema object
+abbrev pub IsMember : Members → Name × Data → Type 0
+IsMember ms m = lookup_name m.0 (listed ms) ≡ Some m.1
 
 module _ {K R : Type 0} (o : Kit K R) where
   -- ---- a node for a schema at a place
@@ -97,6 +103,7 @@ module _ {K R : Type 0} (o : Kit K R) where
     -- keywords for the object
     pub record ObjectIsBuilt {N : Type 0} (answers : N → Answers) (ks : List (KeywordOver K R N)) (P : Path) (old new : Counts) : Type 0 where
       pub mean : ObjectIsMade o answers ms ks P
+      pub chosen : AreChosen ms P (keyword_named o.world) (listed ms) ks
       pub clean : all_malformed o ms P (listed ms) ≡ []
       pub spends : Spends old new (all_cost (listed ms))
 
@@ -107,10 +114,3 @@ module _ {K R : Type 0} (o : Kit K R) where
 
   abbrev pub RefusesPart : Known → Name → Data → Path → Counts → Counts → BuildError → Type 0
   RefusesPart c k d at old new e = (ms : Members) (P : Path) → at ≡ P // k → IsKnown c ms k → Refuses (member_malformations o.world ms (k, d) (which o ms (k, d)) P) (member_cost o.world ms (k, d) (which o ms (k, d))) old new e
-
-  -- the same in each object where nothing is restricted
-  abbrev pub RefusesFreeMember : Name → Data → Path → Counts → Counts → BuildError → Type 0
-  RefusesFreeMember k d at old new e = (ms : Members) (P : Path) → at ≡ P // k → is_restricted ms ≡ false → Refuses (member_malformations o.world ms (k, d) (which o ms (k, d)) P) (member_cost o.world ms (k, d) (which o ms (k, d))) old new e
-
-  abbrev pub RefusesMember : Name → Data → Path → Counts → Counts → BuildError → Type 0
-  RefusesMember k d at old new e = (ms : Members) (P : Path) → at ≡ P // k → Refuses (member_malformations o.world ms (k, d) (which o ms (k, d)) P) (member_cost o.world ms (k, d) (which o ms (k, d))) old new e

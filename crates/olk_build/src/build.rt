@@ -1,5 +1,5 @@
 //! Building nodes from a schema, place by place.
-ghost use Rattle.std.specs.Prelude.{◌≡◌, [], IfOk, IfErr, OnOk, OnErr, decimal};
+ghost use Rattle.std.specs.Prelude.{◌≡◌, [], false, is_none, IfOk, IfErr, OnOk, OnErr, decimal};
 ghost use Rattle.serde_json.specs.View.{view, members_view, items_view};
 ghost use Rattle.olk_spec.specs.Schemas.{listed, numbered};
 ghost use Rattle.olk_spec.specs.Malformed.{items_list, malformations_at};
@@ -7,11 +7,13 @@ ghost use Rattle.olk_spec.specs.Costs.{cost};
 ghost use Rattle.olk_paths.specs.Paths.{one_below};
 ghost use Rattle.olk_base.specs.Kit.{kit, world};
 ghost use Rattle.olk_tree.specs.Places.{Stands};
-ghost use Rattle.olk_build.specs.Building.{IsBuilt, ObjectIsBuilt, AreBuilt, InnerAreBuilt, is_read, entries_read, RefusesSchema, RefusesEach, RefusesInner, RefusesObject, RefusesPart};
+ghost use Rattle.olk_build.specs.Building.{IsMember, IsBuilt, ObjectIsBuilt, AreBuilt, InnerAreBuilt, is_read, entries_read, RefusesSchema, RefusesEach, RefusesInner, RefusesObject, RefusesPart};
 ghost use Rattle.olk_meaning.specs.Conditions.{known, known_of};
 ghost use Rattle.olk_read.specs.Refusing.{TellsOneOf, Spends, SpendsWithin};
 ghost use Rattle.olk_build.specs.Placing.{IsPart, PlacesAreBuilt, RefusesPlaces};
-ghost use Rattle.olk_build.specs.Beside.{takes_of, IsNeighbour, RefusesNeighbour, AreBeside, RefusesBeside, KeywordIsBuilt, RefusesKeyword};
+ghost use Rattle.olk_build.specs.Beside.{takes_of, IsNeighbour, RefusesNeighbour, AreBeside, RefusesBeside, MemberIsBuilt, RefusesMember, GivesMember, Gives};
+ghost use Rattle.olk_make.specs.Chooser.{has_no_validator, HasForm};
+ghost use Rattle.olk_spec.specs.Vocabulary.{keyword_named};
 
 use crate::context::Context;
 use olk_base::{MakeLeaf, MakeRegex, Meter, append, append_all, one};
@@ -346,38 +348,74 @@ fn compile_branches<'a, L: MakeLeaf, M: MakeRegex, N: BuiltNode<L::Leaf, M::Engi
     Ok(nodes)
 }
 
-/// The keyword of this name and value in the object at the context's place, with the neighbours of
-/// the parent that it takes; none where it is not read, or the parent's plan names another for it.
-///
-/// The meter rises by the cost of the keyword and of what it takes, or by a part of it where
-/// nothing is built; the context's place is left as it was.
+/// The keyword of this name and value, a member of the object at the context's place, with the
+/// neighbours that it takes; none where it is not read, or another keyword takes what it holds.
 ///
 /// # Errors
 ///
-/// One of the malformations of the keyword and of what it takes; else out of memory.
-pub fn compile_keyword<'a, L: MakeLeaf, M: MakeRegex, N: BuiltNode<L::Leaf, M::Engine>>(
+/// One of the malformations of the member and of what it takes; else out of memory.
+fn compile_member<'a, L: MakeLeaf, M: MakeRegex, N: BuiltNode<L::Leaf, M::Engine>>(
     alloc: Global,
     ctx: &mut Context<'_, L, M>,
     parent: &'a Map<String, Value>,
     name: &'a str,
     value: &'a Value,
 ) -> Result<Option<KeywordOver<L::Leaf, M::Engine, N>>, BuildError<'a>>
-    ensures built { IfOk result (KeywordIsBuilt (kit L.Leaf.Leaf M.Engine.RegexEngine) N.answers
-        (members_view parent.now.entries) name.now (view value.now) ctx.old.place
-        ctx.old.meter.now ctx.new.meter.now) }
-    ensures refused { IfErr result (RefusesKeyword (kit L.Leaf.Leaf M.Engine.RegexEngine)
-        (members_view parent.now.entries) name.now (view value.now) ctx.old.place
+    ensures built { IsMember (members_view parent.now.entries) (name.now, view value.now)
+        → IfOk result (MemberIsBuilt (kit L.Leaf.Leaf M.Engine.RegexEngine)
+        (members_view parent.now.entries) (name.now, view value.now) ctx.old.place
+        ctx.old.meter.now ctx.new.meter.now N.answers) }
+    ensures refused { IsMember (members_view parent.now.entries) (name.now, view value.now)
+        → IfErr result (RefusesMember (kit L.Leaf.Leaf M.Engine.RegexEngine)
+        (members_view parent.now.entries) (name.now, view value.now) ctx.old.place
         ctx.old.meter.now ctx.new.meter.now) }
     ensures place { ctx.new.place ≡ ctx.old.place }
     ensures same_meter { ctx.new.meter.ghost_name ≡ ctx.old.meter.ghost_name }
 {
     let plan = Plan::of(parent);
+    if is_taken(plan, name) {
+        return Ok(None);
+    }
     let neighbours = Neighbours::of(parent);
     let location = ctx.place.join(alloc, name)?;
     let part = compile_part(alloc, &ctx.makers, ctx.meter, neighbours, location, name, value)?;
     let beside = compile_beside(alloc, &ctx.makers, ctx.meter, &ctx.place, parent, &part.shape)?;
     let keyword = make_taking(alloc, plan, &ctx.place, part, beside)?;
     Ok(keyword)
+}
+
+/// The keyword of this name and value, a member of the object at the context's place, with the
+/// neighbours that it takes; none only where it is not read, or another keyword's validator stands
+/// for it. Of what is no member of the object nothing is said.
+///
+/// The meter rises by the cost of the member and of what it takes, or by a part of it where nothing
+/// is built; the context's place is left as it was.
+///
+/// # Errors
+///
+/// One of the malformations of the member and of what it takes; else out of memory.
+pub fn compile_keyword<'a, L: MakeLeaf, M: MakeRegex, N: BuiltNode<L::Leaf, M::Engine>>(
+    alloc: Global,
+    ctx: &mut Context<'_, L, M>,
+    parent: &'a Map<String, Value>,
+    name: &'a str,
+    value: &'a Value,
+) -> Option<Result<KeywordOver<L::Leaf, M::Engine, N>, BuildError<'a>>>
+    ensures gives { GivesMember (kit L.Leaf.Leaf M.Engine.RegexEngine)
+        (members_view parent.now.entries) (name.now, view value.now) ctx.old.place
+        ctx.old.meter.now ctx.new.meter.now N.answers result }
+    ensures form { Gives (members_view parent.now.entries) (name.now, view value.now) result
+        (HasForm (members_view parent.now.entries) ctx.old.place
+        (keyword_named (world L.Leaf.Leaf M.Engine.RegexEngine) name.now)
+        name.now (view value.now)) }
+    ensures some { IsMember (members_view parent.now.entries) (name.now, view value.now)
+        → has_no_validator (members_view parent.now.entries)
+        (keyword_named (world L.Leaf.Leaf M.Engine.RegexEngine) name.now) (view value.now)
+        ≡ false → is_none result ≡ false }
+    ensures place { ctx.new.place ≡ ctx.old.place }
+    ensures same_meter { ctx.new.meter.ghost_name ≡ ctx.old.meter.ghost_name }
+{
+    compile_member(alloc, ctx, parent, name, value).transpose()
 }
 
 /// The nodes of the entries of an object, each below the keyword of this name at the context's

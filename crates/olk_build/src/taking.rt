@@ -3,7 +3,7 @@ ghost use Rattle.std.specs.Prelude.{◌≡◌, IfOk, OnOk, is_some, option_map};
 ghost use Rattle.olk_base.specs.Kit.{kit};
 ghost use Rattle.olk_meaning.specs.Plans.{planned};
 ghost use Rattle.olk_make.specs.Standing.{is_taken};
-ghost use Rattle.olk_build.specs.Beside.{takes_of, IsNode, IsDeclared, IsPatterns, TakenBy, MakesTaking, AppendsTaking, AppendsAlone};
+ghost use Rattle.olk_build.specs.Beside.{takes_of, IsNode, IsDeclared, IsPatterns, TakenBy, MakesBeside, AppendsTaking, AppendsAlone};
 
 use olk_base::{Leaf, RegexEngine, append};
 use olk_make::{Cases, DeclaredNodes, Part, Patterns, Taken, make_keyword};
@@ -136,8 +136,8 @@ pub fn make_taking<K: Leaf, R: RegexEngine, N: BuiltNode<K, R>>(
     part: Part<K, R, N>,
     beside: Beside<K, R, N>,
 ) -> Result<Option<KeywordOver<K, R, N>>, AllocError>
-    ensures { IfOk result (MakesTaking (kit K.Leaf R.RegexEngine) N.answers part beside
-        place.now (planned plan.entry)) }
+    ensures { IfOk result (MakesBeside (kit K.Leaf R.RegexEngine) N.answers part.shape
+        part.location part.nodes.items beside place.now (planned plan.entry)) }
 {
     let mut taken = taken_of(&part.shape, beside);
     let keyword = make_keyword(alloc, plan, place, &mut taken, part)?;

@@ -1,2 +1,1 @@
-mod Modules
 mod Patterns

@@ -1,10 +1,11 @@
 //! `allOf`: what is compiled of its member of a schema object.
-ghost use Rattle.std.specs.Prelude.{◌≡◌, codes};
-ghost use Rattle.serde_json.specs.View.{view};
+ghost use Rattle.std.specs.Prelude.{◌≡◌, codes, is_none, false};
+ghost use Rattle.serde_json.specs.View.{view, members_view};
 ghost use Rattle.olk_paths.specs.Paths.{one_below};
 ghost use Rattle.olk_base.specs.Kit.{kit};
 ghost use Rattle.olk_make.specs.Forms.{IsAllOf};
-ghost use Rattle.olk_keywords.specs.Parts.{GivesMember, Gives};
+ghost use Rattle.olk_build.specs.Building.{IsMember};
+ghost use Rattle.olk_build.specs.Beside.{GivesMember, Gives};
 
 use olk_base::{Leaf, MakeLeaf, MakeRegex, RegexEngine};
 use olk_build::{Context, compile_keyword};
@@ -29,12 +30,16 @@ pub fn compile<'a, L: MakeLeaf, M: MakeRegex, N: BuiltNode<L::Leaf, M::Engine>>(
     parent: &'a Map<String, Value>,
     schema: &'a Value,
 ) -> Option<Result<KeywordOver<L::Leaf, M::Engine, N>, BuildError<'a>>>
-    ensures gives { GivesMember (kit L.Leaf.Leaf M.Engine.RegexEngine) N.answers (codes "allOf")
-        (view schema.now) ctx.old.place ctx.old.meter.now ctx.new.meter.now result }
-    ensures form { Gives result (IsAllOf (one_below ctx.old.place (codes "allOf"))
+    ensures gives { GivesMember (kit L.Leaf.Leaf M.Engine.RegexEngine)
+        (members_view parent.now.entries) (codes "allOf", view schema.now) ctx.old.place
+        ctx.old.meter.now ctx.new.meter.now N.answers result }
+    ensures form { Gives (members_view parent.now.entries)
+        (codes "allOf", view schema.now) result (IsAllOf (one_below ctx.old.place (codes "allOf"))
         (view schema.now)) }
+    ensures always { IsMember (members_view parent.now.entries) (codes "allOf", view schema.now)
+        → is_none result ≡ false }
     ensures place { ctx.new.place ≡ ctx.old.place }
     ensures same_meter { ctx.new.meter.ghost_name ≡ ctx.old.meter.ghost_name }
 {
-    compile_keyword(alloc, ctx, parent, "allOf", schema).transpose()
+    compile_keyword(alloc, ctx, parent, "allOf", schema)
 }

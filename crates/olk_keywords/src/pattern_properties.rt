@@ -1,14 +1,14 @@
 //! `patternProperties`: what is compiled of its member of a schema object.
 ghost use Rattle.std.specs.Prelude.{◌≡◌, is_none, length, codes, IfOk, IfErr};
-ghost use Rattle.std.specs.Option.{IfSome, IfNone};
+ghost use Rattle.std.specs.Option.{IfNone};
 ghost use Rattle.serde_json.specs.View.{view, members_view};
 ghost use Rattle.olk_spec.specs.Schemas.{listed, members};
 ghost use Rattle.olk_paths.specs.Paths.{one_below};
 ghost use Rattle.olk_base.specs.Kit.{kit};
 ghost use Rattle.olk_meaning.specs.Conditions.{is_restricted};
 ghost use Rattle.olk_make.specs.Forms.{IsPatternProperties};
-ghost use Rattle.olk_build.specs.Building.{PatternsAreBuilt, RefusesPatternEntries};
-ghost use Rattle.olk_keywords.specs.Parts.{BuildsWhereFree, Gives};
+ghost use Rattle.olk_build.specs.Building.{IsMember, PatternsAreBuilt, RefusesPatternEntries};
+ghost use Rattle.olk_build.specs.Beside.{GivesMember, Gives};
 
 use olk_base::{CompiledPattern, Leaf, MakeLeaf, MakeRegex, RegexEngine};
 use olk_build::{Context, compile_declared, compile_keyword};
@@ -37,21 +37,26 @@ pub fn compile<'a, L: MakeLeaf, M: MakeRegex, N: BuiltNode<L::Leaf, M::Engine>>(
     parent: &'a Map<String, Value>,
     schema: &'a Value,
 ) -> Option<Result<KeywordOver<L::Leaf, M::Engine, N>, BuildError<'a>>>
-    ensures gives { IfSome result (BuildsWhereFree (kit L.Leaf.Leaf M.Engine.RegexEngine)
-        N.answers (codes "patternProperties") (view schema.now)
-        ctx.old.place ctx.old.meter.now ctx.new.meter.now) }
-    ensures form { Gives result (IsPatternProperties
+    ensures gives { GivesMember (kit L.Leaf.Leaf M.Engine.RegexEngine)
+        (members_view parent.now.entries) (codes "patternProperties", view schema.now) ctx.old.place
+        ctx.old.meter.now ctx.new.meter.now N.answers result }
+    ensures form { Gives (members_view parent.now.entries)
+        (codes "patternProperties", view schema.now) result (IsPatternProperties
         (one_below ctx.old.place (codes "patternProperties"))
         (length (members (view schema.now)))) }
-    ensures unread { is_none result ≡ is_restricted (members_view parent.now.entries) }
-    ensures unread_at_no_cost { IfNone result (ctx.new.meter.now ≡ ctx.old.meter.now) }
+    ensures unread { IsMember (members_view parent.now.entries) (codes "patternProperties", view
+        schema.now)
+        → is_none result ≡ is_restricted (members_view parent.now.entries) }
+    ensures unread_at_no_cost { IsMember (members_view parent.now.entries) (codes
+        "patternProperties", view schema.now)
+        → IfNone result (ctx.new.meter.now ≡ ctx.old.meter.now) }
     ensures place { ctx.new.place ≡ ctx.old.place }
     ensures same_meter { ctx.new.meter.ghost_name ≡ ctx.old.meter.ghost_name }
 {
     if is_restricted(parent) {
         return None;
     }
-    compile_keyword(alloc, ctx, parent, "patternProperties", schema).transpose()
+    compile_keyword(alloc, ctx, parent, "patternProperties", schema)
 }
 
 /// The patterns, in the order of their bytes, and beside each the node of its subschema, below

@@ -1,6 +1,6 @@
 //! `properties`: what is compiled of its member of a schema object.
 ghost use Rattle.std.specs.Prelude.{◌≡◌, codes, is_none, length, map, IfOk, IfErr};
-ghost use Rattle.std.specs.Option.{IfSome, IfNone};
+ghost use Rattle.std.specs.Option.{IfNone};
 ghost use Rattle.serde_json.specs.View.{view, members_view};
 ghost use Rattle.olk_spec.specs.Schemas.{listed, members};
 ghost use Rattle.olk_paths.specs.Paths.{one_below};
@@ -9,8 +9,8 @@ ghost use Rattle.olk_tree.specs.Maps.{keys_in, nodes_in};
 ghost use Rattle.olk_make.specs.Forms.{IsProperties};
 ghost use Rattle.olk_meaning.specs.Conditions.{is_restricted};
 ghost use Rattle.olk_meaning.specs.Plans.{plan_of};
-ghost use Rattle.olk_build.specs.Building.{AreBuilt, RefusesEach};
-ghost use Rattle.olk_keywords.specs.Parts.{BuildsClaims, Gives};
+ghost use Rattle.olk_build.specs.Building.{IsMember, AreBuilt, RefusesEach};
+ghost use Rattle.olk_build.specs.Beside.{GivesMember, Gives};
 
 use olk_base::{Leaf, MakeLeaf, MakeRegex, RegexEngine};
 use olk_build::{Context, compile_declared, compile_keyword};
@@ -41,21 +41,26 @@ pub fn compile<'a, L: MakeLeaf, M: MakeRegex, N: BuiltNode<L::Leaf, M::Engine>>(
     parent: &'a Map<String, Value>,
     schema: &'a Value,
 ) -> Option<Result<KeywordOver<L::Leaf, M::Engine, N>, BuildError<'a>>>
-    ensures gives { IfSome result (BuildsClaims (kit L.Leaf.Leaf M.Engine.RegexEngine) N.answers
-        (members_view parent.now.entries) (codes "properties") (view schema.now)
-        ctx.old.place ctx.old.meter.now ctx.new.meter.now) }
-    ensures form { Gives result (IsProperties ctx.old.place
+    ensures gives { GivesMember (kit L.Leaf.Leaf M.Engine.RegexEngine)
+        (members_view parent.now.entries) (codes "properties", view schema.now) ctx.old.place
+        ctx.old.meter.now ctx.new.meter.now N.answers result }
+    ensures form { Gives (members_view parent.now.entries)
+        (codes "properties", view schema.now) result (IsProperties ctx.old.place
         (one_below ctx.old.place (codes "properties")) (length (members (view schema.now)))
         (plan_of (members_view parent.now.entries)).fused_pair) }
-    ensures unread { is_none result ≡ is_restricted (members_view parent.now.entries) }
-    ensures unread_at_no_cost { IfNone result (ctx.new.meter.now ≡ ctx.old.meter.now) }
+    ensures unread { IsMember (members_view parent.now.entries) (codes "properties", view
+        schema.now)
+        → is_none result ≡ is_restricted (members_view parent.now.entries) }
+    ensures unread_at_no_cost { IsMember (members_view parent.now.entries) (codes "properties",
+        view schema.now)
+        → IfNone result (ctx.new.meter.now ≡ ctx.old.meter.now) }
     ensures place { ctx.new.place ≡ ctx.old.place }
     ensures same_meter { ctx.new.meter.ghost_name ≡ ctx.old.meter.ghost_name }
 {
     if is_restricted(parent) {
         return None;
     }
-    compile_keyword(alloc, ctx, parent, "properties", schema).transpose()
+    compile_keyword(alloc, ctx, parent, "properties", schema)
 }
 
 /// The declared names, found by bisection, and beside each the node of its subschema, below

@@ -1,11 +1,12 @@
 //! `propertyDependencies`: what is compiled of its member of a schema object.
-ghost use Rattle.std.specs.Prelude.{◌≡◌, map, codes};
-ghost use Rattle.serde_json.specs.View.{view};
+ghost use Rattle.std.specs.Prelude.{◌≡◌, map, codes, is_none, false};
+ghost use Rattle.serde_json.specs.View.{view, members_view};
 ghost use Rattle.olk_spec.specs.Schemas.{members};
 ghost use Rattle.olk_paths.specs.Paths.{one_below};
 ghost use Rattle.olk_base.specs.Kit.{kit};
 ghost use Rattle.olk_make.specs.Forms.{IsPropertyDependencies};
-ghost use Rattle.olk_keywords.specs.Parts.{GivesMember, Gives};
+ghost use Rattle.olk_build.specs.Building.{IsMember};
+ghost use Rattle.olk_build.specs.Beside.{GivesMember, Gives};
 
 use olk_base::{Leaf, MakeLeaf, MakeRegex, RegexEngine};
 use olk_build::{Context, compile_keyword};
@@ -31,15 +32,20 @@ pub fn compile<'a, L: MakeLeaf, M: MakeRegex, N: BuiltNode<L::Leaf, M::Engine>>(
     parent: &'a Map<String, Value>,
     schema: &'a Value,
 ) -> Option<Result<KeywordOver<L::Leaf, M::Engine, N>, BuildError<'a>>>
-    ensures gives { GivesMember (kit L.Leaf.Leaf M.Engine.RegexEngine) N.answers
-        (codes "propertyDependencies") (view schema.now)
-        ctx.old.place ctx.old.meter.now ctx.new.meter.now result }
-    ensures form { Gives result (IsPropertyDependencies
+    ensures gives { GivesMember (kit L.Leaf.Leaf M.Engine.RegexEngine)
+        (members_view parent.now.entries) (codes "propertyDependencies", view schema.now)
+        ctx.old.place
+        ctx.old.meter.now ctx.new.meter.now N.answers result }
+    ensures form { Gives (members_view parent.now.entries)
+        (codes "propertyDependencies", view schema.now) result (IsPropertyDependencies
         (one_below ctx.old.place (codes "propertyDependencies"))
         (map (λ e. e.0) (members (view schema.now)))
         (map (λ e. map (λ c. c.0) (members e.1)) (members (view schema.now)))) }
+    ensures always { IsMember (members_view parent.now.entries) (codes "propertyDependencies", view
+        schema.now)
+        → is_none result ≡ false }
     ensures place { ctx.new.place ≡ ctx.old.place }
     ensures same_meter { ctx.new.meter.ghost_name ≡ ctx.old.meter.ghost_name }
 {
-    compile_keyword(alloc, ctx, parent, "propertyDependencies", schema).transpose()
+    compile_keyword(alloc, ctx, parent, "propertyDependencies", schema)
 }

@@ -1,12 +1,13 @@
 //! `required`: what is compiled of its member of a schema object.
 ghost use Rattle.std.specs.Prelude.{◌≡◌, ◌||◌, codes, is_some, is_none};
-ghost use Rattle.std.specs.Option.{IfSome, IfNone};
+ghost use Rattle.std.specs.Option.{IfNone};
 ghost use Rattle.serde_json.specs.View.{members_view, view};
 ghost use Rattle.olk_paths.specs.Paths.{one_below};
 ghost use Rattle.olk_base.specs.Kit.{kit};
 ghost use Rattle.olk_make.specs.Forms.{IsRequired};
 ghost use Rattle.olk_meaning.specs.Plans.{plan_of};
-ghost use Rattle.olk_keywords.specs.Parts.{Builds, Gives};
+ghost use Rattle.olk_build.specs.Building.{IsMember};
+ghost use Rattle.olk_build.specs.Beside.{GivesMember, Gives};
 
 use olk_base::{Leaf, MakeLeaf, MakeRegex, RegexEngine};
 use olk_build::{Context, compile_keyword};
@@ -33,15 +34,20 @@ pub fn compile<'a, L: MakeLeaf, M: MakeRegex, N: BuiltNode<L::Leaf, M::Engine>>(
     parent: &'a Map<String, Value>,
     schema: &'a Value,
 ) -> Option<Result<KeywordOver<L::Leaf, M::Engine, N>, BuildError<'a>>>
-    ensures gives { IfSome result (Builds (kit L.Leaf.Leaf M.Engine.RegexEngine)
-        N.answers (codes "required")
-        (view schema.now) ctx.old.place ctx.old.meter.now ctx.new.meter.now) }
-    ensures form { Gives result (IsRequired (one_below ctx.old.place (codes "required"))
+    ensures gives { GivesMember (kit L.Leaf.Leaf M.Engine.RegexEngine)
+        (members_view parent.now.entries) (codes "required", view schema.now) ctx.old.place
+        ctx.old.meter.now ctx.new.meter.now N.answers result }
+    ensures form { Gives (members_view parent.now.entries)
+        (codes "required", view schema.now) result (IsRequired (one_below ctx.old.place (codes
+        "required"))
         (view schema.now)) }
-    ensures fused { is_none result
+    ensures fused { IsMember (members_view parent.now.entries) (codes "required", view schema.now)
+        → is_none result
         ≡ (is_some (plan_of (members_view parent.now.entries)).fused_pair
         || is_some (plan_of (members_view parent.now.entries)).fused_one) }
-    ensures fused_at_no_cost { IfNone result (ctx.new.meter.now ≡ ctx.old.meter.now) }
+    ensures fused_at_no_cost { IsMember (members_view parent.now.entries) (codes "required", view
+        schema.now)
+        → IfNone result (ctx.new.meter.now ≡ ctx.old.meter.now) }
     ensures place { ctx.new.place ≡ ctx.old.place }
     ensures same_meter { ctx.new.meter.ghost_name ≡ ctx.old.meter.ghost_name }
 {
@@ -49,5 +55,5 @@ pub fn compile<'a, L: MakeLeaf, M: MakeRegex, N: BuiltNode<L::Leaf, M::Engine>>(
     if plan.fuses() || plan.fused_one().is_some() {
         return None;
     }
-    compile_keyword(alloc, ctx, parent, "required", schema).transpose()
+    compile_keyword(alloc, ctx, parent, "required", schema)
 }

@@ -13,3 +13,4 @@ pub mod AdditionalProperties
 pub mod Makes
 pub mod Taking
 pub mod Made
+pub mod Choosing

@@ -81,9 +81,6 @@ module _ {K R N : Type 0} (o : Kit K R) (answers : N → Answers) where
       (keyword.Not (record { original = original; node = n; location = L }) ∷ [])
   makes_not original L n rest ns e ms m P p s h = by_its_name o answers s.0 p (means_not o answers original n L m.1 s.1 (last_stands o answers rest e h) ms P)
 
-  pub makes_required : (v : Vec (String Global) Global) (L : Path) (ns : List N) → MakesMember o answers (shape.Required v) L ns (keyword.Required (record { required = v; location = L }) ∷ [])
-  makes_required v L ns ms m P p s h = by_its_name o answers s.0 p (means_required o answers v L m.1 s.2 ms P)
-
   pub makes_leaf : (l : K) (L : Path) (ns : List N) → MakesMember o answers (shape.Leaf l) L ns (keyword.Leaf L l ∷ [])
   makes_leaf l L ns ms m P p s h = means_leaf o answers l m.0 L m.1 s.0 s.1 s.2 ms P p
 

@@ -1,5 +1,6 @@
 pub mod Holding
 pub mod Forms
+pub mod Chooser
 pub mod Standing
 pub mod Made
 pub mod Making

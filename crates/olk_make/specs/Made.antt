@@ -13,6 +13,7 @@ use Rattle.olk_read.specs.declared.shape.Shape.{Shape}
 use Rattle.olk_read.specs.declared.shape.Shape.TheVariants as shape
 use Rattle.olk_tree.specs.Answers.{Answers}
 use Rattle.olk_tree.specs.declared.node.KeywordOver.{KeywordOver}
+use Rattle.olk_tree.specs.declared.node.KeywordOver.TheVariants as keyword
 use Rattle.olk_make.specs.Forms.{IsFormOfAllOf, IsFormOfAnyOf, IsFormOfOneOf, IsNot, IsRequiredOver, IsIf, IsProperties, IsPatternProperties, IsAdditionalProperties, IsDependencies, IsPropertyNames, IsPropertyNamesFalse, IsPropertyDependencies}
 use Rattle.olk_make.specs.Standing.{StandAt}
 use Rattle.olk_make.specs.declared.part.Taken.{Taken}
@@ -43,20 +44,6 @@ which_of shape.Unpaired = unread
 which_of (shape.Leaf l) = leaf
 which_of shape.Unread = unread
 
--- the keywords that are named here and whose validators stand for their own members alone
-abbrev pub stands_alone : Keyword → Bool
-stands_alone pattern_properties = true
-stands_alone dependent_required = true
-stands_alone dependent_schemas = true
-stands_alone dependencies = true
-stands_alone property_names = true
-stands_alone property_dependencies = true
-stands_alone all_of = true
-stands_alone any_of = true
-stands_alone one_of = true
-stands_alone not_keyword = true
-stands_alone w = false
-
 module _ {K R N : Type 0} (o : Kit K R) (answers : N → Answers) where
   -- a keyword that is made of a shape and nodes at L has the keys of each value whose part these are
   abbrev pub MakesDependencies : Shape K R → Path → List N → KeywordOver K R N → Type 0
@@ -80,7 +67,7 @@ module _ {K R N : Type 0} (o : Kit K R) (answers : N → Answers) where
     MakesForm shape.NoOthers k = MakesOthers false k
     MakesForm shape.PropertyNames k = IsPropertyNames L k
     MakesForm shape.NoNames k = IsPropertyNamesFalse L k
-    MakesForm (shape.Required v) k = IsRequiredOver v L k
+    MakesForm (shape.Required v) k = ((is_some p.fused_pair || is_some p.fused_one) ≡ false) × IsRequiredOver v L k
     MakesForm (shape.DependentRequired n v) k = MakesDependencies (shape.DependentRequired n v) L [] k
     MakesForm (shape.DependentSchemas n) k = MakesDependencies (shape.DependentSchemas n) L ns k
     MakesForm (shape.Dependencies n v) k = MakesDependencies (shape.Dependencies n v) L ns k
@@ -90,7 +77,8 @@ module _ {K R N : Type 0} (o : Kit K R) (answers : N → Answers) where
     MakesForm shape.OneOf k = IsFormOfOneOf L ns k
     MakesForm (shape.Not v) k = IsNot L (view v) k
     MakesForm shape.If k = IsIf L (is_some t.cases.then_schema) (is_some t.cases.else_schema) k
-    MakesForm x k = ⊤
+    MakesForm (shape.Leaf l) k = k ≡ keyword.Leaf L l
+    MakesForm x k = ⊥
 
     -- when none is made
     abbrev pub MakesNone : Shape K R → Type 0

@@ -1,5 +1,5 @@
 -- What making the validators of a schema object from its parts promises.
-use Rattle.std.specs.Prelude.{◌≡◌, true, false, Bool, List, [], ◌∷◌, ◌++◌, map, codes, Option, Some}
+use Rattle.std.specs.Prelude.{◌≡◌, true, false, Bool, List, [], ◌∷◌, ◌++◌, map, codes, Option, Some, option_to_list}
 use Rattle.std.specs.List.{flat_map}
 use Rattle.serde_json.specs.Data.{Data, Members}
 use Rattle.olk_spec.specs.Names.{Name, Path, ◌//◌, lookup_name}
@@ -14,11 +14,10 @@ use Rattle.olk_meaning.specs.Conditions.{is_condition, known_of}
 use Rattle.olk_tree.specs.Answers.{Answers}
 use Rattle.olk_tree.specs.Places.{Stands}
 use Rattle.olk_read.specs.Reading.{reads_of, IsShape, Fits}
+use Rattle.olk_make.specs.Chooser.{IsChosen}
 use Rattle.olk_make.specs.Standing.{StandAt, is_taken, is_if_shape, is_restriction_shape, RestStands, CasesStand, BesideStands}
-use Rattle.olk_make.specs.Made.{which_of, stands_alone}
 use Rattle.olk_make.specs.declared.part.Cases.{Cases}
 use Rattle.olk_make.specs.declared.part.Beside.{Beside}
-use Rattle.olk_make.specs.declared.part.Part.{Part}
 use Rattle.olk_make.specs.declared.part.Taken.{Taken}
 use Rattle.olk_read.specs.declared.shape.Shape.{Shape}
 
@@ -69,6 +68,7 @@ module _ {K R N : Type 0} (o : Kit K R) (answers : N → Answers) where
       → has_repeat (map (λ m. m.0) (listed ms)) ≡ false → lookup_name m.0 (listed ms) ≡ Some m.1 → p ≡ plan_of ms → is_taken p m.0 ≡ false
       → KeywordsMean ms ks (claims (head p) (listed ms) m) (m ∷ []) P
 
-  -- keywords that are made of a part of a keyword that has no neighbours mean its member in each object
-  abbrev pub MakesAlone : Shape K R → Path → List N → List (KeywordOver K R N) → Type 0
-  MakesAlone x L ns ks = stands_alone (which_of x) ≡ true → MakesMember x L ns ks
+  -- what is made of the member m of the schema object with the members ms at P: it means all that the member's validator stands for, and is that validator
+  pub record IsMadeOf (ms : Members) (m : Name × Data) (P : Path) (r : Option (KeywordOver K R N)) : Type 0 where
+    pub means : KeywordsMean ms (option_to_list r) (claims (head (plan_of ms)) (listed ms) m) (m ∷ []) P
+    pub chosen : IsChosen ms P (which o ms m) m r

@@ -2,7 +2,7 @@
 ghost use Rattle.std.specs.Prelude.{option_to_list, IfOk};
 ghost use Rattle.olk_base.specs.Kit.{kit};
 ghost use Rattle.olk_meaning.specs.Plans.{planned};
-ghost use Rattle.olk_make.specs.Making.{MakesPart, MakesAlone};
+ghost use Rattle.olk_make.specs.Making.{MakesPart};
 ghost use Rattle.olk_make.specs.Made.{IsMade};
 
 use crate::part::{Part, Taken};
@@ -35,8 +35,6 @@ pub fn make_keyword<K: Leaf, R: RegexEngine, N: BuiltNode<K, R>>(
     ensures makes { IfOk result (λ o. MakesPart (kit K.Leaf R.RegexEngine) N.answers part.shape
         part.location part.nodes.items taken.old place.now (planned plan.entry)
         (option_to_list o)) }
-    ensures alone { IfOk result (λ o. MakesAlone (kit K.Leaf R.RegexEngine) N.answers part.shape
-        part.location part.nodes.items (option_to_list o)) }
     ensures form { IfOk result (IsMade (kit K.Leaf R.RegexEngine) N.answers part.shape
         part.location part.nodes.items taken.old place.now (planned plan.entry)) }
 {

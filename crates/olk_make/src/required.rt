@@ -1,5 +1,5 @@
 //! `required`: making its validator.
-ghost use Rattle.std.specs.Prelude.{◌≡◌, ◌||◌, true, is_some, option_to_list};
+ghost use Rattle.std.specs.Prelude.{◌≡◌, ◌||◌, true, false, is_some, option_to_list};
 ghost use Rattle.std.specs.Option.{IfSome, IfNone};
 ghost use Rattle.olk_spec.specs.Names.{Path};
 ghost use Rattle.olk_base.specs.Kit.{kit};
@@ -25,7 +25,9 @@ pub fn make<K: Leaf, R: RegexEngine, N: BuiltNode<K, R>>(
 ) -> Option<KeywordOver<K, R, N>>
     ensures none { IfNone result ((is_some (planned plan.entry).fused_pair
         || is_some (planned plan.entry).fused_one) ≡ true) }
-    ensures form { IfSome result (IsRequiredOver required location) }
+    ensures form { IfSome result (λ k. ((is_some (planned plan.entry).fused_pair
+        || is_some (planned plan.entry).fused_one) ≡ false)
+        × IsRequiredOver required location k) }
     ensures makes { (P : Path) → MakesClaims (kit K.Leaf R.RegexEngine)
         N.answers (shape.Required required)
         location nodes.items P (planned plan.entry) (option_to_list result) }

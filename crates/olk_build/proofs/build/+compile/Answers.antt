@@ -4,7 +4,7 @@ use Rattle.olk_build.proofs.Places.{no_object_no_members, no_array_no_items, non
 use Rattle.olk_read.specs.declared.shape.ReadPlaces.TheVariants.{Nothing, Entries, SchemaEntries, InnerEntries, Branches}
 use Rattle.std.proofs.Common.{arith, rules, true, false, inl, inr, ◌++◌, [], ◌∷◌, map, refl, sym, ap, subst, ◌≡◌, ◌∙◌}
 use Rattle.olk_meaning.specs.Conditions.{known}
-use Rattle.std.proofs.lemmas.List.{append_assoc}
+use Rattle.std.proofs.lemmas.List.{append-nil, append_assoc}
 use Rattle.serde_json.specs.View.{view, members_view}
 use Rattle.serde_json.proofs.Views.{view-Object, view-Array}
 use Rattle.serde_json.specs.declared.value.Value.{the_lemmas as value_lemmas}
@@ -26,7 +26,8 @@ use Rattle.olk_meaning.specs.Plans.{planned}
 use Rattle.olk_make.specs.Standing.{is_taken}
 use Rattle.olk_build.proofs.Found.{member_lookup}
 use Rattle.olk_build.proofs.Neighbouring.{neighbour_refused, no_neighbour, neighbour_built, both_beside, first_beside_refused, second_beside_refused}
-use Rattle.olk_build.proofs.Keywords.{no_keywords_so_far, keywords_memory, object_is_built, past_taken, part_refused, beside_refused, appending_memory, one_more_read, alone_memory, one_more_alone}
+use Rattle.olk_build.proofs.Keywords.{no_keywords_so_far, keywords_memory, object_is_built, next_found, next_taken, next_refused, one_more}
+use Rattle.olk_build.proofs.Member.{part_refused, beside_refused, read_memory, member_built, taken_built, alone_memory, alone_built}
 use Rattle.olk_build.proofs.build.+compile.Goals as goal
 
 pub compile_entries-returns-in_err-nodes-clause-refused : goal.compile_entries-returns-in_err-nodes-clause-refused
@@ -295,16 +296,16 @@ compile_object-compile_part-requires g t c κs within =
 
 pub compile_object-returns-in_err-part-clause-refused : goal.compile_object-returns-in_err-part-clause-refused
 compile_object-returns-in_err-part-clause-refused g t c =
-    exit_with _ _ _ c.from_residual-in_err-part.ensures.1 (part_refused c.loop-name.invariant.so_far (listed_alike c.in-Some.ensures.steps) (subst (λ x. c.is_taken.result ≡ is_taken (planned c.of-plan.result) x) c.as_str-name.ensures.value c.is_taken.ensures) c.if-not-is_taken.true c.of-neighbours.ensures (below _ c.in_ok-location.ensures c.as_str-name.ensures.value) c.as_str-name.ensures.value c.in_err-part.ensures.refused)
+    exit_with _ _ _ c.from_residual-in_err-part.ensures.1 (next_refused c.loop-name.invariant.so_far (listed_alike c.in-Some.ensures.steps) (part_refused (kit g.L.Leaf.Leaf g.M.Engine.RegexEngine) g.N.BuiltNode.answers (members_view c.args.members.now.entries) c.args.place.now _ _ _ (next_taken c.loop-name.invariant.so_far (listed_alike c.in-Some.ensures.steps) (subst (λ x. c.is_taken.result ≡ is_taken (planned c.of-plan.result) x) c.as_str-name.ensures.value c.is_taken.ensures) c.if-not-is_taken.true) (next_found c.loop-name.invariant.so_far (listed_alike c.in-Some.ensures.steps)) c.of-neighbours.ensures (below _ c.in_ok-location.ensures c.as_str-name.ensures.value) c.as_str-name.ensures.value c.in_err-part.ensures.refused))
 
 pub compile_object-returns-in_err-beside-clause-refused : goal.compile_object-returns-in_err-beside-clause-refused
 compile_object-returns-in_err-beside-clause-refused g t c =
-    exit_with _ _ _ c.from_residual-in_err-beside.ensures.1 (beside_refused c.loop-name.invariant.so_far (listed_alike c.in-Some.ensures.steps) (subst (λ x. c.is_taken.result ≡ is_taken (planned c.of-plan.result) x) c.as_str-name.ensures.value c.is_taken.ensures) c.if-not-is_taken.true c.of-neighbours.ensures (below _ c.in_ok-location.ensures c.as_str-name.ensures.value) c.as_str-name.ensures.value c.in_ok-part.ensures.built c.in_err-beside.ensures.refused)
+    exit_with _ _ _ c.from_residual-in_err-beside.ensures.1 (next_refused c.loop-name.invariant.so_far (listed_alike c.in-Some.ensures.steps) (beside_refused (kit g.L.Leaf.Leaf g.M.Engine.RegexEngine) g.N.BuiltNode.answers (members_view c.args.members.now.entries) c.args.place.now _ _ _ (next_taken c.loop-name.invariant.so_far (listed_alike c.in-Some.ensures.steps) (subst (λ x. c.is_taken.result ≡ is_taken (planned c.of-plan.result) x) c.as_str-name.ensures.value c.is_taken.ensures) c.if-not-is_taken.true) (next_found c.loop-name.invariant.so_far (listed_alike c.in-Some.ensures.steps)) c.of-neighbours.ensures (below _ c.in_ok-location.ensures c.as_str-name.ensures.value) c.as_str-name.ensures.value c.in_ok-part.ensures.built c.in_err-beside.ensures.refused))
 
 pub compile_object-loop-name-preserved-in-Continue-branch-5 : goal.compile_object-loop-name-preserved-in-Continue-branch-5
 compile_object-loop-name-preserved-in-Continue-branch-5 g t c =
     record {
-      so_far = one_more_read c.loop-name.invariant.so_far (listed_alike c.in-Some.ensures.steps) (subst (λ x. c.is_taken.result ≡ is_taken (planned c.of-plan.result) x) c.as_str-name.ensures.value c.is_taken.ensures) c.if-not-is_taken.true c.of-neighbours.ensures (below _ c.in_ok-location.ensures c.as_str-name.ensures.value) c.as_str-name.ensures.value c.in_ok-part.ensures.built c.in_ok-beside.ensures.built c.in_ok-append_taking.ensures;
+      so_far = one_more c.loop-name.invariant.so_far (listed_alike c.in-Some.ensures.steps) (member_built (kit g.L.Leaf.Leaf g.M.Engine.RegexEngine) g.N.BuiltNode.answers (members_view c.args.members.now.entries) c.args.place.now _ _ _ (next_taken c.loop-name.invariant.so_far (listed_alike c.in-Some.ensures.steps) (subst (λ x. c.is_taken.result ≡ is_taken (planned c.of-plan.result) x) c.as_str-name.ensures.value c.is_taken.ensures) c.if-not-is_taken.true) (next_found c.loop-name.invariant.so_far (listed_alike c.in-Some.ensures.steps)) c.of-neighbours.ensures (below _ c.in_ok-location.ensures c.as_str-name.ensures.value) c.as_str-name.ensures.value c.in_ok-part.ensures.built c.in_ok-beside.ensures.built c.loop-name.invariant.so_far.distinct c.loop-name.invariant.so_far.plan c.in_ok-append_taking.ensures.makes) c.in_ok-append_taking.ensures.behind;
       before = c.loop-name.invariant.before ++ (c.in-Some.name.now, c.in-Some.value.now) ∷ [];
       entries = append_assoc c.loop-name.invariant.before ((c.in-Some.name.now, c.in-Some.value.now) ∷ []) c.next.new.self
           ∙ ap (λ l. c.loop-name.invariant.before ++ l) (sym c.in-Some.ensures.steps) ∙ c.loop-name.invariant.entries;
@@ -314,16 +315,16 @@ compile_object-loop-name-preserved-in-Continue-branch-5 g t c =
 
 pub compile_object-returns-in_err-append_taking-clause-refused : goal.compile_object-returns-in_err-append_taking-clause-refused
 compile_object-returns-in_err-append_taking-clause-refused g t c =
-    exit _ _ _ c.from_residual-in_err-append_taking.ensures.1 (appending_memory c.loop-name.invariant.so_far (listed_alike c.in-Some.ensures.steps) (subst (λ x. c.is_taken.result ≡ is_taken (planned c.of-plan.result) x) c.as_str-name.ensures.value c.is_taken.ensures) c.if-not-is_taken.true c.of-neighbours.ensures (below _ c.in_ok-location.ensures c.as_str-name.ensures.value) c.as_str-name.ensures.value c.in_ok-part.ensures.built c.in_ok-beside.ensures.built)
+    exit _ _ _ c.from_residual-in_err-append_taking.ensures.1 (λ e q. next_refused c.loop-name.invariant.so_far (listed_alike c.in-Some.ensures.steps) (read_memory (kit g.L.Leaf.Leaf g.M.Engine.RegexEngine) g.N.BuiltNode.answers (members_view c.args.members.now.entries) c.args.place.now _ _ _ (next_taken c.loop-name.invariant.so_far (listed_alike c.in-Some.ensures.steps) (subst (λ x. c.is_taken.result ≡ is_taken (planned c.of-plan.result) x) c.as_str-name.ensures.value c.is_taken.ensures) c.if-not-is_taken.true) (next_found c.loop-name.invariant.so_far (listed_alike c.in-Some.ensures.steps)) c.of-neighbours.ensures (below _ c.in_ok-location.ensures c.as_str-name.ensures.value) c.as_str-name.ensures.value c.in_ok-part.ensures.built c.in_ok-beside.ensures.built e q))
 
 pub compile_object-returns-in_err-append_alone-clause-refused : goal.compile_object-returns-in_err-append_alone-clause-refused
 compile_object-returns-in_err-append_alone-clause-refused g t c =
-    exit _ _ _ c.from_residual-in_err-append_alone.ensures.1 (alone_memory c.loop-name.invariant.so_far (listed_alike c.in-Some.ensures.steps) (subst (λ x. c.is_taken.result ≡ is_taken (planned c.of-plan.result) x) c.as_str-name.ensures.value c.is_taken.ensures) c.if-not-is_taken.true c.of-neighbours.ensures (below _ c.in_ok-location.ensures c.as_str-name.ensures.value) c.as_str-name.ensures.value c.in_ok-part.ensures.built c.takes_any.ensures c.if-takes_any.false)
+    exit _ _ _ c.from_residual-in_err-append_alone.ensures.1 (λ e q. next_refused c.loop-name.invariant.so_far (listed_alike c.in-Some.ensures.steps) (alone_memory (kit g.L.Leaf.Leaf g.M.Engine.RegexEngine) g.N.BuiltNode.answers (members_view c.args.members.now.entries) c.args.place.now _ _ _ (next_taken c.loop-name.invariant.so_far (listed_alike c.in-Some.ensures.steps) (subst (λ x. c.is_taken.result ≡ is_taken (planned c.of-plan.result) x) c.as_str-name.ensures.value c.is_taken.ensures) c.if-not-is_taken.true) (next_found c.loop-name.invariant.so_far (listed_alike c.in-Some.ensures.steps)) c.of-neighbours.ensures (below _ c.in_ok-location.ensures c.as_str-name.ensures.value) c.as_str-name.ensures.value c.in_ok-part.ensures.built c.takes_any.ensures c.if-takes_any.false e q))
 
 pub compile_object-loop-name-preserved-in-Continue-branch-6 : goal.compile_object-loop-name-preserved-in-Continue-branch-6
 compile_object-loop-name-preserved-in-Continue-branch-6 g t c =
     record {
-      so_far = one_more_alone c.loop-name.invariant.so_far (listed_alike c.in-Some.ensures.steps) (subst (λ x. c.is_taken.result ≡ is_taken (planned c.of-plan.result) x) c.as_str-name.ensures.value c.is_taken.ensures) c.if-not-is_taken.true c.of-neighbours.ensures (below _ c.in_ok-location.ensures c.as_str-name.ensures.value) c.as_str-name.ensures.value c.in_ok-part.ensures.built c.takes_any.ensures c.if-takes_any.false c.in_ok-append_alone.ensures;
+      so_far = one_more c.loop-name.invariant.so_far (listed_alike c.in-Some.ensures.steps) (alone_built (kit g.L.Leaf.Leaf g.M.Engine.RegexEngine) g.N.BuiltNode.answers (members_view c.args.members.now.entries) c.args.place.now _ _ _ (next_taken c.loop-name.invariant.so_far (listed_alike c.in-Some.ensures.steps) (subst (λ x. c.is_taken.result ≡ is_taken (planned c.of-plan.result) x) c.as_str-name.ensures.value c.is_taken.ensures) c.if-not-is_taken.true) (next_found c.loop-name.invariant.so_far (listed_alike c.in-Some.ensures.steps)) c.of-neighbours.ensures (below _ c.in_ok-location.ensures c.as_str-name.ensures.value) c.as_str-name.ensures.value c.in_ok-part.ensures.built c.takes_any.ensures c.if-takes_any.false c.loop-name.invariant.so_far.distinct c.loop-name.invariant.so_far.plan c.in_ok-append_alone.ensures.makes) c.in_ok-append_alone.ensures.behind;
       before = c.loop-name.invariant.before ++ (c.in-Some.name.now, c.in-Some.value.now) ∷ [];
       entries = append_assoc c.loop-name.invariant.before ((c.in-Some.name.now, c.in-Some.value.now) ∷ []) c.next.new.self
           ∙ ap (λ l. c.loop-name.invariant.before ++ l) (sym c.in-Some.ensures.steps) ∙ c.loop-name.invariant.entries;
@@ -334,7 +335,7 @@ compile_object-loop-name-preserved-in-Continue-branch-6 g t c =
 pub compile_object-loop-name-preserved : goal.compile_object-loop-name-preserved
 compile_object-loop-name-preserved g t c =
     record {
-      so_far = past_taken c.loop-name.invariant.so_far (listed_alike c.in-Some.ensures.steps) (subst (λ x. c.is_taken.result ≡ is_taken (planned c.of-plan.result) x) c.as_str-name.ensures.value c.is_taken.ensures) c.if-not-is_taken.false;
+      so_far = one_more c.loop-name.invariant.so_far (listed_alike c.in-Some.ensures.steps) (taken_built (kit g.L.Leaf.Leaf g.M.Engine.RegexEngine) g.N.BuiltNode.answers (members_view c.args.members.now.entries) c.args.place.now _ _ _ (next_taken c.loop-name.invariant.so_far (listed_alike c.in-Some.ensures.steps) (subst (λ x. c.is_taken.result ≡ is_taken (planned c.of-plan.result) x) c.as_str-name.ensures.value c.is_taken.ensures) c.if-not-is_taken.false)) (sym (append-nil _));
       before = c.loop-name.invariant.before ++ (c.in-Some.name.now, c.in-Some.value.now) ∷ [];
       entries = append_assoc c.loop-name.invariant.before ((c.in-Some.name.now, c.in-Some.value.now) ∷ []) c.next.new.self
           ∙ ap (λ l. c.loop-name.invariant.before ++ l) (sym c.in-Some.ensures.steps) ∙ c.loop-name.invariant.entries;

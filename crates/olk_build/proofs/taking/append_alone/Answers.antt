@@ -1,4 +1,4 @@
-use Rattle.std.proofs.Common.{[], ◌∷◌}
+use Rattle.std.proofs.Common.{Some}
 use Rattle.std.proofs.lemmas.Result.{on_ok_weaker}
 use Rattle.olk_base.specs.Kit.{kit}
 use Rattle.olk_tree.specs.declared.node.KeywordOver.TheVariants.{Leaf}
@@ -8,7 +8,7 @@ use Rattle.olk_build.proofs.taking.append_alone.Goals as goal
 pub returns-in-Leaf : goal.returns-in-Leaf
 returns-in-Leaf g c =
     on_ok_weaker c.append.result (λ e. record {
-      made = Leaf c.args.part.location c.in-Leaf.leaf ∷ [];
+      made = Some (Leaf c.args.part.location c.in-Leaf.leaf);
       behind = e;
       makes = λ none b. makes_leaf_beside (kit g.K.Leaf g.R.RegexEngine) g.N.BuiltNode.answers c.in-Leaf.leaf c.args.part.nodes.items b c.in-Leaf.is;
     }) c.append.ensures.items

@@ -7,7 +7,7 @@ use Rattle.olk_make.proofs.AdditionalProperties.{part_of_rest, part_of_no_others
 use Rattle.olk_make.proofs.Makes.{neighbours, part_of_claims, part_of_shape, part_of_alone, part_of_own, patterns_claim_own, without_nodes, makes_leaf, makes_unread}
 use Rattle.olk_make.proofs.PropertyNames.{makes_any_names}
 use Rattle.olk_make.proofs.Conditions.{part_of_if, part_of_then, part_of_else, part_of_unpaired}
-use Rattle.olk_make.proofs.Made.{alone_own, not_alone, is_made}
+use Rattle.olk_make.proofs.Made.{is_made}
 use Rattle.olk_make.proofs.making.make_keyword.Goals as goal
 
 pub returns-in-AllOf-clause-makes : goal.returns-in-AllOf-clause-makes
@@ -105,57 +105,25 @@ returns-in_ok-make-in-PatternProperties-clause-makes g c =
     part_of_claims _ _ c.args.part.shape c.args.part.nodes.items c.args.taken.now
     (patterns_claim_own _ _ c.args.part.nodes.items c.in-PatternProperties.is (c.in_ok-make-in-PatternProperties.ensures.makes c.in-PatternProperties._table))
 
-pub returns-in-AllOf-clause-alone : goal.returns-in-AllOf-clause-alone
-returns-in-AllOf-clause-alone g c =
-    alone_own _ _ c.in-AllOf.is c.args.part.location c.args.part.nodes.items c.make-in-AllOf.ensures.makes
-
 pub returns-in-AllOf-clause-form : goal.returns-in-AllOf-clause-form
 returns-in-AllOf-clause-form g c =
     is_made (kit g.K.Leaf g.R.RegexEngine) g.N.BuiltNode.answers c.in-AllOf.is c.args.part.location c.args.place.now c.args.part.nodes.items c.args.taken.now (planned c.args.plan) (Some c.make-in-AllOf.result) c.make-in-AllOf.ensures.form
-
-pub returns-in-AnyOf-clause-alone : goal.returns-in-AnyOf-clause-alone
-returns-in-AnyOf-clause-alone g c =
-    alone_own _ _ c.in-AnyOf.is c.args.part.location c.args.part.nodes.items c.make-in-AnyOf.ensures.makes
 
 pub returns-in-AnyOf-clause-form : goal.returns-in-AnyOf-clause-form
 returns-in-AnyOf-clause-form g c =
     is_made (kit g.K.Leaf g.R.RegexEngine) g.N.BuiltNode.answers c.in-AnyOf.is c.args.part.location c.args.place.now c.args.part.nodes.items c.args.taken.now (planned c.args.plan) (Some c.make-in-AnyOf.result) c.make-in-AnyOf.ensures.form
 
-pub returns-in-OneOf-clause-alone : goal.returns-in-OneOf-clause-alone
-returns-in-OneOf-clause-alone g c =
-    alone_own _ _ c.in-OneOf.is c.args.part.location c.args.part.nodes.items c.make-in-OneOf.ensures.makes
-
 pub returns-in-OneOf-clause-form : goal.returns-in-OneOf-clause-form
 returns-in-OneOf-clause-form g c =
     is_made (kit g.K.Leaf g.R.RegexEngine) g.N.BuiltNode.answers c.in-OneOf.is c.args.part.location c.args.place.now c.args.part.nodes.items c.args.taken.now (planned c.args.plan) (Some c.make-in-OneOf.result) c.make-in-OneOf.ensures.form
-
-pub returns-in-NoNames-clause-alone : goal.returns-in-NoNames-clause-alone
-returns-in-NoNames-clause-alone g c =
-    alone_own _ _ c.in-NoNames.is c.args.part.location c.args.part.nodes.items (without_nodes _ _ NoNames c.args.part.location c.args.part.nodes.items _ refl c.make_false.ensures.makes)
 
 pub returns-in-NoNames-clause-form : goal.returns-in-NoNames-clause-form
 returns-in-NoNames-clause-form g c =
     is_made (kit g.K.Leaf g.R.RegexEngine) g.N.BuiltNode.answers c.in-NoNames.is c.args.part.location c.args.place.now c.args.part.nodes.items c.args.taken.now (planned c.args.plan) (Some c.make_false.result) c.make_false.ensures.form
 
-pub returns-in-AnyNames-clause-alone : goal.returns-in-AnyNames-clause-alone
-returns-in-AnyNames-clause-alone g c =
-    alone_own _ _ c.in-AnyNames.is c.args.part.location c.args.part.nodes.items (makes_any_names _ _ c.args.part.location c.args.part.nodes.items)
-
 pub returns-in-AnyNames-clause-form : goal.returns-in-AnyNames-clause-form
 returns-in-AnyNames-clause-form g c =
     is_made (kit g.K.Leaf g.R.RegexEngine) g.N.BuiltNode.answers c.in-AnyNames.is c.args.part.location c.args.place.now c.args.part.nodes.items c.args.taken.now (planned c.args.plan) None tt
-
-pub returns-in-Leaf-clause-alone : goal.returns-in-Leaf-clause-alone
-returns-in-Leaf-clause-alone g c =
-    not_alone _ _ c.in-Leaf.is c.args.part.location c.args.part.nodes.items _ refl
-
-pub returns-in-Unread-clause-alone : goal.returns-in-Unread-clause-alone
-returns-in-Unread-clause-alone g c =
-    not_alone _ _ c.in-Unread.is c.args.part.location c.args.part.nodes.items _ refl
-
-pub returns-in-AnyOthers-clause-alone : goal.returns-in-AnyOthers-clause-alone
-returns-in-AnyOthers-clause-alone g c =
-    not_alone _ _ c.in-AnyOthers.is c.args.part.location c.args.part.nodes.items _ refl
 
 pub returns-in-Unread-clause-form : goal.returns-in-Unread-clause-form
 returns-in-Unread-clause-form g c =
@@ -165,70 +133,30 @@ pub returns-in-AnyOthers-clause-form : goal.returns-in-AnyOthers-clause-form
 returns-in-AnyOthers-clause-form g c =
     is_made (kit g.K.Leaf g.R.RegexEngine) g.N.BuiltNode.answers c.in-AnyOthers.is c.args.part.location c.args.place.now c.args.part.nodes.items c.args.taken.now (planned c.args.plan) None tt
 
-pub returns-in-Required-clause-alone : goal.returns-in-Required-clause-alone
-returns-in-Required-clause-alone g c =
-    not_alone _ _ c.in-Required.is c.args.part.location c.args.part.nodes.items _ refl
-
-pub returns-in_ok-make_schemas-in-DependentSchemas-clause-alone : goal.returns-in_ok-make_schemas-in-DependentSchemas-clause-alone
-returns-in_ok-make_schemas-in-DependentSchemas-clause-alone g c =
-    alone_own _ _ c.in-DependentSchemas.is c.args.part.location c.args.part.nodes.items c.in_ok-make_schemas-in-DependentSchemas.ensures.makes
-
 pub returns-in_ok-make_schemas-in-DependentSchemas-clause-form : goal.returns-in_ok-make_schemas-in-DependentSchemas-clause-form
 returns-in_ok-make_schemas-in-DependentSchemas-clause-form g c =
     is_made (kit g.K.Leaf g.R.RegexEngine) g.N.BuiltNode.answers c.in-DependentSchemas.is c.args.part.location c.args.place.now c.args.part.nodes.items c.args.taken.now (planned c.args.plan) (Some c.in_ok-make_schemas-in-DependentSchemas.field-0) c.in_ok-make_schemas-in-DependentSchemas.ensures.form
-
-pub returns-in_ok-make-in-Dependencies-clause-alone : goal.returns-in_ok-make-in-Dependencies-clause-alone
-returns-in_ok-make-in-Dependencies-clause-alone g c =
-    alone_own _ _ c.in-Dependencies.is c.args.part.location c.args.part.nodes.items c.in_ok-make-in-Dependencies.ensures.makes
 
 pub returns-in_ok-make-in-Dependencies-clause-form : goal.returns-in_ok-make-in-Dependencies-clause-form
 returns-in_ok-make-in-Dependencies-clause-form g c =
     is_made (kit g.K.Leaf g.R.RegexEngine) g.N.BuiltNode.answers c.in-Dependencies.is c.args.part.location c.args.place.now c.args.part.nodes.items c.args.taken.now (planned c.args.plan) (Some c.in_ok-make-in-Dependencies.field-0) c.in_ok-make-in-Dependencies.ensures.form
 
-pub returns-in_ok-make-in-PropertyDependencies-clause-alone : goal.returns-in_ok-make-in-PropertyDependencies-clause-alone
-returns-in_ok-make-in-PropertyDependencies-clause-alone g c =
-    alone_own _ _ c.in-PropertyDependencies.is c.args.part.location c.args.part.nodes.items c.in_ok-make-in-PropertyDependencies.ensures.makes
-
 pub returns-in_ok-make-in-PropertyDependencies-clause-form : goal.returns-in_ok-make-in-PropertyDependencies-clause-form
 returns-in_ok-make-in-PropertyDependencies-clause-form g c =
     is_made (kit g.K.Leaf g.R.RegexEngine) g.N.BuiltNode.answers c.in-PropertyDependencies.is c.args.part.location c.args.place.now c.args.part.nodes.items c.args.taken.now (planned c.args.plan) (Some c.in_ok-make-in-PropertyDependencies.field-0) c.in_ok-make-in-PropertyDependencies.ensures.form
-
-pub returns-in_ok-make_required-in-DependentRequired-clause-alone : goal.returns-in_ok-make_required-in-DependentRequired-clause-alone
-returns-in_ok-make_required-in-DependentRequired-clause-alone g c =
-    alone_own _ _ c.in-DependentRequired.is c.args.part.location c.args.part.nodes.items (without_nodes _ _ (DependentRequired c.in-DependentRequired.keys c.in-DependentRequired.lists) c.args.part.location c.args.part.nodes.items _ refl c.in_ok-make_required-in-DependentRequired.ensures.makes)
 
 pub returns-in_ok-make_required-in-DependentRequired-clause-form : goal.returns-in_ok-make_required-in-DependentRequired-clause-form
 returns-in_ok-make_required-in-DependentRequired-clause-form g c =
     is_made (kit g.K.Leaf g.R.RegexEngine) g.N.BuiltNode.answers c.in-DependentRequired.is c.args.part.location c.args.place.now c.args.part.nodes.items c.args.taken.now (planned c.args.plan) (Some c.in_ok-make_required-in-DependentRequired.field-0) c.in_ok-make_required-in-DependentRequired.ensures.form
 
-pub returns-in_ok-make-in-PatternProperties-clause-alone : goal.returns-in_ok-make-in-PatternProperties-clause-alone
-returns-in_ok-make-in-PatternProperties-clause-alone g c =
-    alone_own _ _ c.in-PatternProperties.is c.args.part.location c.args.part.nodes.items (c.in_ok-make-in-PatternProperties.ensures.makes c.in-PatternProperties._table)
-
 pub returns-in_ok-make-in-PatternProperties-clause-form : goal.returns-in_ok-make-in-PatternProperties-clause-form
 returns-in_ok-make-in-PatternProperties-clause-form g c =
     is_made (kit g.K.Leaf g.R.RegexEngine) g.N.BuiltNode.answers c.in-PatternProperties.is c.args.part.location c.args.place.now c.args.part.nodes.items c.args.taken.now (planned c.args.plan) (Some c.in_ok-make-in-PatternProperties.field-0) c.in_ok-make-in-PatternProperties.ensures.form
-
-pub returns-in_ok-make-in-Some-clause-alone : goal.returns-in_ok-make-in-Some-clause-alone
-returns-in_ok-make-in-Some-clause-alone g c =
-    not_alone _ _ c.in-AdditionalProperties.is c.args.part.location c.args.part.nodes.items _ refl
 
 pub returns-in_ok-make-in-Some-clause-form : goal.returns-in_ok-make-in-Some-clause-form
 returns-in_ok-make-in-Some-clause-form g c =
     is_made (kit g.K.Leaf g.R.RegexEngine) g.N.BuiltNode.answers c.in-AdditionalProperties.is c.args.part.location c.args.place.now c.args.part.nodes.items c.args.taken.now (planned c.args.plan) (Some c.in_ok-make-in-Some.field-0) (rw (← c.take.ensures.taken) c.in_ok-make-in-Some.ensures.form)
 
-pub returns-in_ok-make-in-NoOthers-clause-alone : goal.returns-in_ok-make-in-NoOthers-clause-alone
-returns-in_ok-make-in-NoOthers-clause-alone g c =
-    not_alone _ _ c.in-NoOthers.is c.args.part.location c.args.part.nodes.items _ refl
-
 pub returns-in_ok-make-in-NoOthers-clause-form : goal.returns-in_ok-make-in-NoOthers-clause-form
 returns-in_ok-make-in-NoOthers-clause-form g c =
     is_made (kit g.K.Leaf g.R.RegexEngine) g.N.BuiltNode.answers c.in-NoOthers.is c.args.part.location c.args.place.now c.args.part.nodes.items c.args.taken.now (planned c.args.plan) (Some c.in_ok-make-in-NoOthers.field-0) (rw (← c.take-in-NoOthers.ensures.taken) c.in_ok-make-in-NoOthers.ensures.form)
-
-pub returns-in-PropertyNames-clause-alone : goal.returns-in-PropertyNames-clause-alone
-returns-in-PropertyNames-clause-alone g c =
-    alone_own _ _ c.in-PropertyNames.is c.args.part.location c.args.part.nodes.items c.make-in-PropertyNames.ensures.makes
-
-pub returns-in-Not-clause-alone : goal.returns-in-Not-clause-alone
-returns-in-Not-clause-alone g c =
-    alone_own _ _ c.in-Not.is c.args.part.location c.args.part.nodes.items c.make-in-Not.ensures.makes
