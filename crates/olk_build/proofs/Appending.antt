@@ -1,5 +1,5 @@
 -- The keyword of a part, with what it takes from its neighbours' parts.
-use Rattle.std.specs.Prelude.{◌≡◌, ◌&&◌, Bool, true, false, not, cond, List, [], ◌∷◌, ◌++◌, map, codes, bytes_eq, Option, Some, None, is_some, option_to_list}
+use Rattle.std.specs.Prelude.{◌≡◌, ◌&&◌, Bool, true, false, not, cond, List, [], ◌∷◌, map, codes, bytes_eq, Option, Some, None, is_some, option_to_list}
 use Rattle.std.proofs.Common.{refl, sym, ◌∙◌, ap, subst}
 use Rattle.std.proofs.Math.Bool.{and-false}
 use mathlib.Core.Bool.{true≢false}

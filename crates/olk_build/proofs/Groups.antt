@@ -27,7 +27,7 @@ use Rattle.olk_meaning.proofs.TakenOver.{restriction_there}
 use Rattle.olk_make.proofs.Entries.{Rows}
 use Rattle.olk_make.proofs.Taking.{apart_by}
 use Rattle.olk_make.specs.Standing.{is_taken}
-use Rattle.olk_build.specs.Beside.{takes, rows_taken, rows_read}
+use Rattle.olk_build.specs.Beside.{rows_taken, rows_read}
 
 -- ---- in another order
 

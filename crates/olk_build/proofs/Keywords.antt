@@ -1,14 +1,14 @@
 -- The keywords of a schema object, member by member: each is read with the members that it takes.
-use Rattle.std.specs.Prelude.{◌≡◌, ◌&&◌, ◌||◌, Bool, true, false, cond, List, [], ◌∷◌, ◌++◌, map, codes, bytes_eq, Option, Some, None, is_some, option_to_list, IsPermutation, Contains}
+use Rattle.std.specs.Prelude.{◌≡◌, Bool, false, List, [], ◌∷◌, ◌++◌, map, Option, option_to_list, IsPermutation, Contains}
 use Rattle.std.specs.List.{flat_map}
 use Rattle.std.specs.declared.alloc.AllocError.{AllocError}
-use Rattle.std.proofs.Common.{refl, sym, ◌∙◌, ap, subst, ◌⊎◌, inl, inr}
+use Rattle.std.proofs.Common.{refl, sym, ◌∙◌, ap, subst, inl, inr}
 use Rattle.std.proofs.lemmas.Grind.{flat_map-append}
 use Rattle.std.proofs.lemmas.List.{append-nil, append_assoc}
 use Rattle.std.proofs.lemmas.List.Elements.{Contains-append_left, Contains-append_right, Contains-append_cases}
 use mathlib.Core.Bool.{true≢false}
 use Rattle.serde_json.specs.Data.{Data, Members}
-use Rattle.olk_spec.specs.Names.{Name, Path, ◌//◌, lookup_name, is_empty}
+use Rattle.olk_spec.specs.Names.{Name, Path, is_empty}
 use Rattle.olk_spec.specs.Faults.{Fault}
 use Rattle.olk_spec.specs.Schemas.{listed}
 use Rattle.olk_spec.specs.Vocabulary.{keyword_named}
@@ -16,23 +16,18 @@ use Rattle.olk_spec.specs.Malformed.{has_repeat}
 use Rattle.olk_spec.specs.Costs.{Cost, ◌⊕◌, total_cost}
 use Rattle.olk_spec.proofs.CostSums.{sum_last, total_cost-append}
 use Rattle.olk_spec.proofs.Order.{along_permutation}
-use Rattle.olk_spec.proofs.Walks.{same_name}
 use Rattle.olk_base.specs.Count.{Counts}
 use Rattle.olk_base.specs.Kit.{Kit}
 use Rattle.olk_reports.specs.declared.error.BuildError.{BuildError}
 use Rattle.olk_reports.specs.declared.error.BuildError.TheVariants.{Memory}
 use Rattle.olk_tree.specs.Answers.{Answers}
 use Rattle.olk_tree.specs.declared.node.KeywordOver.{KeywordOver}
-use Rattle.olk_meaning.specs.Conditions.{Known, known_of, is_condition, is_restricted, IsKnown}
-use Rattle.olk_meaning.specs.Members.{member_child}
-use Rattle.olk_meaning.specs.Plans.{Planned, plan_of, is_case, head, claims}
-use Rattle.olk_meaning.proofs.Claims.{claims_no_case, heads_there}
-use Rattle.olk_meaning.proofs.Listed.{found_each, present_each}
-use Rattle.olk_meaning.proofs.RestrictedClaims.{claims_no_properties, claims_no_patterns}
-use Rattle.olk_meaning.proofs.RestrictionShown.{properties_show_none, patterns_show_none}
+use Rattle.olk_meaning.specs.Plans.{Planned, plan_of, head, claims}
+use Rattle.olk_meaning.proofs.Claims.{heads_there}
+use Rattle.olk_meaning.proofs.Listed.{found_each}
 use Rattle.olk_read.specs.Refusing.{Spends, Refuses}
-use Rattle.olk_read.proofs.Spending.{spends_nothing, spends_append, spends_same, within_same, refuses_among, memory_among, tells, refuses_memory, within_exactly}
-use Rattle.olk_make.specs.Holding.{which, all_malformed, Covers}
+use Rattle.olk_read.proofs.Spending.{spends_nothing, spends_append, spends_same, within_same, refuses_among, memory_among, tells}
+use Rattle.olk_make.specs.Holding.{all_malformed}
 use Rattle.olk_make.specs.Chooser.{HaveForms, AreChosen}
 use Rattle.olk_make.specs.Making.{KeywordsMean}
 use Rattle.olk_make.specs.Standing.{is_taken}

@@ -11,7 +11,7 @@ use Rattle.serde_json.specs.Data.{Data, Members}
 use Rattle.olk_spec.specs.Names.{Name, Path, ◌//◌, filter_once, put_if}
 use Rattle.olk_spec.specs.Tree.{Tree}
 use Rattle.olk_spec.specs.Schemas.{listed}
-use Rattle.olk_spec.specs.Vocabulary.{Keyword, keyword_named}
+use Rattle.olk_spec.specs.Vocabulary.{Keyword}
 use Rattle.olk_spec.specs.Malformed.{has_repeat}
 use Rattle.olk_spec.specs.Costs.{total_cost}
 use Rattle.olk_spec.proofs.Walks.{same_name}

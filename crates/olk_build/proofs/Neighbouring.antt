@@ -17,7 +17,7 @@ use Rattle.olk_meaning.specs.AdditionalProperties.{rows_at}
 use Rattle.olk_meaning.specs.Conditions.{Known, known_of, IsKnown}
 use Rattle.olk_meaning.specs.Members.{member_malformations, member_cost}
 use Rattle.olk_read.specs.Refusing.{Spends, Refuses}
-use Rattle.olk_read.proofs.Spending.{spends_nothing, spends_append, spends_same, within_after, within_before, within_same, refuses_among, tells, tells_left, tells_right, tells_same}
+use Rattle.olk_read.proofs.Spending.{spends_nothing, spends_append, spends_same, within_after, within_before, within_same, refuses_among, tells_left, tells_right, tells_same}
 use Rattle.olk_make.specs.Holding.{which, all_malformed}
 use Rattle.olk_make.specs.Standing.{PartStands, Fills}
 use Rattle.olk_make.specs.declared.part.Part.{Part}

@@ -14,8 +14,6 @@ use Rattle.olk_spec.specs.Costs.{Cost, cost, cost_step, own_cost, total_cost, �
 use Rattle.olk_spec.proofs.Reading.{entry, place, whole_read, entries_read, branches_read}
 use Rattle.olk_base.specs.Count.{Counts}
 use Rattle.olk_reports.specs.declared.error.BuildError.{BuildError}
-use Rattle.olk_reports.specs.declared.error.BuildError.TheVariants.{Memory}
-use Rattle.std.specs.declared.alloc.AllocError.{AllocError}
 use Rattle.olk_base.specs.Kit.{Kit}
 use Rattle.olk_meaning.specs.Dependencies.{schema_entries}
 use Rattle.olk_read.specs.Refusing.{Spends}
@@ -40,7 +38,7 @@ use Rattle.olk_meaning.proofs.Dependencies.{dependencies_places}
 use Rattle.olk_meaning.proofs.PropertyNames.{false_is_no_object}
 use Rattle.olk_meaning.proofs.PropertyDependencies.{inner_places, property_dependencies_places, inner_malformations, inner_costs}
 use Rattle.olk_spec.proofs.CostSums.{sum_last}
-use Rattle.olk_read.proofs.Spending.{spends_append, spends_same, within_after, within_before, within_same, within_nothing, refuses_memory, tells_left, tells_right, tells_same}
+use Rattle.olk_read.proofs.Spending.{spends_append, spends_same, within_after, within_before, within_same, tells_left, tells_right, tells_same}
 
 branch_entries : {X : Type 0} (step : Schema X → X) (d : Data) → branches (read step d) ≡ map (entry step) (numbered (items_of_array d))
 branch_entries step d = branches_read step d ∙ numbered-map (place step) (items_of_array d)

@@ -1,5 +1,5 @@
 -- What a keyword takes from its neighbours, and what is built of these.
-use Rattle.std.specs.Prelude.{◌≡◌, ⊤, ◌&&◌, Bool, true, false, cond, List, [], ◌∷◌, ◌++◌, map, codes, bytes_eq, Option, Some, None, option_to_list, Result, IfOk, IfErr}
+use Rattle.std.specs.Prelude.{◌≡◌, ⊤, ◌&&◌, false, cond, List, [], ◌∷◌, ◌++◌, map, codes, bytes_eq, Option, Some, None, option_to_list, Result, IfOk, IfErr}
 use Rattle.std.specs.Option.{IfSome}
 use Rattle.serde_json.specs.Data.{Data, Members}
 use Rattle.olk_spec.specs.Names.{Name, Path, ◌//◌, lookup_name}

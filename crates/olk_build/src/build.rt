@@ -16,8 +16,8 @@ ghost use Rattle.olk_make.specs.Chooser.{has_no_validator, HasForm};
 ghost use Rattle.olk_spec.specs.Vocabulary.{keyword_named};
 
 use crate::context::Context;
-use olk_base::{MakeLeaf, MakeRegex, Meter, append, append_all, one};
 use crate::taking::{Beside, append_alone, append_taking, is_taken, make_taking, takes, takes_any};
+use olk_base::{MakeLeaf, MakeRegex, Meter, append, append_all, one};
 use olk_make::Part;
 use olk_meaning::{Neighbours, Plan};
 use olk_paths::Location;
@@ -378,8 +378,23 @@ fn compile_member<'a, L: MakeLeaf, M: MakeRegex, N: BuiltNode<L::Leaf, M::Engine
     }
     let neighbours = Neighbours::of(parent);
     let location = ctx.place.join(alloc, name)?;
-    let part = compile_part(alloc, &ctx.makers, ctx.meter, neighbours, location, name, value)?;
-    let beside = compile_beside(alloc, &ctx.makers, ctx.meter, &ctx.place, parent, &part.shape)?;
+    let part = compile_part(
+        alloc,
+        &ctx.makers,
+        ctx.meter,
+        neighbours,
+        location,
+        name,
+        value,
+    )?;
+    let beside = compile_beside(
+        alloc,
+        &ctx.makers,
+        ctx.meter,
+        &ctx.place,
+        parent,
+        &part.shape,
+    )?;
     let keyword = make_taking(alloc, plan, &ctx.place, part, beside)?;
     Ok(keyword)
 }

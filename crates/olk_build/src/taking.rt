@@ -46,7 +46,10 @@ pub fn takes<K, R>(shape: &Shape<K, R>) -> Option<(&'static str, &'static str)>
 pub fn takes_any<K, R>(shape: &Shape<K, R>) -> bool
     ensures { result ≡ is_some (takes_of shape.now) }
 {
-    matches!(shape, Shape::If | Shape::AdditionalProperties | Shape::NoOthers)
+    matches!(
+        shape,
+        Shape::If | Shape::AdditionalProperties | Shape::NoOthers
+    )
 }
 
 /// The last node of a part.
@@ -98,10 +101,7 @@ fn patterns_of<K: Drop, R: Drop, N: Drop>(part: Option<Part<K, R, N>>) -> Option
 }
 
 /// What a keyword of this shape takes from its neighbours' parts.
-fn taken_of<K: Drop, R: Drop, N: Drop>(
-    shape: &Shape<K, R>,
-    beside: Beside<K, R, N>,
-) -> Taken<R, N>
+fn taken_of<K: Drop, R: Drop, N: Drop>(shape: &Shape<K, R>, beside: Beside<K, R, N>) -> Taken<R, N>
     ensures { TakenBy shape.now beside result }
 {
     let Beside { first, second } = beside;

@@ -38,21 +38,21 @@ pub fn compile<'a, L: MakeLeaf, M: MakeRegex, N: BuiltNode<L::Leaf, M::Engine>>(
 ) -> Option<Result<KeywordOver<L::Leaf, M::Engine, N>, BuildError<'a>>>
     ensures gives { GivesMember (kit L.Leaf.Leaf M.Engine.RegexEngine)
         (members_view parent.now.entries) (codes "additionalProperties", view schema.now)
-        ctx.old.place
-        ctx.old.meter.now ctx.new.meter.now N.answers result }
+        ctx.old.place ctx.old.meter.now ctx.new.meter.now N.answers result }
     ensures form { Gives (members_view parent.now.entries)
-        (codes "additionalProperties", view schema.now) result (IsAdditionalProperties ctx.old.place
+        (codes "additionalProperties", view schema.now) result
+        (IsAdditionalProperties ctx.old.place
         (one_below ctx.old.place (codes "additionalProperties")) (is_object (view schema.now))
         (option_map (λ d. length (members d))
         (lookup_name (codes "properties") (listed (members_view parent.now.entries))))
         (option_map (λ d. length (members d))
         (lookup_name (codes "patternProperties") (listed (members_view parent.now.entries))))
         (plan_of (members_view parent.now.entries)).fused_one) }
-    ensures unread { IsMember (members_view parent.now.entries) (codes "additionalProperties", view
-        schema.now)
+    ensures unread { IsMember (members_view parent.now.entries)
+        (codes "additionalProperties", view schema.now)
         → is_none result ≡ is_truth true (view schema.now) }
-    ensures unread_at_no_cost { IsMember (members_view parent.now.entries) (codes
-        "additionalProperties", view schema.now)
+    ensures unread_at_no_cost { IsMember (members_view parent.now.entries)
+        (codes "additionalProperties", view schema.now)
         → IfNone result (ctx.new.meter.now ≡ ctx.old.meter.now) }
     ensures place { ctx.new.place ≡ ctx.old.place }
     ensures same_meter { ctx.new.meter.ghost_name ≡ ctx.old.meter.ghost_name }

@@ -33,13 +33,14 @@ pub fn compile<'a, L: MakeLeaf, M: MakeRegex, N: BuiltNode<L::Leaf, M::Engine>>(
     schema: &'a Value,
 ) -> Option<Result<KeywordOver<L::Leaf, M::Engine, N>, BuildError<'a>>>
     ensures gives { GivesMember (kit L.Leaf.Leaf M.Engine.RegexEngine)
-        (members_view parent.now.entries) (codes "dependencies", view schema.now) ctx.old.place
-        ctx.old.meter.now ctx.new.meter.now N.answers result }
+        (members_view parent.now.entries) (codes "dependencies", view schema.now)
+        ctx.old.place ctx.old.meter.now ctx.new.meter.now N.answers result }
     ensures form { Gives (members_view parent.now.entries)
-        (codes "dependencies", view schema.now) result (IsDependencies (one_below ctx.old.place
-        (codes "dependencies")) (map (λ e. e.0) (members (view schema.now)))) }
-    ensures always { IsMember (members_view parent.now.entries) (codes "dependencies", view
-        schema.now)
+        (codes "dependencies", view schema.now) result
+        (IsDependencies (one_below ctx.old.place (codes "dependencies"))
+        (map (λ e. e.0) (members (view schema.now)))) }
+    ensures always { IsMember (members_view parent.now.entries)
+        (codes "dependencies", view schema.now)
         → is_none result ≡ false }
     ensures place { ctx.new.place ≡ ctx.old.place }
     ensures same_meter { ctx.new.meter.ghost_name ≡ ctx.old.meter.ghost_name }
@@ -63,13 +64,14 @@ pub fn compile_dependent_required<'a, L: MakeLeaf, M: MakeRegex, N: BuiltNode<L:
     schema: &'a Value,
 ) -> Option<Result<KeywordOver<L::Leaf, M::Engine, N>, BuildError<'a>>>
     ensures gives { GivesMember (kit L.Leaf.Leaf M.Engine.RegexEngine)
-        (members_view parent.now.entries) (codes "dependentRequired", view schema.now) ctx.old.place
-        ctx.old.meter.now ctx.new.meter.now N.answers result }
+        (members_view parent.now.entries) (codes "dependentRequired", view schema.now)
+        ctx.old.place ctx.old.meter.now ctx.new.meter.now N.answers result }
     ensures form { Gives (members_view parent.now.entries)
-        (codes "dependentRequired", view schema.now) result (IsDependencies (one_below ctx.old.place
-        (codes "dependentRequired")) (map (λ e. e.0) (members (view schema.now)))) }
-    ensures always { IsMember (members_view parent.now.entries) (codes "dependentRequired", view
-        schema.now)
+        (codes "dependentRequired", view schema.now) result
+        (IsDependencies (one_below ctx.old.place (codes "dependentRequired"))
+        (map (λ e. e.0) (members (view schema.now)))) }
+    ensures always { IsMember (members_view parent.now.entries)
+        (codes "dependentRequired", view schema.now)
         → is_none result ≡ false }
     ensures place { ctx.new.place ≡ ctx.old.place }
     ensures same_meter { ctx.new.meter.ghost_name ≡ ctx.old.meter.ghost_name }
@@ -93,13 +95,14 @@ pub fn compile_dependent_schemas<'a, L: MakeLeaf, M: MakeRegex, N: BuiltNode<L::
     schema: &'a Value,
 ) -> Option<Result<KeywordOver<L::Leaf, M::Engine, N>, BuildError<'a>>>
     ensures gives { GivesMember (kit L.Leaf.Leaf M.Engine.RegexEngine)
-        (members_view parent.now.entries) (codes "dependentSchemas", view schema.now) ctx.old.place
-        ctx.old.meter.now ctx.new.meter.now N.answers result }
+        (members_view parent.now.entries) (codes "dependentSchemas", view schema.now)
+        ctx.old.place ctx.old.meter.now ctx.new.meter.now N.answers result }
     ensures form { Gives (members_view parent.now.entries)
-        (codes "dependentSchemas", view schema.now) result (IsDependencies (one_below ctx.old.place
-        (codes "dependentSchemas")) (map (λ e. e.0) (members (view schema.now)))) }
-    ensures always { IsMember (members_view parent.now.entries) (codes "dependentSchemas", view
-        schema.now)
+        (codes "dependentSchemas", view schema.now) result
+        (IsDependencies (one_below ctx.old.place (codes "dependentSchemas"))
+        (map (λ e. e.0) (members (view schema.now)))) }
+    ensures always { IsMember (members_view parent.now.entries)
+        (codes "dependentSchemas", view schema.now)
         → is_none result ≡ false }
     ensures place { ctx.new.place ≡ ctx.old.place }
     ensures same_meter { ctx.new.meter.ghost_name ≡ ctx.old.meter.ghost_name }

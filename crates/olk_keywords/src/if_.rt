@@ -37,16 +37,18 @@ pub fn compile<'a, L: MakeLeaf, M: MakeRegex, N: BuiltNode<L::Leaf, M::Engine>>(
     schema: &'a Value,
 ) -> Option<Result<KeywordOver<L::Leaf, M::Engine, N>, BuildError<'a>>>
     ensures gives { GivesMember (kit L.Leaf.Leaf M.Engine.RegexEngine)
-        (members_view parent.now.entries) (codes "if", view schema.now) ctx.old.place
-        ctx.old.meter.now ctx.new.meter.now N.answers result }
+        (members_view parent.now.entries) (codes "if", view schema.now)
+        ctx.old.place ctx.old.meter.now ctx.new.meter.now N.answers result }
     ensures form { Gives (members_view parent.now.entries)
-        (codes "if", view schema.now) result (IsIf (one_below ctx.old.place (codes "if"))
+        (codes "if", view schema.now) result
+        (IsIf (one_below ctx.old.place (codes "if"))
         (is_some (lookup_name (codes "then") (listed (members_view parent.now.entries))))
         (is_some (lookup_name (codes "else") (listed (members_view parent.now.entries))))) }
-    ensures unread { IsMember (members_view parent.now.entries) (codes "if", view schema.now)
+    ensures unread { IsMember (members_view parent.now.entries)
+        (codes "if", view schema.now)
         → is_none result ≡ not (is_condition (members_view parent.now.entries)) }
-    ensures unread_at_no_cost { IsMember (members_view parent.now.entries) (codes "if", view
-        schema.now)
+    ensures unread_at_no_cost { IsMember (members_view parent.now.entries)
+        (codes "if", view schema.now)
         → IfNone result (ctx.new.meter.now ≡ ctx.old.meter.now) }
     ensures place { ctx.new.place ≡ ctx.old.place }
     ensures same_meter { ctx.new.meter.ghost_name ≡ ctx.old.meter.ghost_name }

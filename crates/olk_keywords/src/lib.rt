@@ -1,7 +1,9 @@
 //! The module of each keyword that holds schemas or names: what it builds of a member of a schema
 //! object.
 //!
-//! Stands on `olk_build`. Tested by `olk_build_tests`.
+//! Each `compile` speaks of a parent in which the value stands at the module's name: of a value that
+//! is no such member it promises nothing but that the context's place is as before. Stands on
+//! `olk_build`. Tested by `olk_build_tests`.
 #![tactic(auto)]
 
 pub mod additional_properties;

@@ -30,12 +30,13 @@ pub fn compile<'a, L: MakeLeaf, M: MakeRegex, N: BuiltNode<L::Leaf, M::Engine>>(
     schema: &'a Value,
 ) -> Option<Result<KeywordOver<L::Leaf, M::Engine, N>, BuildError<'a>>>
     ensures gives { GivesMember (kit L.Leaf.Leaf M.Engine.RegexEngine)
-        (members_view parent.now.entries) (codes "not", view schema.now) ctx.old.place
-        ctx.old.meter.now ctx.new.meter.now N.answers result }
+        (members_view parent.now.entries) (codes "not", view schema.now)
+        ctx.old.place ctx.old.meter.now ctx.new.meter.now N.answers result }
     ensures form { Gives (members_view parent.now.entries)
-        (codes "not", view schema.now) result (IsNot (one_below ctx.old.place (codes "not")) (view
-        schema.now)) }
-    ensures always { IsMember (members_view parent.now.entries) (codes "not", view schema.now)
+        (codes "not", view schema.now) result
+        (IsNot (one_below ctx.old.place (codes "not")) (view schema.now)) }
+    ensures always { IsMember (members_view parent.now.entries)
+        (codes "not", view schema.now)
         → is_none result ≡ false }
     ensures place { ctx.new.place ≡ ctx.old.place }
     ensures same_meter { ctx.new.meter.ghost_name ≡ ctx.old.meter.ghost_name }

@@ -42,17 +42,18 @@ pub fn compile<'a, L: MakeLeaf, M: MakeRegex, N: BuiltNode<L::Leaf, M::Engine>>(
     schema: &'a Value,
 ) -> Option<Result<KeywordOver<L::Leaf, M::Engine, N>, BuildError<'a>>>
     ensures gives { GivesMember (kit L.Leaf.Leaf M.Engine.RegexEngine)
-        (members_view parent.now.entries) (codes "properties", view schema.now) ctx.old.place
-        ctx.old.meter.now ctx.new.meter.now N.answers result }
+        (members_view parent.now.entries) (codes "properties", view schema.now)
+        ctx.old.place ctx.old.meter.now ctx.new.meter.now N.answers result }
     ensures form { Gives (members_view parent.now.entries)
-        (codes "properties", view schema.now) result (IsProperties ctx.old.place
-        (one_below ctx.old.place (codes "properties")) (length (members (view schema.now)))
+        (codes "properties", view schema.now) result
+        (IsProperties ctx.old.place (one_below ctx.old.place (codes "properties"))
+        (length (members (view schema.now)))
         (plan_of (members_view parent.now.entries)).fused_pair) }
-    ensures unread { IsMember (members_view parent.now.entries) (codes "properties", view
-        schema.now)
+    ensures unread { IsMember (members_view parent.now.entries)
+        (codes "properties", view schema.now)
         → is_none result ≡ is_restricted (members_view parent.now.entries) }
-    ensures unread_at_no_cost { IsMember (members_view parent.now.entries) (codes "properties",
-        view schema.now)
+    ensures unread_at_no_cost { IsMember (members_view parent.now.entries)
+        (codes "properties", view schema.now)
         → IfNone result (ctx.new.meter.now ≡ ctx.old.meter.now) }
     ensures place { ctx.new.place ≡ ctx.old.place }
     ensures same_meter { ctx.new.meter.ghost_name ≡ ctx.old.meter.ghost_name }

@@ -34,15 +34,14 @@ pub fn compile<'a, L: MakeLeaf, M: MakeRegex, N: BuiltNode<L::Leaf, M::Engine>>(
 ) -> Option<Result<KeywordOver<L::Leaf, M::Engine, N>, BuildError<'a>>>
     ensures gives { GivesMember (kit L.Leaf.Leaf M.Engine.RegexEngine)
         (members_view parent.now.entries) (codes "propertyDependencies", view schema.now)
-        ctx.old.place
-        ctx.old.meter.now ctx.new.meter.now N.answers result }
+        ctx.old.place ctx.old.meter.now ctx.new.meter.now N.answers result }
     ensures form { Gives (members_view parent.now.entries)
-        (codes "propertyDependencies", view schema.now) result (IsPropertyDependencies
-        (one_below ctx.old.place (codes "propertyDependencies"))
+        (codes "propertyDependencies", view schema.now) result
+        (IsPropertyDependencies (one_below ctx.old.place (codes "propertyDependencies"))
         (map (λ e. e.0) (members (view schema.now)))
         (map (λ e. map (λ c. c.0) (members e.1)) (members (view schema.now)))) }
-    ensures always { IsMember (members_view parent.now.entries) (codes "propertyDependencies", view
-        schema.now)
+    ensures always { IsMember (members_view parent.now.entries)
+        (codes "propertyDependencies", view schema.now)
         → is_none result ≡ false }
     ensures place { ctx.new.place ≡ ctx.old.place }
     ensures same_meter { ctx.new.meter.ghost_name ≡ ctx.old.meter.ghost_name }

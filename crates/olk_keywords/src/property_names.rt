@@ -34,21 +34,19 @@ pub fn compile<'a, L: MakeLeaf, M: MakeRegex, N: BuiltNode<L::Leaf, M::Engine>>(
     schema: &'a Value,
 ) -> Option<Result<KeywordOver<L::Leaf, M::Engine, N>, BuildError<'a>>>
     ensures gives { GivesMember (kit L.Leaf.Leaf M.Engine.RegexEngine)
-        (members_view parent.now.entries) (codes "propertyNames", view schema.now) ctx.old.place
-        ctx.old.meter.now ctx.new.meter.now N.answers result }
-    ensures form { is_object (view schema.now) ≡ true → Gives (members_view parent.now.entries)
-        (codes "propertyNames", view schema.now) result
+        (members_view parent.now.entries) (codes "propertyNames", view schema.now)
+        ctx.old.place ctx.old.meter.now ctx.new.meter.now N.answers result }
+    ensures form { is_object (view schema.now) ≡ true
+        → Gives (members_view parent.now.entries) (codes "propertyNames", view schema.now) result
         (IsPropertyNames (one_below ctx.old.place (codes "propertyNames"))) }
-    ensures form_of_false { is_truth false (view schema.now) ≡ true → Gives (members_view
-        parent.now.entries)
-        (codes "propertyNames", view schema.now) result
+    ensures form_of_false { is_truth false (view schema.now) ≡ true
+        → Gives (members_view parent.now.entries) (codes "propertyNames", view schema.now) result
         (IsPropertyNamesFalse (one_below ctx.old.place (codes "propertyNames"))) }
-    ensures unread { IsMember (members_view parent.now.entries) (codes "propertyNames", view
-        schema.now)
-        → is_none result
-        ≡ not (is_object (view schema.now) || is_truth false (view schema.now)) }
-    ensures unread_at_no_cost { IsMember (members_view parent.now.entries) (codes "propertyNames",
-        view schema.now)
+    ensures unread { IsMember (members_view parent.now.entries)
+        (codes "propertyNames", view schema.now)
+        → is_none result ≡ not (is_object (view schema.now) || is_truth false (view schema.now)) }
+    ensures unread_at_no_cost { IsMember (members_view parent.now.entries)
+        (codes "propertyNames", view schema.now)
         → IfNone result (ctx.new.meter.now ≡ ctx.old.meter.now) }
     ensures place { ctx.new.place ≡ ctx.old.place }
     ensures same_meter { ctx.new.meter.ghost_name ≡ ctx.old.meter.ghost_name }

@@ -35,18 +35,18 @@ pub fn compile<'a, L: MakeLeaf, M: MakeRegex, N: BuiltNode<L::Leaf, M::Engine>>(
     schema: &'a Value,
 ) -> Option<Result<KeywordOver<L::Leaf, M::Engine, N>, BuildError<'a>>>
     ensures gives { GivesMember (kit L.Leaf.Leaf M.Engine.RegexEngine)
-        (members_view parent.now.entries) (codes "required", view schema.now) ctx.old.place
-        ctx.old.meter.now ctx.new.meter.now N.answers result }
+        (members_view parent.now.entries) (codes "required", view schema.now)
+        ctx.old.place ctx.old.meter.now ctx.new.meter.now N.answers result }
     ensures form { Gives (members_view parent.now.entries)
-        (codes "required", view schema.now) result (IsRequired (one_below ctx.old.place (codes
-        "required"))
-        (view schema.now)) }
-    ensures fused { IsMember (members_view parent.now.entries) (codes "required", view schema.now)
+        (codes "required", view schema.now) result
+        (IsRequired (one_below ctx.old.place (codes "required")) (view schema.now)) }
+    ensures fused { IsMember (members_view parent.now.entries)
+        (codes "required", view schema.now)
         → is_none result
         ≡ (is_some (plan_of (members_view parent.now.entries)).fused_pair
         || is_some (plan_of (members_view parent.now.entries)).fused_one) }
-    ensures fused_at_no_cost { IsMember (members_view parent.now.entries) (codes "required", view
-        schema.now)
+    ensures fused_at_no_cost { IsMember (members_view parent.now.entries)
+        (codes "required", view schema.now)
         → IfNone result (ctx.new.meter.now ≡ ctx.old.meter.now) }
     ensures place { ctx.new.place ≡ ctx.old.place }
     ensures same_meter { ctx.new.meter.ghost_name ≡ ctx.old.meter.ghost_name }

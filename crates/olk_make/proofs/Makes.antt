@@ -2,7 +2,7 @@
 use Rattle.olk_make.proofs.Taking.{apart_by}
 use Rattle.olk_tree.specs.Maps.{keys_in}
 use Rattle.olk_tree.specs.Answers.{Answers}
-use Rattle.std.specs.Prelude.{◌≡◌, Bool, true, false, not, List, [], ◌∷◌, ◌++◌, ◌&&◌, ◌||◌, map, codes, bytes_eq, Option, Some, None, is_some, Vec, String, string_bytes}
+use Rattle.std.specs.Prelude.{◌≡◌, Bool, true, false, List, [], ◌∷◌, ◌++◌, ◌&&◌, ◌||◌, map, codes, bytes_eq, Option, Some, None, is_some, Vec, String, string_bytes}
 use Rattle.std.specs.declared.alloc.Global.{Global}
 use Rattle.std.proofs.Common.{refl, sym, ◌∙◌, ap, subst}
 use Rattle.std.proofs.Math.Bool.{or-true}
@@ -17,7 +17,7 @@ use Rattle.olk_spec.specs.Malformed.{has_repeat}
 use Rattle.olk_spec.proofs.Walks.{bytes_eq-sym, neither}
 use Rattle.olk_base.specs.Kit.{Kit}
 use Rattle.olk_base.specs.declared.pattern.CompiledPattern.{CompiledPattern}
-use Rattle.olk_meaning.specs.Plans.{Planned, plan_of, is_case, tells_members, claims}
+use Rattle.olk_meaning.specs.Plans.{Planned, plan_of, is_case, tells_members}
 use Rattle.olk_make.specs.Forms.{IsFormOfProperties, IsFormOfAllOf, IsFormOfAnyOf, IsFormOfOneOf}
 use Rattle.olk_make.specs.Holding.{StandEach}
 use Rattle.olk_meaning.specs.Conditions.{is_condition, is_restriction, is_restricted}
@@ -36,7 +36,7 @@ use Rattle.olk_read.specs.declared.shape.Shape.TheVariants as shape
 use Rattle.olk_read.specs.declared.shape.ReadPlaces.TheVariants.{Nothing}
 use Rattle.olk_meaning.proofs.Claims.{IsNoCase}
 use Rattle.olk_make.proofs.Together.{by_its_name, MeanClaim, claim_by_name}
-use Rattle.olk_make.proofs.Held.{unrestricted_if_untaken, means_all_of, means_any_of, means_not, means_form, means_fused, means_fused_one, means_own, means_leaf, means_unread, means_required, means_required_alone}
+use Rattle.olk_make.proofs.Held.{unrestricted_if_untaken, means_all_of, means_any_of, means_not, means_form, means_fused, means_fused_one, means_own, means_leaf, means_unread, means_required_alone}
 use Rattle.olk_make.proofs.Entries.{last_stands}
 use Rattle.olk_make.proofs.OneOf.{means_one_of}
 

@@ -1,5 +1,5 @@
 -- Which validator is made of a part.
-use Rattle.std.specs.Prelude.{◌≡◌, ◌||◌, ⊤, Bool, true, false, List, [], map, zip, length, codes, Option, Some, None, is_some, option_map}
+use Rattle.std.specs.Prelude.{◌≡◌, ◌||◌, ⊤, Bool, true, false, List, [], map, zip, length, Option, Some, None, is_some, option_map}
 use Rattle.std.proofs.Common.{◌⊎◌}
 use Rattle.serde_json.specs.Data.{Data}
 use Rattle.serde_json.specs.View.{view}

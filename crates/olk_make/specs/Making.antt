@@ -1,9 +1,9 @@
 -- What making the validators of a schema object from its parts promises.
-use Rattle.std.specs.Prelude.{◌≡◌, true, false, Bool, List, [], ◌∷◌, ◌++◌, map, codes, Option, Some, option_to_list}
+use Rattle.std.specs.Prelude.{◌≡◌, true, false, Bool, List, [], ◌∷◌, map, codes, Option, Some, option_to_list}
 use Rattle.std.specs.List.{flat_map}
 use Rattle.serde_json.specs.Data.{Data, Members}
 use Rattle.olk_spec.specs.Names.{Name, Path, ◌//◌, lookup_name}
-use Rattle.olk_spec.specs.Schemas.{listed, members}
+use Rattle.olk_spec.specs.Schemas.{listed}
 use Rattle.olk_spec.specs.Malformed.{has_repeat}
 use Rattle.olk_base.specs.Kit.{Kit}
 use Rattle.olk_tree.specs.declared.node.KeywordOver.{KeywordOver}

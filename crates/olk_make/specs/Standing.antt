@@ -1,5 +1,5 @@
 -- What the nodes and the parts of a schema object stand for.
-use Rattle.std.specs.Prelude.{◌≡◌, ⊤, ◌&&◌, ◌||◌, Bool, true, false, not, cond, List, [], ◌∷◌, ◌++◌, map, codes, bytes_eq, Option, Some, None}
+use Rattle.std.specs.Prelude.{◌≡◌, ⊤, ◌&&◌, ◌||◌, Bool, true, false, not, List, [], ◌∷◌, ◌++◌, map, codes, Option, Some, None}
 use Rattle.serde_json.specs.Data.{Data, Members}
 use Rattle.olk_spec.specs.Names.{Name, Path, ◌//◌, lookup_name, filter_once}
 use Rattle.olk_spec.specs.Schemas.{listed, members, numbered, is_array, is_object, is_truth}
@@ -17,7 +17,6 @@ use Rattle.olk_make.specs.declared.part.Cases.{Cases}
 use Rattle.olk_make.specs.declared.part.Patterns.{Patterns}
 use Rattle.olk_make.specs.declared.part.Beside.{Beside}
 use Rattle.olk_make.specs.declared.part.DeclaredNodes.{DeclaredNodes}
-use Rattle.olk_make.specs.declared.part.Taken.{Taken}
 use Rattle.olk_meaning.specs.Conditions.{Known}
 use Rattle.olk_meaning.specs.Plans.{Planned, is_case, tells_members}
 use Rattle.olk_read.specs.Patterns.{ArePatterns, IsPattern}

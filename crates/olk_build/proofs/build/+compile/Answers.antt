@@ -21,7 +21,7 @@ use Rattle.olk_meaning.proofs.Objects.{no_schema_is}
 use Rattle.olk_build.proofs.Parts.{refuses_part_own, refuses_part_inside, part_is_built}
 use Rattle.serde_json.proofs.value.Value.TheLaws.{the_size}
 use Rattle.olk_build.proofs.Sizes.{size_among}
-use Rattle.std.proofs.Common.{Some, None, String, Global, List}
+use Rattle.std.proofs.Common.{Some, None}
 use Rattle.olk_meaning.specs.Plans.{planned}
 use Rattle.olk_make.specs.Standing.{is_taken}
 use Rattle.olk_build.proofs.Found.{member_lookup}

@@ -1,4 +1,4 @@
-use Rattle.std.proofs.Common.{Option, Some, None, sym, subst, option_to_list}
+use Rattle.std.proofs.Common.{Some, None, sym, subst, option_to_list}
 use Rattle.std.proofs.lemmas.Result.{on_ok_weaker}
 use Rattle.std.proofs.lemmas.List.{append-nil}
 use Rattle.olk_base.specs.Kit.{kit}
@@ -24,5 +24,5 @@ returns g c = record {
   behind = sym (append-nil c.args.keywords.now.items);
   makes = makes_nothing (kit g.K.Leaf g.R.RegexEngine) g.N.BuiltNode.answers c.args.part.shape c.args.part.nodes.items c.take_nothing-nothing.result
       (subst (λ x. MakesPart (kit g.K.Leaf g.R.RegexEngine) g.N.BuiltNode.answers c.args.part.shape c.args.part.location c.args.part.nodes.items c.take_nothing-nothing.result c.args.place.now (planned c.args.plan) (option_to_list x)) c.in-None.is c.in_ok-keyword.ensures.makes)
-          (subst (IsMade (kit g.K.Leaf g.R.RegexEngine) g.N.BuiltNode.answers c.args.part.shape c.args.part.location c.args.part.nodes.items c.take_nothing-nothing.result c.args.place.now (planned c.args.plan)) c.in-None.is c.in_ok-keyword.ensures.form);
+      (subst (IsMade (kit g.K.Leaf g.R.RegexEngine) g.N.BuiltNode.answers c.args.part.shape c.args.part.location c.args.part.nodes.items c.take_nothing-nothing.result c.args.place.now (planned c.args.plan)) c.in-None.is c.in_ok-keyword.ensures.form);
 }
