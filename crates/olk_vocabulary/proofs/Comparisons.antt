@@ -7,7 +7,7 @@ use Rattle.std.proofs.lemmas.Bool.{cases_lt, eqb-true, eq-eqb, ne_eqb, eqb-false
 use Rattle.std.proofs.lemmas.Float as floats
 use Rattle.std.proofs.Math.Bool.{and-true}
 use Rattle.std.specs.Option.{option_map}
-use Rattle.std.specs.Ordering.{nat_cmp, int_cmp, float_partial_cmp, ordering_reverse, is_eq, is_some_and}
+use Rattle.std.specs.Ordering.{nat_cmp, int_cmp, float_partial_cmp, nan_last_cmp, ordering_reverse, is_eq, is_some_and}
 use Rattle.std.specs.Float.{NotNan, Float, nan, inf, fin, float_zero, two_to}
 use Rattle.std.specs.Float.Ieee.{up, down, lt, eq, neg, is_nan, to_unsigned}
 use Rattle.olk_vocabulary.specs.Numbers.{of_whole, is_integral}
@@ -76,6 +76,28 @@ ordered x y p q = go (lt x y) (eq x y) (lt y x) refl refl refl
         ]
     go _ _ _ f g h = refl
 
+-- the order in which a NaN comes last, at two numbers
+pub ranked : (x y : Float) → NotNan x → NotNan y → Some (nan_last_cmp x y) ≡ float_partial_cmp x y
+unfolding is_nan
+ranked nan y p q = absurd p
+ranked (inf s) nan p q = absurd q
+ranked (fin s m e) nan p q = absurd q
+ranked (inf s) (inf t) p q = ordered (inf s) (inf t) p q
+ranked (inf s) (fin t n d) p q = ordered (inf s) (fin t n d) p q
+ranked (fin s m e) (inf t) p q = ordered (fin s m e) (inf t) p q
+ranked (fin s m e) (fin t n d) p q = ordered (fin s m e) (fin t n d) p q
+
+same_as_ranked : (x y : Float) → NotNan x → NotNan y → is_eq (nan_last_cmp x y) ≡ eq y x
+same_as_ranked x y p q = ap (is_some_and is_eq) (ranked x y p q) ∙ is_eq-compared x y ∙ floats.floats_per.symm x y
+
+pub eq_by_rank : (x y : Float) → NotNan y → is_eq (nan_last_cmp x y) ≡ eq y x
+unfolding is_nan eq
+eq_by_rank nan nan q = absurd q
+eq_by_rank nan (inf s) q = refl
+eq_by_rank nan (fin s m e) q = refl
+eq_by_rank (inf s) y q = same_as_ranked (inf s) y tt q
+eq_by_rank (fin s m e) y q = same_as_ranked (fin s m e) y tt q
+
 -- ---- two whole numbers
 
 fraction_order : (m : ℕ) (e : ℤ) (n : ℕ) → Some (nat_cmp (m * up e) (n * down e)) ≡ float_partial_cmp (fin false m e) (of_whole (pos n))
@@ -95,7 +117,7 @@ lt-of_whole (pos m) (negsuc n) = refl
 lt-of_whole (negsuc m) (pos n) = lt-ltb 0 _ (omega arith)
 lt-of_whole (negsuc m) (negsuc n) = simp mul-one (suc_lt n m)
 
-of_whole-number : (m : ℤ) → NotNan (of_whole m)
+pub of_whole-number : (m : ℤ) → NotNan (of_whole m)
 unfolding is_nan
 of_whole-number (pos m) = tt
 of_whole-number (negsuc m) = tt

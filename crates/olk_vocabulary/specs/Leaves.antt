@@ -23,7 +23,7 @@ kind_value k = string (kind_name k)
 abbrev pub leaf_keyword : VocabularyLeaf → Keyword
 leaf_keyword (leaf.Type k) = keyword.Type
 leaf_keyword (leaf.Types ks) = keyword.Type
-leaf_keyword (leaf.Enum xs) = keyword.Enum
+leaf_keyword (leaf.Enum c) = keyword.Enum
 leaf_keyword (leaf.Const x) = keyword.Const
 leaf_keyword (leaf.MultipleOf d) = keyword.MultipleOf
 leaf_keyword (leaf.Bound b n) = keyword.Bound b
@@ -32,7 +32,7 @@ leaf_keyword (leaf.Limit l n) = keyword.Limit l
 abbrev pub leaf_value : VocabularyLeaf → Data
 leaf_value (leaf.Type k) = kind_value k
 leaf_value (leaf.Types ks) = arr (map kind_value ks.items)
-leaf_value (leaf.Enum xs) = array (items_view xs.items)
+leaf_value (leaf.Enum c) = array (items_view c.values.items)
 leaf_value (leaf.Const x) = view x
 leaf_value (leaf.MultipleOf d) = number (unsigned d.value)
 leaf_value (leaf.Bound b n) = number (num_of n)
@@ -49,7 +49,7 @@ leaf_finds l v = finds (leaf_keyword l) (leaf_value l) v
 abbrev pub leaf_text : VocabularyLeaf → Data → Text
 leaf_text (leaf.Type k) v = shown v ++ codes " is not of type " ++ compact_text (kind_value k)
 leaf_text (leaf.Types ks) v = kinds_text v (map (λ k. compact_text (kind_value k)) ks.items)
-leaf_text (leaf.Enum xs) v = shown v ++ codes " is not one of " ++ candidates (map view xs.items)
+leaf_text (leaf.Enum c) v = shown v ++ codes " is not one of " ++ candidates (map view c.values.items)
 leaf_text (leaf.Const x) v = shown (view x) ++ codes " was expected"
 leaf_text (leaf.MultipleOf d) v = multiple_text v d.value
 leaf_text (leaf.Bound b n) v = bound_text b (num_of n) v

@@ -1,3 +1,4 @@
+pub mod Candidates
 pub mod Keywords
 pub mod Leaves
 pub mod Numbers

@@ -8,7 +8,8 @@ ghost use Rattle.olk_vocabulary.specs.Keywords.{is_within};
 ghost use Rattle.olk_vocabulary.specs.Numbers.{num_of, exact, is_multiple_of};
 ghost use Rattle.olk_vocabulary.specs.Leaves.{leaf_keyword, leaf_name, leaf_finds, leaf_text};
 
-use crate::equality::{is_candidate, is_value};
+use crate::candidates::Candidates;
+use crate::equality::is_value;
 use crate::keyword::{Bound, Keyword, Limit};
 use crate::kinds::{is_of_kind, is_of_some_kind};
 use crate::lengths::is_allowed;
@@ -29,7 +30,7 @@ pub enum VocabularyLeaf {
     /// `type`: the kinds of which a value is to be of one.
     Types(Vec<ValueKind>),
     /// `enum`: what a value is to be one of.
-    Enum(Vec<Value>),
+    Enum(Candidates),
     /// `const`: what a value is to be.
     Const(Value),
     /// `multipleOf`: what is to divide a number.
@@ -101,7 +102,7 @@ impl VocabularyLeaf {
         match self {
             VocabularyLeaf::Type(kind) => is_of_kind(*kind, node),
             VocabularyLeaf::Types(kinds) => is_of_some_kind(kinds, node),
-            VocabularyLeaf::Enum(values) => is_candidate(values, node),
+            VocabularyLeaf::Enum(candidates) => candidates.has(node),
             VocabularyLeaf::Const(value) => is_value(value, node),
             VocabularyLeaf::MultipleOf(divisor) => is_multiple(*divisor, node),
             VocabularyLeaf::Bound(bound, number) => is_within(*bound, *number, node),
@@ -116,7 +117,7 @@ impl VocabularyLeaf {
         match self {
             VocabularyLeaf::Type(kind) => kind_text(alloc, node, *kind),
             VocabularyLeaf::Types(kinds) => kinds_text(alloc, node, kinds),
-            VocabularyLeaf::Enum(values) => candidates_text(alloc, node, values),
+            VocabularyLeaf::Enum(candidates) => candidates_text(alloc, node, candidates.values()),
             VocabularyLeaf::Const(value) => constant_text(alloc, value),
             VocabularyLeaf::MultipleOf(divisor) => multiple_text(alloc, node, *divisor),
             VocabularyLeaf::Bound(bound, number) => bound_text(alloc, node, *bound, *number),

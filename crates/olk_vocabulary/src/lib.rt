@@ -4,6 +4,7 @@
 //! `olk_vocabulary_tests`.
 #![tactic(auto)]
 
+mod candidates;
 mod equality;
 mod keyword;
 mod kinds;
@@ -11,8 +12,10 @@ mod leaf;
 mod lengths;
 mod maker;
 mod numbers;
+mod ranked;
 mod texts;
 
+pub use candidates::Candidates;
 pub use keyword::{Bound, Keyword, Limit};
 pub use leaf::VocabularyLeaf;
 pub use maker::Vocabulary;

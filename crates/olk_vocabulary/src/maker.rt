@@ -5,6 +5,7 @@ ghost use Rattle.serde_json.specs.View.{view, items_view};
 ghost use Rattle.olk_vocabulary.specs.Leaves.{IsMade};
 ghost use Rattle.olk_vocabulary.specs.Vocabulary.{is_unread};
 
+use crate::candidates::Candidates;
 use crate::keyword::{Bound, Keyword, Limit};
 use crate::kinds::{is_short, kind_of, kinds_of};
 use crate::leaf::VocabularyLeaf;
@@ -72,7 +73,7 @@ fn leaf_of(
 {
     match keyword {
         Keyword::Type => type_leaf(alloc, value),
-        Keyword::Enum => enum_leaf(value),
+        Keyword::Enum => enum_leaf(alloc, value),
         Keyword::Const => const_leaf(value),
         Keyword::MultipleOf => Ok(multiple_leaf(value)),
         Keyword::Bound(bound) => Ok(bound_leaf(bound, value)),
@@ -104,11 +105,14 @@ fn types_leaf(alloc: Global, items: &Vec<Value>) -> Result<Option<VocabularyLeaf
     }
 }
 
-fn enum_leaf(value: &Value) -> Result<Option<VocabularyLeaf>, AllocError>
+fn enum_leaf(alloc: Global, value: &Value) -> Result<Option<VocabularyLeaf>, AllocError>
     ensures { IfOk result (IsMade Keyword.Enum (view value.now)) }
 {
     match value.clone()? {
-        Value::Array(values) => Ok(Some(VocabularyLeaf::Enum(values))),
+        Value::Array(values) => {
+            let candidates = Candidates::new(alloc, values)?;
+            Ok(Some(VocabularyLeaf::Enum(candidates)))
+        }
         Value::Null | Value::Bool(_) | Value::Number(_) => Ok(None),
         Value::String(_) | Value::Object(_) => Ok(None),
     }

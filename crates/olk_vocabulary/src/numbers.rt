@@ -85,7 +85,7 @@ impl JsonNumber {
         }
     }
 
-    fn compare(self, other: JsonNumber) -> Option<Ordering>
+    pub(crate) fn compare(self, other: JsonNumber) -> Option<Ordering>
         ensures { result ≡ float_partial_cmp (exact (num_of self)) (exact (num_of other)) }
     {
         match (self, other) {

@@ -65,6 +65,16 @@ enum | [null] | 0.5 | value is not one of null
 enum | {} | 0 | refused
 enum | [0.5,1] | 0.5 | -
 enum | [0.5,1] | 2 | 2 is not one of value or 1
+enum | [5,3,1,4,2] | 3 | -
+enum | [5,3,1,4,2] | 6 | 6 is not one of 5, 3 or 3 other candidates
+enum | [3,1e300,-7,0.5,2] | -7.0 | -
+enum | [3,1e300,-7,0.5,2] | 1e300 | -
+enum | [9007199254740993,9007199254740991] | 9007199254740992.0 | value is not one of 9007199254740993 or 9007199254740991
+enum | [0] | -0.0 | -
+enum | [2,1.0,1] | 1 | -
+enum | ["b","","a"] | "a" | -
+enum | ["1"] | 1 | 1 is not one of "1"
+enum | [1] | "1" | "1" is not one of 1
 minimum | 5 | 4 | 4 is less than the minimum of 5
 minimum | 5 | 5 | -
 minimum | 5 | "4" | -
