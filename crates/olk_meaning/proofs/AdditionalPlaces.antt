@@ -15,9 +15,11 @@ use Rattle.olk_spec.specs.Reports.{unexpected_faults}
 use Rattle.olk_spec.specs.Tree.{Tree}
 use Rattle.olk_spec.proofs.Walks.{neither}
 use Rattle.olk_spec.specs.Malformed.{own_refusals, read_places, places_where, itself, unless_kind, malformations_step, malformations_at}
+use Rattle.olk_spec.specs.Costs.{cost, cost_step, no_cost, total_cost}
+use Rattle.olk_spec.proofs.CostSums.{sum_first, sum_last}
 use Rattle.olk_spec.proofs.Reading.{place, whole_read, schema_of_read}
 use Rattle.olk_meaning.specs.Conditions.{is_restriction, is_restricted}
-use Rattle.olk_meaning.specs.Members.{member_malformations}
+use Rattle.olk_meaning.specs.Members.{member_malformations, member_cost}
 use Rattle.olk_meaning.specs.AdditionalProperties.{is_rule, declared_beside, patterns_beside, has_beside, is_other, other_members, rest_accepts, rest_asks, rest_report, others_report}
 use Rattle.olk_meaning.proofs.AdditionalProperties.{each_passes, nothing_of_each, additional_accepts, additional_report}
 use Rattle.olk_meaning.proofs.Conditions.{MeansNothing, restricted_read}
@@ -44,6 +46,14 @@ module _ (W : World) (ms : Members) (d : Data) where
       by : (b : Bool) → flat_map (λ r. r.0.answer (down P r.1)) (places_where (codes "additionalProperties") b
           (itself (codes "additionalProperties") (place (malformations_step W) d))) ≡ cond b (malformations_at W d (P // codes "additionalProperties")) []
       by true = append-nil _
+      by false = refl
+
+  pub additional_cost : member_cost W ms (codes "additionalProperties", d) additional_properties ≡ cond (is_object d) (cost W d) no_cost
+  unfolding cost
+  additional_cost = sum_first _ ∙ ap (total_cost (λ r. r.0.answer)) (additional_places (cost_step W) d (codes "additionalProperties") (read_members (cost_step W) ms)) ∙ by (is_object d)
+    where
+      by : (b : Bool) → total_cost (λ r. r.0.answer) (places_where (codes "additionalProperties") b (itself (codes "additionalProperties") (place (cost_step W) d))) ≡ cond b (cost W d) no_cost
+      by true = sum_last _
       by false = refl
 
 -- ---- where it allows every other member

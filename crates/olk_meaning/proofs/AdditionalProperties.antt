@@ -12,7 +12,7 @@ use Rattle.olk_spec.specs.Vocabulary.{additional_properties}
 use Rattle.olk_spec.specs.Faults.{Fault}
 use Rattle.olk_spec.specs.Schemas.{Schema, Sub, read, read_members, members, is_object, is_truth}
 use Rattle.olk_spec.specs.Meanings.{Meaning, Asked, asked}
-use Rattle.olk_spec.specs.Meaning.{asks, report, meaning, meaning_step}
+use Rattle.olk_spec.specs.Meaning.{accepts, asks, report, meaning, meaning_step}
 use Rattle.olk_spec.specs.Reports.{unexpected_faults, own}
 use Rattle.olk_spec.proofs.Walks.{list_all-filter_once}
 use Rattle.olk_spec.proofs.Reading.{place, whole_read}
@@ -55,6 +55,15 @@ none_passes t (x ∷ xs) = by (t x) (none_passes t xs)
 pub each_passes : {X : Type 0} (t : X → Bool) (xs : List X) → true ≡ list_all (λ x. not (t x) || true) xs
 each_passes t [] = refl
 each_passes t (x ∷ xs) = each_passes t xs ∙ ap (λ b. b && list_all (λ y. not (t y) || true) xs) (sym (or-true _))
+
+-- false accepts nothing, and asks nothing
+pub false_accepts_none : (W : World) (u : Bool) (v : Data) → accepts W u (boolean false) v ≡ false
+unfolding meaning
+false_accepts_none W u v = refl
+
+pub false_asks_nothing : (W : World) (u : Bool) (v : Data) → asks W u (boolean false) v ≡ 0
+unfolding meaning
+false_asks_nothing W u v = refl
 
 -- ---- the keyword itself
 

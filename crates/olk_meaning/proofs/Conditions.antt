@@ -16,10 +16,10 @@ use Rattle.olk_spec.specs.Meanings.{Meaning, restricts, is_conditional, if_accep
 use Rattle.olk_spec.specs.Meaning.{accepts, asks, report, tree, meaning, meaning_step}
 use Rattle.olk_spec.specs.Tree.{Tree, plain}
 use Rattle.olk_spec.specs.Trees.{case_trees}
-use Rattle.olk_spec.proofs.Walks.{same_name}
+use Rattle.olk_spec.proofs.Walks.{same_name, neither}
 use Rattle.olk_spec.proofs.Reading.{place, lookup_listed, whole_read, is_present_read, wholes_there, wholes_absent, wholes_at_read}
 use Rattle.olk_meaning.specs.Members.{member_accepts, member_asks, member_report, member_child}
-use Rattle.olk_meaning.specs.Conditions.{is_condition, is_conditional_name, is_restriction, is_restricted, Known, IsKnown}
+use Rattle.olk_meaning.specs.Conditions.{is_condition, is_conditional_name, is_read_beside, is_restriction, is_restricted, Known, IsKnown}
 use Rattle.olk_meaning.proofs.Facts.{accepts_it, asks_it, finds_it, nothing_first, nothing_last}
 use Rattle.olk_meaning.proofs.TakenOver.{absent_if}
 
@@ -34,6 +34,14 @@ conditional_named k e = by (bytes_eq k _) _ _ refl refl refl e
     by false true c p q r h = inr (inl (same_name k _ q))
     by false false true p q r h = inr (inr (same_name k _ r))
     by false false false p q r h = absurd (true≢false (sym h))
+
+-- the others need not know their neighbours
+pub known_alone : (c : Known) (ms : Members) (k : Name) → is_read_beside k ≡ false → IsKnown c ms k
+known_alone c ms k e =
+    let apart = neither (is_conditional_name k) (bytes_eq k _) e in (
+      (λ q. absurd (true≢false (sym q ∙ apart.0))),
+      λ q. absurd (true≢false (sym (ap (λ n. bytes_eq n (codes "patternProperties")) q) ∙ apart.1)),
+    )
 
 -- beside `then`, and beside `else`, `if` is read where it is there
 module _ (ms : Members) where

@@ -237,6 +237,8 @@ module _ {X : Type 0} (step : Schema X → X) (d : Data) (k : Name) where
         ∙ ap (λ fs. unless_object d L ++ fs) (flat_map-map _ _ (entry step) (λ e. refl) (members d))
 
   module _ (S : Keywords X) where
+    pub dependent_schemas_places : read_places k S (read step d) dependent_schemas ≡ each k (map (entry step) (members d))
+    dependent_schemas_places = ap (each k) (entries_read step d)
 
     pub dependencies_places : read_places k S (read step d) dependencies ≡ each k (map (entry step) (schema_entries d))
     dependencies_places = ap (each k) (ap (filter_once _) (entries_read step d) ∙ filter_once-map _ _ (entry step) (λ e. refl) (members d))

@@ -12,12 +12,12 @@ use Rattle.olk_spec.specs.Names.{Name, Path, ◌//◌, filter_once, put_if}
 use Rattle.olk_spec.specs.World.{World, is_unfinished}
 use Rattle.olk_spec.specs.Vocabulary.{pattern_properties}
 use Rattle.olk_spec.specs.Faults.{Fault, Regex}
-use Rattle.olk_spec.specs.Schemas.{Sub, Schema, read, read_members, answer_for, members, is_object, entries_at}
+use Rattle.olk_spec.specs.Schemas.{Sub, Schema, Keywords, read, read_members, answer_for, members, is_object, entries_at}
 use Rattle.olk_spec.specs.Meanings.{Meaning, Subschema, Asked, asked, restricts, matches, is_open, is_declared}
 use Rattle.olk_spec.specs.Meaning.{accepts, asks, report, tree, meaning, meaning_step}
 use Rattle.olk_spec.specs.Asks.{open_patterns, asks_at}
 use Rattle.olk_spec.specs.Tree.{result}
-use Rattle.olk_spec.specs.Malformed.{refusal, each, unless_object, own_refusals}
+use Rattle.olk_spec.specs.Malformed.{refusal, each, unless_object, own_refusals, read_places}
 use Rattle.olk_spec.specs.Costs.{Cost, cost_step, own_cost, no_cost, ◌⊕◌, total_cost}
 use Rattle.olk_spec.proofs.CostSums.{sum_last}
 use Rattle.olk_spec.proofs.Maps.{map-map}
@@ -200,6 +200,9 @@ unbuilt W d L = map (λ t. refusal Regex (string t) (L // t)) (filter_once (λ t
 module _ {X : Type 0} (step : Schema X → X) (d : Data) (k : Name) where
   pub pattern_properties_refusals : (W : World) (L : Path) → own_refusals W k (read step d) L pattern_properties ≡ unless_object d L ++ unbuilt W d L
   pattern_properties_refusals W L = λ i. unless_object (schema_of_read step d i) L ++ map (λ t. refusal Regex (string t) (L // t)) (filter_once (λ t. not (W.builds t)) (open_read W step d i))
+
+  pub pattern_properties_places : (S : Keywords X) → read_places k S (read step d) pattern_properties ≡ each k (map (entry step) (members d))
+  pattern_properties_places S = ap (each k) (entries_read step d)
 
 module _ (W : World) (ms : Members) (d : Data) where
   -- a matcher for each pattern that has no test, and what is asked for a table

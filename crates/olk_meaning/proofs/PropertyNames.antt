@@ -1,7 +1,7 @@
 -- `propertyNames`, over the raw data of its value: a schema for names, `false`, or what is not read.
 use Rattle.std.specs.Prelude.{◌≡◌, Bool, true, false, not, ◌&&◌, ◌||◌, List, [], ◌∷◌, ◌++◌, map, sum_by, codes}
 use Rattle.std.specs.List.{list_all, flat_map}
-use Rattle.std.proofs.Common.{refl, sym, ◌∙◌}
+use Rattle.std.proofs.Common.{refl, sym, ◌∙◌, ap}
 use Rattle.std.proofs.lemmas.List.{append-nil}
 use Rattle.std.proofs.Math.Bool.{and-true}
 use mathlib.Core.Bool.{true≢false}
@@ -10,13 +10,15 @@ use Rattle.olk_spec.specs.Names.{Name, Path, ◌//◌, is_empty, put_if}
 use Rattle.olk_spec.specs.World.{World}
 use Rattle.olk_spec.specs.Vocabulary.{property_names}
 use Rattle.olk_spec.specs.Faults.{Fault, FalseSchema, IsLike, like, like_names, ◌∼◌, like_empty, like_next, like_swap, like_through}
-use Rattle.olk_spec.specs.Schemas.{Schema, Keywords, read, members, is_object, is_truth}
+use Rattle.olk_spec.specs.Schemas.{Schema, Keywords, read, read_members, members, is_object, is_truth}
 use Rattle.olk_spec.specs.Meaning.{accepts, asks, report, tree, meaning, meaning_step}
 use Rattle.olk_spec.specs.Reports.{fault_if, wrapped}
 use Rattle.olk_spec.specs.Tree.{plain, erring}
-use Rattle.olk_spec.specs.Malformed.{itself}
+use Rattle.olk_spec.specs.Malformed.{itself, places_where, malformations_at, read_places, malformations_step}
+use Rattle.olk_spec.specs.Costs.{cost, cost_step, total_cost}
+use Rattle.olk_spec.proofs.CostSums.{sum_first, sum_last}
 use Rattle.olk_spec.proofs.Reading.{place, whole_read}
-use Rattle.olk_meaning.specs.Members.{member_accepts, member_asks, member_report, member_child}
+use Rattle.olk_meaning.specs.Members.{member_accepts, member_asks, member_report, member_child, member_malformations, member_cost}
 use Rattle.olk_meaning.proofs.Asking.{names_ask_nothing}
 use Rattle.olk_meaning.proofs.Facts.{nothing_first}
 use Rattle.olk_spec.specs.Meanings.{Meaning}
@@ -132,6 +134,22 @@ module _ (W : World) (ms : Members) (d : Data) (u : Bool) (v : Data) where
 
 module _ {X : Type 0} (step : Schema X → X) (d : Data) (k : Name) where
   module _ (S : Keywords X) where
+    places_by : (b : Bool) → is_object d ≡ b → read_places k S (read step d) property_names ≡ places_where k b (itself k (place step d))
+    places_by b e = (λ i. places_where k (is_object (whole_read step d i).schema) (itself k (whole_read step d i))) ∙ (λ i. places_where k (e i) (itself k (place step d)))
+
+    pub property_names_places : is_object d ≡ true → read_places k S (read step d) property_names ≡ itself k (place step d)
+    property_names_places = places_by true
+
+    pub other_names_places : is_object d ≡ false → read_places k S (read step d) property_names ≡ []
+    other_names_places = places_by false
 
 module _ (W : World) (ms : Members) (d : Data) where
   module _ (P : Path) where
+    pub property_names_malformations : is_object d ≡ true → member_malformations W ms (codes "propertyNames", d) property_names P ≡ malformations_at W d (P // codes "propertyNames")
+    unfolding malformations_at
+    property_names_malformations e =
+        ap (flat_map (λ r. r.0.answer _)) (property_names_places (malformations_step W) d (codes "propertyNames") (read_members (malformations_step W) ms) e) ∙ append-nil _
+
+  pub property_names_cost : is_object d ≡ true → member_cost W ms (codes "propertyNames", d) property_names ≡ cost W d
+  unfolding cost
+  property_names_cost e = sum_first _ ∙ ap (total_cost (λ r. r.0.answer)) (property_names_places (cost_step W) d (codes "propertyNames") (read_members (cost_step W) ms) e) ∙ sum_last _

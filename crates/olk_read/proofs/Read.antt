@@ -5,7 +5,7 @@ use Rattle.std.specs.declared.alloc.AllocError.{AllocError}
 use Rattle.std.proofs.Common.{refl, sym, ◌∙◌, ap, subst}
 use Rattle.std.proofs.Math.Bool.{or-false}
 use mathlib.Core.Bool.{true≢false}
-use Rattle.serde_json.specs.Data.{Data, array}
+use Rattle.serde_json.specs.Data.{Data, array, Items}
 use Rattle.olk_spec.specs.Names.{Name, Path, is_among}
 use Rattle.olk_spec.specs.World.{World}
 use Rattle.olk_spec.specs.Vocabulary.{Keyword, leaf, unsupported, unsupported_names, keyword_named}
@@ -40,6 +40,10 @@ pub spends_leaf : (a b : Counts) → b ≡ count_leaf a → Spends a b (record n
 spends_leaf a b e = e ∙ rw (raised_zero a.compiled, raised_zero a.made, raised_zero a.asked, raised_zero a.unfinished) refl
 
 -- ---- values of a kind
+
+pub array_of : (d : Data) → is_array d ≡ true → (ds : Items) × (d ≡ array ds)
+array_of (array ds) e = (ds, refl)
+array_of d e = absurd (true≢false (sym e))
 
 pub no_text_missed : (d : Data) (L : Path) → is_array d ≡ false → not_a_text d L ≡ []
 no_text_missed (array ds) L e = absurd (true≢false e)

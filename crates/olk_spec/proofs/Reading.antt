@@ -1,5 +1,5 @@
 -- What a schema's keywords are, by the members of its data.
-use Rattle.std.specs.Prelude.{◌≡◌, List, [], ◌∷◌, map, Option, Some, None, option_map, option_to_list, is_some}
+use Rattle.std.specs.Prelude.{◌≡◌, Bool, List, [], ◌∷◌, map, Option, Some, None, option_map, option_to_list, is_some}
 use Rattle.std.specs.List.{flat_map}
 use Rattle.std.specs.Ordering.{nat_cmp, match_ordering}
 use Rattle.std.specs.Cmp.Lexicographic.{slice_cmp}
@@ -12,6 +12,8 @@ use Rattle.serde_json.specs.Find.{get_member}
 use Rattle.olk_spec.specs.Names.{Name, lookup_name, first_if_equal}
 use Rattle.olk_spec.specs.Malformed.{items_list, items_of_array}
 use Rattle.olk_spec.specs.Schemas.{Sub, Part, Schema, keywords, read, read_items, read_members, answer_for, whole_entries, inner_entries, whole_items, listed, members, texts, is_present, entries_at, names_at, wholes_at, numbered, branches, names}
+use Rattle.olk_spec.specs.World.{World}
+use Rattle.olk_spec.specs.Meaning.{meaning, meaning_step}
 
 found_first : {X Y : Type 0} (f : X → Y) (o : Ordering) (x : X) (r : Option Y) (s : Option X) → r ≡ option_map f s → first_if_equal o (f x) r ≡ option_map f (match_ordering o s (Some x) s)
 found_first f Equal x r s e = refl
@@ -130,3 +132,8 @@ module _ {X : Type 0} (step : Schema X → X) where
     module _ (e : get_member k ms ≡ None) where
       pub wholes_absent : wholes_at (read_members step ms) k ≡ []
       wholes_absent = wholes_at_read ∙ ap (λ o. map place (option_to_list o)) e
+
+-- one level of the recursion
+pub meaning_of_object : (W : World) (u : Bool) (ms : Members) → meaning W u (object ms) ≡ meaning_step W u (keywords (read_members (meaning_step W u) ms))
+unfolding meaning
+meaning_of_object W u ms = refl

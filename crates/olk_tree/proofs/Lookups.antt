@@ -48,6 +48,10 @@ module _ {X : Type 0} where
   read_at xs i None h m = sym (slice_get_past xs i m)
   read_at xs i (Some x) h m = sym (slice_get_read xs _ i x.now refl m.0 h)
 
+  pub read_in : (xs slice : List X) (i : ℕ) (o : Option (Bor X)) → slice ≡ xs → IfSome o (λ x. x.now ≡ get_or slice i x.now)
+      → MatchOption o (length slice ≤ i) (λ x. (i < length slice) × HoldsAt (λ y. x.now ≡ y) slice i) → option_copied o ≡ slice_get xs i
+  read_in xs slice i o same h m = read_at slice i o h m ∙ ap (λ l. slice_get l i) same
+
   -- the place of a name leads to what stands zip it
   pub zip_place : (ks : List Name) (xs : List X) (n : Name) → option_and_then (slice_get xs) (position (λ k. bytes_eq k n) ks) ≡ lookup_name n (zip ks xs)
   zip_place [] xs n = refl
@@ -60,6 +64,11 @@ module _ {X : Type 0} where
       by Equal e h = ap (option_and_then (slice_get (x ∷ xs))) (position-here (λ k. bytes_eq k n) k ks e)
       by Greater e h = ap (option_and_then (slice_get (x ∷ xs))) (position-later _ k ks e) ∙ later x xs _ ∙ h
 
+  -- what is read at the place of a name, and where the name has no place
+  pub zip_found : (ks : List Name) (xs slice : List X) (n : Name) (i : ℕ) (o : Option (Bor X)) → slice ≡ xs → Some i ≡ position (λ k. bytes_eq k n) ks
+      → IfSome o (λ x. x.now ≡ get_or slice i x.now) → MatchOption o (length slice ≤ i) (λ x. (i < length slice) × HoldsAt (λ y. x.now ≡ y) slice i) → option_copied o ≡ lookup_name n (zip ks xs)
+  zip_found ks xs slice n i o same e h m = read_in xs slice i o same h m ∙ ap (option_and_then _) e ∙ zip_place ks xs n
+
   pub zip_none : (ks : List Name) (xs : List X) (n : Name) → None ≡ position (λ k. bytes_eq k n) ks → None ≡ lookup_name n (zip ks xs)
   zip_none ks xs n e = ap (option_and_then _) e ∙ zip_place ks xs n
 
@@ -67,6 +76,15 @@ module _ {X : Type 0} where
   numbered_get k [] i j e = refl
   numbered_get k (x ∷ xs) zero j e = ap (λ p. Some (p, x)) (let f : k ≡ j = omega arith in f)
   numbered_get k (x ∷ xs) (suc i) j e = numbered_get (k + 1) xs i j (omega arith)
+
+  -- what is read at an index, with the index
+  pub numbered_at : (xs : List X) (i : ℕ) (o : Option (Bor X)) → IfSome o (λ x. x.now ≡ get_or xs i x.now) → MatchOption o (length xs ≤ i)
+      (λ x. (i < length xs) × HoldsAt (λ y. x.now ≡ y) xs i) → option_map {U = ℕ × X} (λ x. (i, x.now)) o ≡ slice_get (placed xs) i
+  numbered_at xs i o h m = with_index o ∙ ap (option_map {U = ℕ × X} _) (read_at xs i o h m) ∙ sym (numbered_get 0 xs i i (omega arith))
+    where
+      with_index : (o : Option (Bor X)) → option_map {U = ℕ × X} (λ x. (i, x.now)) o ≡ option_map {U = ℕ × X} (λ x. (i, x)) (option_copied o)
+      with_index None = refl
+      with_index (Some x) = refl
 
 pub keys_are : {N : Type 0} (es : List (Entry N)) → names_of es ≡ keys_in (entries_are es)
 keys_are [] = refl
