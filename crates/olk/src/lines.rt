@@ -1,5 +1,6 @@
 //! Errors as lines for people.
 use crate::console::Place;
+use crate::shown::short_message;
 use crate::visible::Visible;
 use olk_validator::{ValidationError, ValidationErrorKind};
 use std::alloc::{AllocError, Global};
@@ -43,8 +44,8 @@ pub fn error_lines(
 /// # Errors
 ///
 /// Out of memory.
-pub fn error_text(alloc: Global, error: &ValidationError<'_>) -> Result<String, AllocError> {
-    let mut text = error.message(alloc)?;
+fn error_text(alloc: Global, error: &ValidationError<'_>) -> Result<String, AllocError> {
+    let mut text = short_message(alloc, error)?;
     let path = error.schema_path();
     if !path.is_empty() {
         write!(text, " ({path})")?;

@@ -7,11 +7,19 @@
 mod answer;
 mod console;
 mod instances;
+mod limited;
 mod lines;
+mod nesting;
 mod options;
+mod pointer;
 mod program;
 mod reading;
+mod schema;
+mod shown;
+mod support;
+mod unsupported;
 mod visible;
+mod words;
 
 use std::io::IsTerminal;
 use std::process::ExitCode;

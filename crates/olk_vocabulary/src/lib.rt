@@ -15,5 +15,5 @@ mod texts;
 
 pub use keyword::{Bound, Keyword, Limit};
 pub use leaf::VocabularyLeaf;
-pub use maker::Vocabulary;
+pub use maker::{Vocabulary, is_unread};
 pub use numbers::JsonNumber;
