@@ -1,10 +1,5 @@
--- How far a run came: of an instance, of what is read, of one after another.
-use Rattle.std.specs.Prelude.{◌≡◌, ◌⊎◌, ℕ, Bool, true, false, List, [], ◌∷◌, Option, Some, None, IsUtf8}
-use Rattle.serde_json.specs.Data.{Data}
-use Rattle.serde_json.specs.Read.{read}
-use Rattle.olk_spec.specs.Names.{Text}
-use Rattle.olk_spec.specs.World.{World}
-use Rattle.olk_spec.specs.Meaning.{accepts}
+-- How far a run came: of an instance, and of two.
+use Rattle.std.specs.Prelude.{ℕ, Bool, true, false}
 use Rattle.olk.specs.declared.console.Status.{Status}
 use Rattle.olk.specs.declared.console.Status.TheVariants.{Valid, Invalid, Failed, Memory}
 
@@ -27,20 +22,3 @@ worse Invalid t = t
 worse Failed Memory = Memory
 worse Failed t = Failed
 worse Memory t = Memory
-
--- whether a text is JSON that `serde_json` reads
-abbrev pub IsReadAs : Text → Data → Type 0
-IsReadAs text v = IsUtf8 text × (read text ≡ Some v)
-
-abbrev pub IsUnread : Text → Type 0
-IsUnread text = IsUtf8 text → read text ≡ None
-
--- what is read for an instance: a text, or nothing where that failed; and the status of it by a schema S
-abbrev pub IsStatusOf : World → Data → Option Text → Status → Type 0
-IsStatusOf W S None s = s ≡ Failed
-IsStatusOf W S (Some text) s = ((v : Data) × IsReadAs text v × (s ≡ status_of (accepts W false S v))) ⊎ (IsUnread text × (s ≡ Failed))
-
--- what is read is checked one after another, from one status to another
-abbrev pub IsChecked : World → Data → Status → List (Option Text) → Status → Type 0
-IsChecked W S old [] new = new ≡ old
-IsChecked W S old (it ∷ rest) new = (s : Status) × IsStatusOf W S it s × IsChecked W S (worse old s) rest new

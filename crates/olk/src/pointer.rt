@@ -4,16 +4,16 @@ use std::alloc::{AllocError, Global};
 
 /// Where a subschema stands in a schema, by the segments that lead there, on the stack of a walk.
 #[derive(Clone, Copy)]
-pub enum Pointer<'p> {
+pub enum Pointer<'p, 'n> {
     /// The whole schema.
     Root,
     /// A member of what stands there.
-    Member(&'p Pointer<'p>, &'p str),
+    Member(&'p Pointer<'p, 'n>, &'n str),
     /// An item of what stands there.
-    Item(&'p Pointer<'p>, usize),
+    Item(&'p Pointer<'p, 'n>, usize),
 }
 
-impl Pointer<'_> {
+impl Pointer<'_, '_> {
     /// The text of the JSON pointer (RFC 6901, section 3), of which 200 bytes are shown at most, and
     /// then `..`.
     ///

@@ -110,11 +110,11 @@ fn check_by_file<T: Files + Input + Print + Eprint + Clock + AllocGlobal>(
 }
 
 /// Builds the schema's validator, and checks each instance by it, or else the schema alone.
-fn check_by<T: Files + Input + Print + Eprint + Clock + AllocGlobal>(
+fn check_by<'c, T: Files + Input + Print + Eprint + Clock + AllocGlobal>(
     rt: &T,
     console: &mut Console<'_, T>,
-    options: &Options<'_>,
-    schema: &Value,
+    options: &'c Options<'_>,
+    schema: &'c Value,
 ) -> io::Result<()> {
     if !options.is_quiet {
         note_draft(console, options.schema, schema)?;
@@ -126,8 +126,8 @@ fn check_by<T: Files + Input + Print + Eprint + Clock + AllocGlobal>(
     match Validator::build(rt.alloc(), &Vocabulary, &NoRegexes, schema, &mut meter) {
         Ok(validator) => {
             let checker = Checker {
-                options,
-                schema,
+                options: &*options,
+                schema: &*schema,
                 validator: &validator,
             };
             if options.instances.is_empty() {

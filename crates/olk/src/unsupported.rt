@@ -32,7 +32,12 @@ struct Found {
 impl Found {
     /// Looks at a schema, and at those in it that are so many levels further down.
     #[cycle(places)]
-    fn look_at(&mut self, place: &Pointer<'_>, schema: &Value, left: u8) -> Result<(), AllocError> {
+    fn look_at<'s>(
+        &mut self,
+        place: &Pointer<'_, 's>,
+        schema: &'s Value,
+        left: u8,
+    ) -> Result<(), AllocError> {
         let Value::Object(members) = schema else {
             return Ok(());
         };
@@ -46,58 +51,58 @@ impl Found {
                 name,
                 value,
             };
-            self.look_at_member(&Pointer::Member(place, name), member, left - 1)?;
+            self.look_at_member(&Pointer::Member(&*place, name), member, left - 1)?;
         }
         Ok(())
     }
 
     #[cycle(places)]
-    fn look_at_member(
+    fn look_at_member<'s>(
         &mut self,
-        place: &Pointer<'_>,
-        member: Member<'_>,
+        place: &Pointer<'_, 's>,
+        member: Member<'s>,
         left: u8,
     ) -> Result<(), AllocError> {
         if let Some(what) = member.unsupported() {
             self.add(place, what)?;
         }
         match (member.held(), member.value) {
-            (Held::Itself, schema) => self.look_at(place, schema, left),
-            (Held::Items, Value::Array(schemas)) => self.look_at_items(place, schemas, left),
+            (Held::Itself, schema) => self.look_at(&*place, schema, left),
+            (Held::Items, Value::Array(schemas)) => self.look_at_items(&*place, schemas, left),
             (Held::Entries, Value::Object(entries)) => {
-                self.look_at_entries(place, member, entries, left)
+                self.look_at_entries(&*place, member, entries, left)
             }
             (Held::EntriesOfEntries, Value::Object(entries)) => {
-                self.look_at_inner_entries(place, entries, left)
+                self.look_at_inner_entries(&*place, entries, left)
             }
             _ => Ok(()),
         }
     }
 
     #[cycle(places)]
-    fn look_at_items(
+    fn look_at_items<'s>(
         &mut self,
-        place: &Pointer<'_>,
-        schemas: &Vec<Value>,
+        place: &Pointer<'_, 's>,
+        schemas: &'s Vec<Value>,
         left: u8,
     ) -> Result<(), AllocError> {
         for (index, schema) in schemas.iter().enumerate() {
-            self.look_at(&Pointer::Item(place, index), schema, left)?;
+            self.look_at(&Pointer::Item(&*place, index), schema, left)?;
         }
         Ok(())
     }
 
     #[cycle(places)]
-    fn look_at_entries(
+    fn look_at_entries<'s>(
         &mut self,
-        place: &Pointer<'_>,
-        member: Member<'_>,
-        entries: &Map<String, Value>,
+        place: &Pointer<'_, 's>,
+        member: Member<'s>,
+        entries: &'s Map<String, Value>,
         left: u8,
     ) -> Result<(), AllocError> {
         for (key, schema) in entries {
             let key = key.as_str();
-            let place = Pointer::Member(place, key);
+            let place = Pointer::Member(&*place, key);
             if let Some(what) = member.unsupported_entry(self.alloc, key, schema)? {
                 self.add(&place, what)?;
             }
@@ -107,14 +112,14 @@ impl Found {
     }
 
     #[cycle(places)]
-    fn look_at_inner_entries(
+    fn look_at_inner_entries<'s>(
         &mut self,
-        place: &Pointer<'_>,
-        entries: &Map<String, Value>,
+        place: &Pointer<'_, 's>,
+        entries: &'s Map<String, Value>,
         left: u8,
     ) -> Result<(), AllocError> {
         for (key, inner) in entries {
-            let place = Pointer::Member(place, key.as_str());
+            let place = Pointer::Member(&*place, key.as_str());
             if let Value::Object(inner) = inner {
                 for (text, schema) in inner {
                     self.look_at(&Pointer::Member(&place, text.as_str()), schema, left)?;
@@ -124,7 +129,7 @@ impl Found {
         Ok(())
     }
 
-    fn add(&mut self, place: &Pointer<'_>, what: Unsupported<'_>) -> Result<(), AllocError> {
+    fn add(&mut self, place: &Pointer<'_, '_>, what: Unsupported<'_>) -> Result<(), AllocError> {
         let place = place.shown(self.alloc)?;
         let line = format!(in self.alloc; "{place}: {what}")?;
         self.lines.push(line)?;
