@@ -1,2 +1,2 @@
-pub mod Answers
-pub mod Statuses
+pub mod Asked
+pub mod Told

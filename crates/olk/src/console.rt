@@ -69,6 +69,13 @@ pub struct Place<'n> {
     pub line: Option<u64>,
 }
 
+impl Place<'_> {
+    /// The number of the first line of the value's text.
+    pub fn first_line(&self) -> u64 {
+        self.line.unwrap_or(1)
+    }
+}
+
 impl Display for Place<'_> {
     fn fmt<W: fmt::Write>(&self, f: &mut Formatter<W>) -> fmt::Result {
         write!(f, "{}", Visible(self.name))?;

@@ -65,6 +65,8 @@ Status:
 The status is that of the worst of all; what has status 2 or 3 is said on standard error, except
 that standard output was closed before all was written (2).
 
+An error is told as FILE:LINE:COLUMN: PATH: MESSAGE (SCHEMA PATH), where a column counts characters.
+
 A text is no JSON here if a number in it is too large for a double, or it is nested over 127 deep.
 A schema can't be used if it is malformed, or something in it is not supported: docs/VOCABULARY.md.";
 
