@@ -1,1 +1,3 @@
-pub mod Answers
+pub mod Asked
+pub mod Statuses
+pub mod Told

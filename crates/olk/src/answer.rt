@@ -1,5 +1,5 @@
 //! What a validator answers about one instance.
-ghost use Rattle.std.specs.Prelude.{◌≡◌, true, false, [], IfOk, MatchOption};
+ghost use Rattle.std.specs.Prelude.{◌≡◌, true, [], IfOk, MatchOption};
 ghost use Rattle.serde_json.specs.Data.{Data};
 ghost use Rattle.serde_json.specs.View.{view};
 ghost use Rattle.olk_base.specs.Kit.{kit, world};
@@ -7,12 +7,11 @@ ghost use Rattle.olk_spec.specs.Meaning.{accepts, report};
 ghost use Rattle.olk_reports.specs.Errors.{fault_of};
 ghost use Rattle.olk_errors.specs.Found.{Appends, IsRefusal};
 ghost use Rattle.olk_validator.specs.Validators.{IsValidatorOf};
-ghost use Rattle.olk_replies.specs.Replies.{has_fraction};
-ghost use Rattle.olk_replies.specs.Seen.{seen};
-ghost use Rattle.olk.specs.Answers.{IsReplyBy};
+ghost use Rattle.olk.specs.Asked.{AreAsked};
 
 use crate::options::Ask;
-use olk_replies::{Question, tell_errors, tell_evaluation, tell_first};
+use olk_base::one;
+use olk_replies::Question;
 use olk_validator::{
     Leaf, RegexEngine, ValidateError, ValidationContext, ValidationError, Validator,
 };
@@ -32,29 +31,29 @@ pub fn accepts<K: Leaf, R: RegexEngine>(
     validator.is_valid(question.instance, &mut ctx)
 }
 
-/// The answer to what is asked, as a line of compact JSON without its line feed.
-///
-/// Where a number of the schema or of the instance is no whole number of 64 bits, it is as well an
-/// answer of that form, but the texts of its errors are left open.
+/// The errors of what is asked of the instance: the first, or all of them in the order of the walk.
 ///
 /// # Errors
 ///
 /// Out of memory.
-pub fn reply<K: Leaf, R: RegexEngine>(
+pub fn asked_errors<'a, K: Leaf, R: RegexEngine>(
     alloc: Global,
-    question: &Question<'_>,
-    validator: &Validator<K, R>,
+    question: &Question<'a>,
+    validator: &'a Validator<K, R>,
     ask: Ask,
-) -> Result<Vec<u8>, AllocError>
+) -> Result<Vec<ValidationError<'a>>, AllocError>
     requires stands { IsValidatorOf (kit K.Leaf R.RegexEngine) validator.now
         (view question.now.schema.now) }
-    ensures { IfOk result (λ answer. has_fraction (seen question.now) ≡ false
-        → IsReplyBy ask (world K.Leaf R.RegexEngine) (seen question.now) answer.items) }
+    ensures { IfOk result (λ errors. AreAsked ask (world K.Leaf R.RegexEngine)
+        question.now.unfinished (view question.now.schema.now) (view question.now.instance.now)
+        errors.items) }
 {
     match ask {
-        Ask::First => tell_first(alloc, question, validator),
-        Ask::Errors => tell_errors(alloc, question, validator),
-        Ask::Evaluate => tell_evaluation(alloc, question, validator),
+        Ask::First => match first_error(alloc, question, validator)? {
+            Some(error) => one(alloc, error),
+            None => Ok(Vec::new(alloc)),
+        },
+        Ask::Errors | Ask::Evaluate => all_errors(alloc, question, validator),
     }
 }
 
@@ -63,7 +62,7 @@ pub fn reply<K: Leaf, R: RegexEngine>(
 /// # Errors
 ///
 /// Out of memory.
-pub fn first_error<'a, K: Leaf, R: RegexEngine>(
+fn first_error<'a, K: Leaf, R: RegexEngine>(
     alloc: Global,
     question: &Question<'a>,
     validator: &'a Validator<K, R>,
@@ -89,7 +88,7 @@ pub fn first_error<'a, K: Leaf, R: RegexEngine>(
 /// # Errors
 ///
 /// Out of memory.
-pub fn all_errors<'a, K: Leaf, R: RegexEngine>(
+fn all_errors<'a, K: Leaf, R: RegexEngine>(
     alloc: Global,
     question: &Question<'a>,
     validator: &'a Validator<K, R>,

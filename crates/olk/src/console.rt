@@ -1,4 +1,7 @@
 //! Where a run tells what it found, and how far it came.
+ghost use Rattle.std.specs.Prelude.{◌≡◌, IfOk, OnOk};
+ghost use Rattle.olk.specs.Statuses.{status_of, code_of, worse};
+
 use crate::visible::Visible;
 use std::alloc::Global;
 use std::fmt::{self, Display, Formatter};
@@ -27,7 +30,9 @@ pub enum Status {
 
 impl Status {
     /// Of an instance that is valid or not.
-    pub fn of(is_valid: bool) -> Status {
+    pub fn of(is_valid: bool) -> Status
+        ensures { result ≡ status_of is_valid }
+    {
         if is_valid {
             Status::Valid
         } else {
@@ -35,8 +40,17 @@ impl Status {
         }
     }
 
+    /// The worse of two.
+    pub fn worse(self, other: Status) -> Status
+        ensures { result ≡ worse self other }
+    {
+        if self < other { other } else { self }
+    }
+
     /// The exit status.
-    pub fn code(self) -> u8 {
+    pub fn code(self) -> u8
+        ensures { result ≡ code_of self }
+    {
         match self {
             Status::Valid => 0,
             Status::Invalid => 1,
@@ -53,6 +67,13 @@ pub struct Place<'n> {
     pub name: &'n str,
     /// The line's number, from 1.
     pub line: Option<u64>,
+}
+
+impl Place<'_> {
+    /// The number of the first line of the value's text.
+    pub fn first_line(&self) -> u64 {
+        self.line.unwrap_or(1)
+    }
 }
 
 impl Display for Place<'_> {
@@ -81,7 +102,9 @@ impl<'r, T: Print + Eprint + AllocGlobal> Console<'r, T> {
     /// # Errors
     ///
     /// Out of memory.
-    pub fn new(rt: &'r T, start: Option<Instant>) -> io::Result<Console<'r, T>> {
+    pub fn new(rt: &'r T, start: Option<Instant>) -> io::Result<Console<'r, T>>
+        ensures { IfOk result (λ console. console.status ≡ Status.Valid) }
+    {
         let out = BufWriter::with_capacity(rt.alloc(), OUTPUT_LEN, io::writer(rt))?;
         Ok(Console {
             rt,
@@ -92,10 +115,10 @@ impl<'r, T: Print + Eprint + AllocGlobal> Console<'r, T> {
     }
 
     /// Counts what an instance, or something else, came to.
-    pub fn count(&mut self, status: Status) {
-        if self.status < status {
-            self.status = status;
-        }
+    pub fn count(&mut self, status: Status)
+        ensures { self.new.status ≡ worse self.old.status status }
+    {
+        self.status = self.status.worse(status);
     }
 
     /// The allocator.
@@ -108,7 +131,9 @@ impl<'r, T: Print + Eprint + AllocGlobal> Console<'r, T> {
     /// # Errors
     ///
     /// A write failed.
-    pub fn write<D: Display + Drop>(&mut self, text: D) -> io::Result<()> {
+    pub fn write<D: Display + Drop>(&mut self, text: D) -> io::Result<()>
+        ensures { self.new.status ≡ self.old.status }
+    {
         write!(self.out, "{text}")
     }
 
@@ -117,7 +142,9 @@ impl<'r, T: Print + Eprint + AllocGlobal> Console<'r, T> {
     /// # Errors
     ///
     /// A write failed.
-    pub fn write_line(&mut self, line: &[u8]) -> io::Result<()> {
+    pub fn write_line(&mut self, line: &[u8]) -> io::Result<()>
+        ensures { self.new.status ≡ self.old.status }
+    {
         self.out.write_all(line)?;
         self.out.write_all(b"\n")
     }
@@ -127,10 +154,23 @@ impl<'r, T: Print + Eprint + AllocGlobal> Console<'r, T> {
     /// # Errors
     ///
     /// A write failed.
-    pub fn fail<D: Display + Drop>(&mut self, why: D) -> io::Result<()> {
+    pub fn fail<D: Display + Drop>(&mut self, why: D) -> io::Result<()>
+        ensures { self.new.status ≡ worse self.old.status Status.Failed }
+    {
         self.count(Status::Failed);
+        self.note(why)
+    }
+
+    /// Says something on standard error, behind what was written before.
+    ///
+    /// # Errors
+    ///
+    /// A write failed.
+    pub fn note<D: Display + Drop>(&mut self, what: D) -> io::Result<()>
+        ensures { self.new.status ≡ self.old.status }
+    {
         self.out.flush()?;
-        eprintln!(self.rt; "olk: {why}")
+        eprintln!(self.rt; "olk: {what}")
     }
 
     /// Says that a file can't be read.
@@ -138,7 +178,9 @@ impl<'r, T: Print + Eprint + AllocGlobal> Console<'r, T> {
     /// # Errors
     ///
     /// A write failed, or the error is out of memory.
-    pub fn fail_to_read(&mut self, name: &str, error: io::Error) -> io::Result<()> {
+    pub fn fail_to_read(&mut self, name: &str, error: io::Error) -> io::Result<()>
+        ensures { OnOk result (self.new.status ≡ worse self.old.status Status.Failed) }
+    {
         if error.kind() == ErrorKind::OutOfMemory {
             return Err(error);
         }
@@ -151,7 +193,9 @@ impl<'r, T: Print + Eprint + AllocGlobal> Console<'r, T> {
     /// # Errors
     ///
     /// A write failed.
-    pub fn finish(mut self) -> io::Result<Status> {
+    pub fn finish(mut self) -> io::Result<Status>
+        ensures { IfOk result (λ status. status ≡ self.entry.status) }
+    {
         self.out.flush()?;
         Ok(self.status)
     }
@@ -163,7 +207,9 @@ impl<'r, T: Print + Eprint + Clock> Console<'r, T> {
     /// # Errors
     ///
     /// A write failed.
-    pub fn tell_progress(&mut self, checked: usize, files: usize) -> io::Result<()> {
+    pub fn tell_progress(&mut self, checked: usize, files: usize) -> io::Result<()>
+        ensures { self.new.status ≡ self.old.status }
+    {
         let (Some(told), Ok(now)) = (self.told, Instant::now(self.rt)) else {
             return Ok(());
         };

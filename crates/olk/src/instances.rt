@@ -3,13 +3,15 @@ ghost use Rattle.serde_json.specs.View.{view};
 ghost use Rattle.olk_base.specs.Kit.{kit};
 ghost use Rattle.olk_validator.specs.Validators.{IsValidatorOf};
 
-use crate::answer::{accepts, all_errors, first_error, reply};
+use crate::answer::{accepts, asked_errors};
 use crate::console::{Console, Place, Status};
+use crate::json::{errors_text, first_text, placed};
 use crate::lines::error_lines;
+use crate::located::Located;
 use crate::options::{Ask, Format, Options, STANDARD_INPUT};
 use crate::reading::{INPUT_LEN, is_blank, read_file, read_value, shown_name};
 use olk_answers::refusal_text;
-use olk_replies::Question;
+use olk_replies::{Question, tell_evaluation};
 use olk_validator::{Leaf, RegexEngine, Validator};
 use serde_json::Value;
 use std::alloc::{AllocError, Global};
@@ -134,8 +136,8 @@ fn check_text<T: Print + Eprint + AllocGlobal, K: Leaf, R: RegexEngine>(
         (view checker.now.schema.now) }
 {
     match read_value(console, place, text)? {
-        Some(instance) => check_value(console, checker, place, &instance),
-        None => refuse(console, checker.options, "not JSON"),
+        Some(instance) => check_value(console, checker, Given { place, text }, &instance),
+        None => refuse(console, checker.options, place, "not JSON"),
     }
 }
 
@@ -143,7 +145,7 @@ fn check_text<T: Print + Eprint + AllocGlobal, K: Leaf, R: RegexEngine>(
 fn check_value<T: Print + Eprint + AllocGlobal, K: Leaf, R: RegexEngine>(
     console: &mut Console<'_, T>,
     checker: &Checker<'_, K, R>,
-    place: Place<'_>,
+    given: Given<'_>,
     instance: &Value,
 ) -> io::Result<()>
     requires stands { IsValidatorOf (kit K.Leaf R.RegexEngine) checker.now.validator.now
@@ -159,39 +161,48 @@ fn check_value<T: Print + Eprint + AllocGlobal, K: Leaf, R: RegexEngine>(
     if checker.options.is_quiet {
         return Ok(());
     }
-    let alloc = console.alloc();
+    let (alloc, place) = (console.alloc(), given.place);
     match checker.options.format {
         Format::Json => {
-            let answer = reply(alloc, &question, checker.validator, checker.options.ask)?;
-            console.write_line(&answer)
+            let answer = answer_text(alloc, checker, given, &question)?;
+            console.write_line(&placed(alloc, place, &answer)?)
         }
         Format::Text if is_valid => console.write(format_args!("{place}: valid\n")),
         Format::Text => {
-            let lines = told_lines(alloc, checker, place, &question)?;
+            let errors = asked_errors(alloc, &question, checker.validator, checker.options.ask)?;
+            let lines = error_lines(alloc, place, given.text, &errors)?;
             console.write(lines.as_str())
         }
     }
 }
 
-/// The lines for people of what is asked of a value that the schema refuses.
-fn told_lines<K: Leaf, R: RegexEngine>(
+/// A text, and where it stands.
+#[derive(Clone, Copy)]
+struct Given<'g> {
+    place: Place<'g>,
+    text: &'g [u8],
+}
+
+/// The answer to what is asked of a value, as compact JSON.
+fn answer_text<K: Leaf, R: RegexEngine>(
     alloc: Global,
     checker: &Checker<'_, K, R>,
-    place: Place<'_>,
+    given: Given<'_>,
     question: &Question<'_>,
-) -> Result<String, AllocError>
+) -> Result<Vec<u8>, AllocError>
     requires stands { IsValidatorOf (kit K.Leaf R.RegexEngine) checker.now.validator.now
         (view question.now.schema.now) }
 {
-    let mut errors = Vec::new(alloc);
-    if checker.options.ask == Ask::First {
-        for error in first_error(alloc, question, checker.validator)? {
-            errors.push(error)?;
-        }
-    } else {
-        errors = all_errors(alloc, question, checker.validator)?;
+    if checker.options.ask == Ask::Evaluate {
+        return tell_evaluation(alloc, question, checker.validator);
     }
-    error_lines(alloc, place, &errors)
+    let errors = asked_errors(alloc, question, checker.validator, checker.options.ask)?;
+    let located = Located::new(alloc, given.text, given.place.first_line(), &errors)?;
+    if checker.options.ask == Ask::First {
+        first_text(alloc, &located, &errors)
+    } else {
+        errors_text(alloc, &located, &errors)
+    }
 }
 
 /// Passes over a file that can't be read, which is said.
@@ -202,18 +213,25 @@ fn pass_over<T: Print + Eprint + AllocGlobal>(
     error: io::Error,
 ) -> io::Result<()> {
     console.fail_to_read(name, error)?;
-    refuse(console, options, "cannot be read")
+    refuse(
+        console,
+        options,
+        Place { name, line: None },
+        "cannot be read",
+    )
 }
 
 /// Answers by a refusal, where there is a line of JSON for each value.
 fn refuse<T: Print + Eprint + AllocGlobal>(
     console: &mut Console<'_, T>,
     options: &Options<'_>,
+    place: Place<'_>,
     why: &str,
 ) -> io::Result<()> {
     if options.is_quiet || options.format == Format::Text {
         return Ok(());
     }
-    let answer = refusal_text(console.alloc(), why)?;
-    console.write_line(&answer)
+    let alloc = console.alloc();
+    let answer = refusal_text(alloc, why)?;
+    console.write_line(&placed(alloc, place, &answer)?)
 }

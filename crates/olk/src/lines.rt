@@ -1,24 +1,15 @@
 //! Errors as lines for people.
 use crate::console::Place;
+use crate::located::{DEEPEST, Located};
+use crate::shown::short_message;
+use crate::told::{branches_of, told_errors};
 use crate::visible::Visible;
-use olk_validator::{ValidationError, ValidationErrorKind};
+use olk_validator::ValidationError;
 use std::alloc::{AllocError, Global};
 use std::fmt::Write;
 
-/// How deep contexts are told: deeper than they are in any schema that `serde_json` reads.
-const DEEPEST: u8 = u8::MAX;
-
-/// What is told of an error, by which errors are sorted, in this order.
-#[derive(PartialEq, Eq, PartialOrd, Ord, Drop)]
-struct Told<'e> {
-    instance_path: &'e str,
-    schema_path: &'e str,
-    /// Its line and those of its context, all but the first indented.
-    lines: String,
-}
-
-/// A line for each error, `PLACE: /instance/path: message (/schema/path)`, and below it, indented,
-/// what each branch of `anyOf` or `oneOf` finds. A path is left out where it is empty.
+/// A line for each error, `FILE:LINE:COLUMN: /instance/path: message (/schema/path)`, and below it,
+/// indented, what each branch of `anyOf` or `oneOf` finds. A path is left out where it is empty.
 ///
 /// They are sorted by instance path, schema path and message in byte order.
 ///
@@ -28,90 +19,73 @@ struct Told<'e> {
 pub fn error_lines(
     alloc: Global,
     place: Place<'_>,
-    errors: &Vec<ValidationError<'_>>,
+    text: &[u8],
+    errors: &[ValidationError<'_>],
 ) -> Result<String, AllocError> {
-    let mut text = String::new(alloc);
-    for told in &told_errors(alloc, errors, DEEPEST)? {
-        write!(text, "{place}: ")?;
-        text.push_str(told.lines.as_str())?;
-    }
-    Ok(text)
-}
-
-/// What is wrong, and where the schema says so.
-///
-/// # Errors
-///
-/// Out of memory.
-pub fn error_text(alloc: Global, error: &ValidationError<'_>) -> Result<String, AllocError> {
-    let mut text = error.message(alloc)?;
-    let path = error.schema_path();
-    if !path.is_empty() {
-        write!(text, " ({path})")?;
-    }
-    Ok(text)
-}
-
-/// The errors, sorted, where `left` more levels of contexts are told.
-#[cycle(contexts)]
-fn told_errors<'e>(
-    alloc: Global,
-    errors: &'e Vec<ValidationError<'_>>,
-    left: u8,
-) -> Result<Vec<Told<'e>>, AllocError> {
-    let mut told = Vec::new(alloc);
-    for error in errors {
-        let mut lines = error_line(alloc, error)?;
-        if left > 0 {
-            push_context(alloc, &mut lines, error, left - 1)?;
+    let located = Located::new(alloc, text, place.first_line(), errors)?;
+    let name = Visible(place.name);
+    let mut lines = String::new(alloc);
+    for told in &told_errors(alloc, errors)? {
+        if let Some(error) = errors.get(told.index) {
+            let position = located.position_of(error)?;
+            let (line, column) = (position.line, position.column);
+            write!(lines, "{name}:{line}:{column}: ")?;
+            push_error(alloc, &mut lines, &located, error, DEEPEST)?;
         }
-        told.push(Told {
-            instance_path: error.instance_path(),
-            schema_path: error.schema_path(),
-            lines,
-        })?;
     }
-    told.sort_unstable();
-    Ok(told)
+    Ok(lines)
 }
 
-/// Appends what the branches find.
+/// Appends the line of an error, and those of `left` more levels of contexts.
 #[cycle(contexts)]
-fn push_context(
+fn push_error(
     alloc: Global,
     lines: &mut String,
+    located: &Located<'_>,
     error: &ValidationError<'_>,
     left: u8,
 ) -> Result<(), AllocError> {
-    match error.kind() {
-        ValidationErrorKind::AnyOf { context }
-        | ValidationErrorKind::OneOfNotValid { context }
-        | ValidationErrorKind::OneOfMultipleValid { context } => {
-            push_branches(alloc, lines, context, left)
-        }
-        _ => Ok(()),
+    let line = error_line(alloc, located, error)?;
+    lines.push_str(line.as_str())?;
+    if left > 0 {
+        push_branches(alloc, lines, located, branches_of(error), left - 1)?;
     }
+    Ok(())
 }
 
 #[cycle(contexts)]
 fn push_branches(
     alloc: Global,
     lines: &mut String,
-    branches: &Vec<Vec<ValidationError<'_>>>,
+    located: &Located<'_>,
+    branches: &[Vec<ValidationError<'_>>],
     left: u8,
 ) -> Result<(), AllocError> {
     for errors in branches {
-        for told in &told_errors(alloc, errors, left)? {
-            push_indent(lines, DEEPEST - left)?;
-            lines.push_str(told.lines.as_str())?;
+        for told in &told_errors(alloc, errors)? {
+            if let Some(error) = errors.get(told.index) {
+                push_indent(lines, DEEPEST - left)?;
+                push_error(alloc, lines, located, error, left)?;
+            }
         }
     }
     Ok(())
 }
 
 /// The line of an error, with its line feed.
-fn error_line(alloc: Global, error: &ValidationError<'_>) -> Result<String, AllocError> {
-    let text = error_text(alloc, error)?;
+fn error_line(
+    alloc: Global,
+    located: &Located<'_>,
+    error: &ValidationError<'_>,
+) -> Result<String, AllocError> {
+    let mut text = short_message(alloc, error)?;
+    if let Some(number) = located.number_of(error, text.as_str())? {
+        write!(text, " [value is {number}]")?;
+    }
+    let path = error.schema_path();
+    if !path.is_empty() {
+        write!(text, " ({path})")?;
+    }
     let (path, text) = (error.instance_path(), Visible(text.as_str()));
     if path.is_empty() {
         format!(in alloc; "{text}\n")

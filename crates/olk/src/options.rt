@@ -31,7 +31,7 @@ pub const STANDARD_INPUT: &str = "-";
 pub struct Options<'w> {
     /// The schema's path.
     pub schema: &'w str,
-    /// The instances' paths; there is at least one.
+    /// The instances' paths. Where there is none, the schema alone is checked.
     pub instances: Vec<&'w str>,
     /// Each line of an instance is a value, and else the whole.
     pub has_lines: bool,
@@ -55,17 +55,20 @@ const READ_TWICE: &str = "the standard input cannot be both the schema and an in
 const VERSION: &str = "7.0.0";
 
 const AFTER_HELP: &str = "\
-A path may be - for the standard input, which is read where no instance is named.
+A path may be - for the standard input.
 
 Status:
-  0  all instances are valid
+  0  all instances are valid; without one, the schema can be used
   1  some are not
-  2  wrong use, a file that can't be read, a malformed schema, or a text that isn't JSON
+  2  wrong use, a file that can't be read, a schema that can't be used, or a text that isn't JSON
   3  out of memory
-The status is that of the worst of all; what has status 2 or 3 is said on standard error.
+The status is that of the worst of all; what has status 2 or 3 is said on standard error, except
+that standard output was closed before all was written (2).
+
+An error is told as FILE:LINE:COLUMN: PATH: MESSAGE (SCHEMA PATH), where a column counts characters.
 
 A text is no JSON here if a number in it is too large for a double, or it is nested over 127 deep.
-A schema that has a keyword of the standard which is not read is malformed: docs/VOCABULARY.md.";
+A schema can't be used if it is malformed, or something in it is not supported: docs/VOCABULARY.md.";
 
 /// What the words of a command line ask for, the program's name first.
 ///
@@ -108,8 +111,7 @@ fn instances_argument<'w>(alloc: Global) -> Arg<'w> {
     Arg::new(alloc, "instances")
         .value_name("INSTANCE")
         .num_args(0..)
-        .default_value(STANDARD_INPUT)
-        .help("The files that hold the values to check")
+        .help("The files that hold the values to check; if there is none, the schema is checked")
 }
 
 fn flag<'w>(alloc: Global, name: &'w str, help: &'w str) -> Arg<'w> {

@@ -1,13 +1,14 @@
 //! The program: a schema is read and built, and instances are checked.
-use crate::console::{Console, Place, Status};
+use crate::console::{Console, Status};
 use crate::instances::{Checker, check_instances};
-use crate::lines::error_text;
-use crate::options::{Options, read_options};
-use crate::reading::{read_file, read_value, shown_name};
+use crate::options::{Format, Options, read_options};
+use crate::reading::shown_name;
+use crate::schema::{note_draft, read_schema, refuse_malformed, refuse_unsupported};
 use crate::visible::Visible;
+use crate::words::first_no_text;
 use clap::Error;
 use clap::error::ErrorKind;
-use olk_validator::{BuildError, Meter, NoRegexes, ValidationError, Validator};
+use olk_validator::{BuildError, Meter, NoRegexes, Validator};
 use olk_vocabulary::Vocabulary;
 use serde_json::Value;
 use std::alloc::AllocError;
@@ -32,9 +33,12 @@ pub fn run<T: Env + Files + Input + Print + Eprint + Clock + AllocGlobal>(
     }
 }
 
-/// The status of an error that ends a run, and that is said where it can be.
+/// The status of an error that ends a run. It is said where it can be; but that nobody reads what is
+/// written, as behind `| head -1`, needs no word.
 fn failed_status<T: Eprint>(rt: &T, error: &io::Error) -> Status {
-    let _ = eprintln!(rt; "olk: {error}");
+    if error.kind() != io::ErrorKind::BrokenPipe {
+        let _ = eprintln!(rt; "olk: {error}");
+    }
     if error.kind() == io::ErrorKind::OutOfMemory {
         Status::Memory
     } else {
@@ -56,12 +60,15 @@ fn run_words<T: Env + Files + Input + Print + Eprint + Clock + AllocGlobal>(
     }
 }
 
-/// Says that an argument is no text. Any other error is handed back.
-fn refuse_words<T: Eprint>(rt: &T, error: io::Error) -> io::Result<Status> {
+/// Says which argument is no text. Any other error is handed back.
+fn refuse_words<T: Env + Eprint + AllocGlobal>(rt: &T, error: io::Error) -> io::Result<Status> {
     if error.kind() != io::ErrorKind::InvalidData {
         return Err(error);
     }
-    eprintln!(rt; "olk: an argument is not UTF-8")?;
+    match first_no_text(rt)? {
+        Some(number) => eprintln!(rt; "olk: argument {number} is not UTF-8")?,
+        None => eprintln!(rt; "olk: an argument is not UTF-8")?,
+    }
     Ok(Status::Failed)
 }
 
@@ -102,52 +109,46 @@ fn check_by_file<T: Files + Input + Print + Eprint + Clock + AllocGlobal>(
     }
 }
 
-/// The value that the schema's file holds. Where it holds none, that is said.
-fn read_schema<T: Files + Input + Print + Eprint + AllocGlobal>(
+/// Builds the schema's validator, and checks each instance by it, or else the schema alone.
+fn check_by<'c, T: Files + Input + Print + Eprint + Clock + AllocGlobal>(
     rt: &T,
     console: &mut Console<'_, T>,
-    path: &str,
-) -> io::Result<Option<Value>> {
-    let name = shown_name(path);
-    match read_file(rt, path) {
-        Ok(text) => read_value(console, Place { name, line: None }, &text),
-        Err(error) => {
-            console.fail_to_read(name, error)?;
-            Ok(None)
-        }
-    }
-}
-
-/// Builds the schema's validator, and checks each instance by it.
-fn check_by<T: Files + Input + Print + Eprint + Clock + AllocGlobal>(
-    rt: &T,
-    console: &mut Console<'_, T>,
-    options: &Options<'_>,
-    schema: &Value,
+    options: &'c Options<'_>,
+    schema: &'c Value,
 ) -> io::Result<()> {
+    if !options.is_quiet {
+        note_draft(console, options.schema, schema)?;
+    }
+    if refuse_unsupported(console, options.schema, schema)? {
+        return Ok(());
+    }
     let mut meter = Meter::new();
     match Validator::build(rt.alloc(), &Vocabulary, &NoRegexes, schema, &mut meter) {
         Ok(validator) => {
             let checker = Checker {
-                options,
-                schema,
+                options: &*options,
+                schema: &*schema,
                 validator: &validator,
             };
-            check_instances(rt, console, &checker)
+            if options.instances.is_empty() {
+                accept_schema(console, options)
+            } else {
+                check_instances(rt, console, &checker)
+            }
         }
-        Err(BuildError::Refused(error)) => refuse_schema(console, options.schema, &error),
+        Err(BuildError::Refused(error)) => refuse_malformed(console, options.schema, &error),
         Err(BuildError::Memory(error)) => Err(error.into()),
     }
 }
 
-/// Says what is malformed, and where it stands in the schema.
-fn refuse_schema<T: Print + Eprint + AllocGlobal>(
+/// Says that the schema can be used, where there is no line for each value.
+fn accept_schema<T: Print + Eprint + AllocGlobal>(
     console: &mut Console<'_, T>,
-    path: &str,
-    error: &ValidationError<'_>,
+    options: &Options<'_>,
 ) -> io::Result<()> {
-    let name = Visible(shown_name(path));
-    let text = error_text(console.alloc(), error)?;
-    let why = Visible(text.as_str());
-    console.fail(format_args!("{name}: malformed schema: {why}"))
+    if options.is_quiet || options.format == Format::Json {
+        return Ok(());
+    }
+    let name = Visible(shown_name(options.schema));
+    console.write(format_args!("{name}: the schema can be used\n"))
 }

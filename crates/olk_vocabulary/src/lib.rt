@@ -18,5 +18,5 @@ mod texts;
 pub use candidates::Candidates;
 pub use keyword::{Bound, Keyword, Limit};
 pub use leaf::VocabularyLeaf;
-pub use maker::Vocabulary;
+pub use maker::{Vocabulary, is_unread};
 pub use numbers::JsonNumber;

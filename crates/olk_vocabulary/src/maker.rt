@@ -48,8 +48,8 @@ impl MakeLeaf for Vocabulary {
     }
 }
 
-/// Whether a name is an assertion of the standard that is not read.
-fn is_unread(name: &str) -> bool
+/// Whether a name is an assertion of the standard that is refused with every value.
+pub fn is_unread(name: &str) -> bool
     ensures { result ≡ is_unread name.now }
 {
     matches!(

@@ -1,12 +1,9 @@
 use Rattle.std.proofs.Common.{◌+◌, ◌*◌}
 use Rattle.olk.proofs.lines.+contexts.Given as goal
 
--- told_errors (l) asks push_context (l - 1), which asks push_branches, which asks told_errors
-abbrev pub decreases-told_errors : goal.decreases-told_errors
-decreases-told_errors a = 3 * a.left
-
-abbrev pub decreases-push_context : goal.decreases-push_context
-decreases-push_context a = 3 * a.left + 2
+-- push_error (l) asks push_branches (l - 1), which asks push_error
+abbrev pub decreases-push_error : goal.decreases-push_error
+decreases-push_error a = 2 * a.left
 
 abbrev pub decreases-push_branches : goal.decreases-push_branches
-decreases-push_branches a = 3 * a.left + 1
+decreases-push_branches a = 2 * a.left + 1

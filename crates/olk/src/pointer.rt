@@ -1,0 +1,59 @@
+//! Where subschemas stand.
+use crate::limited::{Limited, SHOWN_LEN};
+use std::alloc::{AllocError, Global};
+
+/// Where a subschema stands in a schema, by the segments that lead there, on the stack of a walk.
+#[derive(Clone, Copy)]
+pub enum Pointer<'p, 'n> {
+    /// The whole schema.
+    Root,
+    /// A member of what stands there.
+    Member(&'p Pointer<'p, 'n>, &'n str),
+    /// An item of what stands there.
+    Item(&'p Pointer<'p, 'n>, usize),
+}
+
+impl Pointer<'_, '_> {
+    /// The text of the JSON pointer (RFC 6901, section 3), of which 200 bytes are shown at most, and
+    /// then `..`.
+    ///
+    /// # Errors
+    ///
+    /// Out of memory.
+    pub fn shown(&self, alloc: Global) -> Result<String, AllocError> {
+        let mut text = Limited::new(alloc);
+        text.begin(SHOWN_LEN);
+        self.push_to(alloc, &mut text)?;
+        Ok(text.into_text())
+    }
+
+    fn push_to(&self, alloc: Global, text: &mut Limited) -> Result<(), AllocError> {
+        match self {
+            Pointer::Root => Ok(()),
+            Pointer::Member(up, name) => {
+                up.push_to(alloc, text)?;
+                push_segment(text, name)
+            }
+            Pointer::Item(up, index) => {
+                up.push_to(alloc, text)?;
+                push_segment(text, format!(in alloc; "{index}")?.as_str())
+            }
+        }
+    }
+}
+
+/// Goes on with `/` and the segment.
+fn push_segment(text: &mut Limited, segment: &str) -> Result<(), AllocError> {
+    text.push('/')?;
+    for c in segment.chars() {
+        if text.is_cut() {
+            return Ok(());
+        }
+        match c {
+            '~' => text.push_str("~0")?,
+            '/' => text.push_str("~1")?,
+            c => text.push(c)?,
+        }
+    }
+    Ok(())
+}

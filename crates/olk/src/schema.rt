@@ -1,0 +1,123 @@
+//! The schema: read, and what is said of one that is not used as it stands.
+use crate::console::{Console, Place};
+use crate::limited::{Limited, SHOWN_LEN};
+use crate::reading::{read_file, read_value, shown_name};
+use crate::shown::shown_message;
+use crate::unsupported::unsupported_lines;
+use crate::visible::Visible;
+use olk_validator::ValidationError;
+use serde_json::Value;
+use std::alloc::{AllocError, Global};
+use std::io;
+use std::rt::Files;
+
+/// The draft by which schemas are read, as `$schema` names it behind `https://`.
+const DRAFT: &str = "json-schema.org/draft/2020-12/schema";
+
+/// How many bytes are shown of the path to what is malformed.
+const PATH_LEN: usize = 150;
+
+/// How many bytes are shown of a malformed value and of the path to it.
+const VALUE_AND_PATH_LEN: usize = 230;
+
+/// The value that the schema's file holds. Where it holds none, that is said.
+///
+/// # Errors
+///
+/// Out of memory, or standard error can't be written.
+pub fn read_schema<T: Files + Input + Print + Eprint + AllocGlobal>(
+    rt: &T,
+    console: &mut Console<'_, T>,
+    path: &str,
+) -> io::Result<Option<Value>> {
+    let name = shown_name(path);
+    match read_file(rt, path) {
+        Ok(text) => read_value(console, Place { name, line: None }, &text),
+        Err(error) => {
+            console.fail_to_read(name, error)?;
+            Ok(None)
+        }
+    }
+}
+
+/// Says of a schema that names another draft by `$schema` that it is read as one of 2020-12.
+///
+/// # Errors
+///
+/// Out of memory, or standard error can't be written.
+pub fn note_draft<T: Print + Eprint + AllocGlobal>(
+    console: &mut Console<'_, T>,
+    path: &str,
+    schema: &Value,
+) -> io::Result<()> {
+    let Some(Value::String(draft)) = schema.get("$schema") else {
+        return Ok(());
+    };
+    if is_draft(draft.as_str()) {
+        return Ok(());
+    }
+    let name = Visible(shown_name(path));
+    let draft = cut(console.alloc(), draft.as_str(), SHOWN_LEN)?;
+    console.note(format_args!("{name}: /$schema: read as 2020-12, not as {draft}"))
+}
+
+/// Whether a text names the draft by which schemas are read.
+fn is_draft(text: &str) -> bool {
+    let text = text.strip_suffix("#").unwrap_or(text);
+    let text = text
+        .strip_prefix("https://")
+        .or(text.strip_prefix("http://"));
+    text == Some(DRAFT)
+}
+
+fn cut(alloc: Global, text: &str, most: usize) -> Result<String, AllocError> {
+    let mut shown = Limited::new(alloc);
+    shown.begin(most);
+    shown.push_str(text)?;
+    Ok(shown.into_text())
+}
+
+/// Says of each place of the schema what is not supported there; whether something is.
+///
+/// # Errors
+///
+/// Out of memory, or standard error can't be written.
+pub fn refuse_unsupported<T: Print + Eprint + AllocGlobal>(
+    console: &mut Console<'_, T>,
+    path: &str,
+    schema: &Value,
+) -> io::Result<bool> {
+    let lines = unsupported_lines(console.alloc(), schema)?;
+    if lines.is_empty() {
+        return Ok(false);
+    }
+    let name = Visible(shown_name(path));
+    for line in &lines {
+        console.fail(format_args!("{name}: {line}"))?;
+    }
+    console.fail(format_args!("{name}: docs/VOCABULARY.md says what is supported"))?;
+    Ok(true)
+}
+
+/// Says what is malformed, and where it stands in the schema.
+///
+/// # Errors
+///
+/// Out of memory, or standard error can't be written.
+pub fn refuse_malformed<T: Print + Eprint + AllocGlobal>(
+    console: &mut Console<'_, T>,
+    path: &str,
+    error: &ValidationError<'_>,
+) -> io::Result<()> {
+    let name = Visible(shown_name(path));
+    let place = cut(console.alloc(), error.schema_path(), PATH_LEN)?;
+    let most = VALUE_AND_PATH_LEN
+        .saturating_sub(place.len())
+        .min(SHOWN_LEN);
+    let message = shown_message(console.alloc(), error, most)?;
+    if place.is_empty() {
+        console.fail(format_args!("{name}: malformed schema: {message}"))
+    } else {
+        console.fail(format_args!("{name}: malformed schema: {message} ({place})"))
+    }
+}

@@ -1,0 +1,159 @@
+//! What is supported of a keyword of JSON Schema, of 2020-12 and of older drafts.
+use olk_base::analyze_pattern;
+use olk_vocabulary::{JsonNumber, Keyword, is_unread};
+use serde_json::{Map, Number, Value};
+use std::alloc::{AllocError, Global};
+use std::fmt::{self, Display, Formatter};
+
+/// A member of a schema object.
+#[derive(Clone, Copy)]
+pub struct Member<'s> {
+    /// All members.
+    pub members: &'s Map<String, Value>,
+    /// Its name.
+    pub name: &'s str,
+    /// Its value.
+    pub value: &'s Value,
+}
+
+/// What is not supported at a place of a schema.
+#[derive(Clone, Copy)]
+pub enum Unsupported<'s> {
+    /// A keyword.
+    Keyword(&'s str),
+    /// The value that a keyword has here.
+    Value(&'s str),
+    /// A pattern.
+    Pattern,
+}
+
+impl Display for Unsupported<'_> {
+    fn fmt<W: fmt::Write>(&self, f: &mut Formatter<W>) -> fmt::Result {
+        match self {
+            Unsupported::Keyword(name) => write!(f, "\"{name}\" is not supported"),
+            Unsupported::Value(name) => write!(f, "this value of \"{name}\" is not supported"),
+            Unsupported::Pattern => f.write_str("this pattern is not supported"),
+        }
+    }
+}
+
+/// Which schemas a keyword holds that are read.
+#[derive(Clone, Copy)]
+pub enum Held {
+    /// None.
+    Nothing,
+    /// Its value.
+    Itself,
+    /// The items of its value.
+    Items,
+    /// The entries of its value.
+    Entries,
+    /// The entries of its value's entries.
+    EntriesOfEntries,
+}
+
+impl<'s> Member<'s> {
+    /// What of the keyword is not supported, but for what is at its entries.
+    pub fn unsupported(self) -> Option<Unsupported<'s>> {
+        if self.is_unsupported() {
+            Some(Unsupported::Keyword(self.name))
+        } else if self.has_unsupported_value() {
+            Some(Unsupported::Value(self.name))
+        } else {
+            None
+        }
+    }
+
+    /// What at an entry of the keyword's value is not supported.
+    ///
+    /// # Errors
+    ///
+    /// Out of memory.
+    pub fn unsupported_entry(
+        self,
+        alloc: Global,
+        key: &str,
+        entry: &Value,
+    ) -> Result<Option<Unsupported<'s>>, AllocError> {
+        match self.name {
+            "patternProperties" => match analyze_pattern(alloc, key)? {
+                Some(_) => Ok(None),
+                None => Ok(Some(Unsupported::Pattern)),
+            },
+            // draft 3: the name of a property that has to be there
+            "dependencies" if entry.is_string() => Ok(Some(Unsupported::Value(self.name))),
+            _ => Ok(None),
+        }
+    }
+
+    /// Which schemas the keyword holds that are read.
+    pub fn held(self) -> Held {
+        match self.name {
+            "properties" | "patternProperties" | "dependentSchemas" | "dependencies" => {
+                Held::Entries
+            }
+            "propertyDependencies" => Held::EntriesOfEntries,
+            "allOf" | "anyOf" | "oneOf" => Held::Items,
+            "additionalProperties" | "propertyNames" | "not" => Held::Itself,
+            "if" if self.is_beside("then") || self.is_beside("else") => Held::Itself,
+            "then" | "else" if self.is_beside("if") => Held::Itself,
+            _ => Held::Nothing,
+        }
+    }
+
+    fn is_beside(self, name: &str) -> bool {
+        self.members.contains_key(name)
+    }
+
+    /// Whether the keyword is supported with no value.
+    fn is_unsupported(self) -> bool {
+        match self.name {
+            "$ref" | "$dynamicRef" | "$recursiveRef" => true,
+            "unevaluatedProperties" | "unevaluatedItems" => true,
+            // draft 3
+            "disallow" | "divisibleBy" | "extends" => true,
+            // up to 2019-09, where it asserted something beside a list alone
+            "additionalItems" => self
+                .members
+                .get("items")
+                .is_some_and(|items| items.is_array()),
+            name => is_unread(name),
+        }
+    }
+
+    /// Whether a supported keyword has a value that meant something in an older draft, or that the
+    /// standard allows, and that is not supported.
+    fn has_unsupported_value(self) -> bool {
+        match self.value {
+            // drafts 3 and 4
+            Value::Bool(_) => {
+                matches!(
+                    self.name,
+                    "exclusiveMinimum" | "exclusiveMaximum" | "required"
+                )
+            }
+            Value::String(_) => self.name == "type" && is_kind_of_draft_3(self.value),
+            Value::Array(kinds) => self.name == "type" && kinds.iter().any(is_kind_of_draft_3),
+            Value::Number(number) => has_unsupported_number(self.name, number),
+            Value::Null | Value::Object(_) => false,
+        }
+    }
+}
+
+/// Whether this is a kind in draft 3 alone: any, or a schema.
+fn is_kind_of_draft_3(kind: &Value) -> bool {
+    kind.is_object() || kind.as_str() == Some("any")
+}
+
+/// Whether the standard allows a keyword this number, which is not read.
+fn has_unsupported_number(name: &str, number: &Number) -> bool {
+    let float = number.as_f64().unwrap_or(-1.0);
+    if number.as_u64().is_some() {
+        return false;
+    }
+    match Keyword::named(name) {
+        Some(Keyword::MultipleOf) => float > 0.0,
+        Some(Keyword::Limit(_)) => float >= 0.0 && JsonNumber::of(number).is_integral(),
+        _ => false,
+    }
+}
