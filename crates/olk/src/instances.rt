@@ -1,6 +1,9 @@
 //! Instances, read and answered one after another.
+ghost use Rattle.std.specs.Prelude.{◌≡◌, false};
 ghost use Rattle.serde_json.specs.View.{view};
-ghost use Rattle.olk_base.specs.Kit.{kit};
+ghost use Rattle.olk_base.specs.Kit.{kit, world};
+ghost use Rattle.olk_spec.specs.Meaning.{accepts};
+ghost use Rattle.olk.specs.Statuses.{status_of, worse};
 ghost use Rattle.olk_validator.specs.Validators.{IsValidatorOf};
 
 use crate::answer::{accepts, asked_errors};
@@ -150,6 +153,9 @@ fn check_value<T: Print + Eprint + AllocGlobal, K: Leaf, R: RegexEngine>(
 ) -> io::Result<()>
     requires stands { IsValidatorOf (kit K.Leaf R.RegexEngine) checker.now.validator.now
         (view checker.now.schema.now) }
+    ensures { console.new.status ≡ worse console.old.status
+        (status_of (accepts (world K.Leaf R.RegexEngine) false
+        (view checker.now.schema.now) (view instance.now))) }
 {
     let question = Question {
         schema: checker.schema,
