@@ -27,6 +27,7 @@ pub mod Rows_refusals
 pub mod Rows_costs
 pub mod Rows_evaluation
 pub mod Rows_trees
+pub mod Rows_inside
 pub mod Rows_faults
 pub mod Rows_bench
 pub mod Vectors_names

@@ -12,7 +12,8 @@ use Rattle.serde_json.specs.Written.{compact_text}
 use Rattle.olk_spec.specs.Names.{Text}
 use Rattle.olk_spec.specs.Faults.{Fault, fault, Kind, Context, Faults, no_fault, and_fault, faults_in, IsLike, like, IsLikeKind, itself, like_any_of, like_not_valid, like_multiple, like_names, IsLikeContext, like_none, like_branch, ◌∼◌, like_empty, like_next, like_swap, like_through}
 use Rattle.olk_spec.specs.Answers.{put_before, insert_text, sorted, path_text, line, in_brackets, branch_texts, fault_lines}
-use Rattle.olk_spec.specs.Forms.{told as kind_told, told_inside, kind_name}
+use Rattle.olk_spec.specs.Texts.{keyword}
+use Rattle.olk_spec.specs.Forms.{told as kind_told, told_inside, kind_name, fault_keyword}
 use Rattle.olk_spec.proofs.Order.{like_text}
 
 -- ---- sorting
@@ -110,3 +111,10 @@ mutual
   like_inside (like_not_valid h) = refl
   like_inside (like_multiple h) = refl
   like_inside (like_names {f} {g} h) = ap (λ t. codes " {" ++ t ++ codes "}") (like_told f g h)
+
+same_keyword : {k l : Kind} → IsLikeKind k l → keyword k ≡ keyword l
+same_keyword itself = refl
+same_keyword _ = refl
+
+pub like_keyword : (f g : Fault) → IsLike f g → fault_keyword f ≡ fault_keyword g
+like_keyword (fault k v Q P) (fault l w R O) (like h) = same_keyword h

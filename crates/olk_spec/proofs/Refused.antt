@@ -10,11 +10,11 @@ use Rattle.olk_spec.specs.Literals.{literal}
 use Rattle.olk_spec.specs.Meaning.{meaning}
 use Rattle.olk_spec.specs.Faults.{Fault, IsLike, like, like_any_of, like_branch, like_none, ◌∼◌, like_empty, like_next, like_swap}
 use Rattle.olk_spec.specs.Answers.{lines}
-use Rattle.olk_spec.specs.Forms.{told}
+use Rattle.olk_spec.specs.Forms.{told, fault_keyword}
 use Rattle.olk_spec.specs.Refused.{place}
 use Rattle.olk_spec.specs.Refused as refused
 use Rattle.olk_spec.proofs.Order.{∼_length, ∼_refl, ∼_map}
-use Rattle.olk_spec.proofs.Lines.{same_lines, like_told}
+use Rattle.olk_spec.proofs.Lines.{same_lines, like_told, like_keyword}
 
 pub one_length : refused.One_length
 one_length W u S v P Q list h = ∼_length h
@@ -30,6 +30,9 @@ one_list_of_lines W u S v P Q list h = same_lines h
 
 pub one_list_of_kinds : refused.One_list_of_kinds
 one_list_of_kinds W u S v P Q list h = ∼_map told like_told h
+
+pub one_list_of_fault_keywords : refused.One_list_of_fault_keywords
+one_list_of_fault_keywords W u S v P Q list h = ∼_map fault_keyword like_keyword h
 
 -- ---- lists with other lines are no reports
 

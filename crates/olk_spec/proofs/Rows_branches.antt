@@ -26,5 +26,6 @@ rows_branches = record {
   then_alone_builds = refl;
   else_alone_is_unread = λ u. (refl, refl, refl);
   each_branch_of_all_of_is_asked = λ u. (refl, refl, refl);
+  the_branch_behind_100_others_has_position_100 = λ u. (refl, refl, refl);
   the_eleventh_branch_has_position_10 = λ u. (refl, refl, refl);
 }

@@ -30,6 +30,10 @@ rows_dependencies = record {
   another_value_chooses_none = λ u. (refl, refl, refl);
   null_is_not_the_text_null = λ u. (refl, refl, refl);
   a_number_is_not_the_text_of_its_digits = λ u. (refl, refl, refl);
+  a_list_of_one_text_chooses_none = λ u. (refl, refl, refl);
+  true_is_not_the_text_true = λ u. (refl, refl, refl);
+  a_name_that_two_keys_want_is_told_twice = λ u. (refl, refl, refl);
+  a_declared_name_meets_the_schema_of_names = λ u. (refl, refl, refl);
   the_second_key_chooses_too = λ u. (refl, refl, refl);
   the_empty_text_chooses_too = λ u. (refl, refl, refl);
 }

@@ -34,5 +34,14 @@ rows_properties = record {
   the_last_of_16_names_is_asked = λ u. (refl, refl, refl);
   the_last_of_16_names_is_asked_alone = λ u. (refl, refl, refl);
   paths_are_escaped = λ u. (refl, refl, refl);
+  a_name_beyond_ascii_stands_as_it_is_in_paths = λ u. (refl, refl, refl);
+  quotes_and_percents_stand_as_they_are_in_paths = λ u. (refl, refl, refl);
+  a_missing_name_is_told_as_json = λ u. (refl, refl, refl);
+  three_unexpected_names_are_told_as_they_are = λ u. (refl, refl, refl);
+  a_member_that_is_null_is_there = λ u. (refl, refl, refl);
+  a_member_that_is_false_is_there = λ u. (refl, refl, refl);
+  members_that_are_null_are_declared_and_unexpected = λ u. (refl, refl, refl);
+  what_other_keywords_and_branches_name_is_additional = λ u. (refl, refl, refl);
+  in_an_open_object_a_declared_name_meets_its_patterns = λ u. (refl, refl, refl);
   other_values_pass = λ u. (refl, refl, refl);
 }

@@ -65,6 +65,9 @@ rows_trees = record {
   the_error_of_a_leaf_has_its_keyword = λ u. refl;
   the_error_of_a_negation_has_its_keyword = λ u. refl;
   the_error_of_unexpected_names_has_their_keyword = λ u. refl;
+  without_properties_one_name_is_not_fused = λ u. refl;
+  in_a_closed_object_a_repeated_name_is_not_fused = λ u. refl;
+  members_names_and_keys_are_shown_in_byte_order = λ u. refl;
   a_negation_of_a_fraction_promises_no_text = λ u. refl;
   a_false_schema_over_a_fraction_promises_no_text = λ u. refl;
 }

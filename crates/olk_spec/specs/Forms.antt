@@ -12,8 +12,9 @@ use Rattle.olk_spec.specs.Meanings.{pattern_says}
 use Rattle.olk_spec.specs.Malformed.{malformations_at}
 use Rattle.olk_spec.specs.Faults.{Fault, fault, Kind, AdditionalProperties, AnyOf, OneOfNotValid, OneOfMultipleValid, Not, Required, FalseSchema, PropertyNames, Leaf, SingleType, MultipleTypes, UniqueItems, Regex, Unsupported, LeafRefused}
 use Rattle.olk_spec.specs.Tree.{Tree, node, leaf_node, Trees, no_tree, and_tree, Described, is_valid}
-use Rattle.olk_spec.specs.Texts.{prints_fraction}
-use Rattle.olk_spec.specs.Answers.{path_text, sorted, lines, found, tree_of}
+use Rattle.olk_spec.specs.Texts.{keyword, kind_text, prints_fraction}
+use Rattle.olk_spec.specs.Reports.{cut}
+use Rattle.olk_spec.specs.Answers.{path_text, sorted, lines, found, refusals, tree_of}
 
 -- ---- a whole tree: of each node the schema path, the instance path, `invalid` where it is, the names that it shows, its own errors, and in parentheses each child
 
@@ -70,6 +71,25 @@ Tells S v ls = (u : Bool) → sorted (map told (found u (json S) (json v))) ≡ 
 abbrev pub Is_refused_as : Quoted → List Quoted → Type 0
 Is_refused_as S ls = sorted (map told (malformations_at bench (json S) [])) ≡ map codes ls
 
+-- what `validate` may keep of the faults
+abbrev pub Keeps : Quoted → Quoted → List Quoted → Type 0
+Keeps S v ls = (u : Bool) → sorted (map (λ f. told (cut f)) (found u (json S) (json v))) ≡ map codes ls
+
+-- the keywords of the faults
+abbrev pub fault_keyword : Fault → Text
+fault_keyword (fault k v Q P) = keyword k
+
+abbrev pub Has_keywords : Quoted → Quoted → List Quoted → Type 0
+Has_keywords S v ks = (u : Bool) → sorted (map fault_keyword (found u (json S) (json v))) ≡ map codes ks
+
+-- nothing is wrong with any of these
+abbrev pub All_build : List Quoted → Type 0
+All_build Ss = flat_map (λ S. refusals (json S)) Ss ≡ []
+
+-- the text for a leaf k that doesn't take a value
+abbrev pub Leaf_is_refused_as : Quoted → Quoted → Quoted → Type 0
+Leaf_is_refused_as k d t = kind_text (LeafRefused (codes k)) (json d) ≡ codes t
+
 -- this is all that is wrong with it, whatever the leaves and the matcher are
 abbrev pub Is_always_refused : Quoted → List Quoted → Type 0
 Is_always_refused S ls = (W : World) → lines (malformations_at W (json S) []) ≡ map codes ls
@@ -84,6 +104,16 @@ Promises_no_text S v = (u : Bool) → map prints_fraction (found u (json S) (jso
 
 abbrev pub Promises_its_refusal : Quoted → Type 0
 Promises_its_refusal S = map prints_fraction (malformations_at bench (json S) []) ≡ false ∷ []
+
+-- the same of each of these schemas and values, and of each of these schemas
+abbrev pub All_promise_their_texts : List (Quoted × Quoted) → Type 0
+All_promise_their_texts es = (u : Bool) → map (λ e. map prints_fraction (found u (json e.0) (json e.1))) es ≡ map (λ e. false ∷ []) es
+
+abbrev pub All_promise_their_refusals : List Quoted → Type 0
+All_promise_their_refusals Ss = map (λ S. map prints_fraction (malformations_at bench (json S) [])) Ss ≡ map (λ S. false ∷ []) Ss
+
+abbrev pub None_promises_its_refusal : List Quoted → Type 0
+None_promises_its_refusal Ss = map (λ S. map prints_fraction (malformations_at bench (json S) [])) Ss ≡ map (λ S. true ∷ []) Ss
 
 -- ---- what the bench's matcher says of a name, and what the pattern says, which may have a test of its own
 

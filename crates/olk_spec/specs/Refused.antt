@@ -8,7 +8,7 @@ use Rattle.olk_spec.specs.Json.{json}
 use Rattle.olk_spec.specs.Faults.{Fault, fault, AdditionalProperties, AnyOf, Required, Leaf, context}
 use Rattle.olk_spec.specs.Meaning.{report, IsReport}
 use Rattle.olk_spec.specs.Answers.{lines}
-use Rattle.olk_spec.specs.Forms.{told}
+use Rattle.olk_spec.specs.Forms.{told, fault_keyword}
 
 -- every report has as many faults as any other
 abbrev pub One_length : Type 0
@@ -29,6 +29,10 @@ One_list_of_lines = (W : World) (u : Bool) (S v : Data) (P Q : Path) (list : Lis
 -- every report tells the same kinds, and inside a fault of a name the same fault
 abbrev pub One_list_of_kinds : Type 0
 One_list_of_kinds = (W : World) (u : Bool) (S v : Data) (P Q : Path) (list : List Fault) → IsReport W u S v P Q list → IsPermutation (map told list) (map told (report W u S v P Q))
+
+-- every report tells the same keywords, those of leaves among them
+abbrev pub One_list_of_fault_keywords : Type 0
+One_list_of_fault_keywords = (W : World) (u : Bool) (S v : Data) (P Q : Path) (list : List Fault) → IsReport W u S v P Q list → IsPermutation (map fault_keyword list) (map fault_keyword (report W u S v P Q))
 
 -- ---- an object that takes no other members
 

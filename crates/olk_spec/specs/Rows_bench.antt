@@ -2,7 +2,7 @@
 use Rattle.std.specs.Prelude.{◌∷◌, []}
 use Rattle.olk_spec.specs.World.{matched, unmatched}
 use Rattle.olk_spec.specs.Answers.{Holds, Fails, Refuses, Is_refused}
-use Rattle.olk_spec.specs.Forms.{Says_of}
+use Rattle.olk_spec.specs.Forms.{None_promises_its_refusal, All_build, Says_of}
 
 pub record Rows_bench : Type 0 where
   pub a_value_of_kind_null : Holds "{\"type\":\"null\"}" "null"
@@ -44,14 +44,29 @@ pub record Rows_bench : Type 0 where
   pub multiples_of_zero : Is_refused "{\"multipleOf\":0}" ("0 is not a value for \"multipleOf\" @ \"\", /multipleOf" ∷ [])
   pub a_length_below_zero : Is_refused "{\"minLength\":-1}" ("-1 is not a value for \"minLength\" @ \"\", /minLength" ∷ [])
   pub kind_is_unknown : Is_refused "{\"type\":\"float\"}" ("\"float\" is not a value for \"type\" @ \"\", /type" ∷ [])
+  pub null_as_constant : Is_refused "{\"const\":null}" ("null is not a value for \"const\" @ \"\", /const" ∷ [])
+  pub no_leaf_takes_a_fraction : None_promises_its_refusal ("{\"const\":1.5}" ∷ "{\"minimum\":1.5}" ∷ "{\"maximum\":1.5}" ∷ "{\"multipleOf\":1.5}" ∷ "{\"minLength\":1.5}" ∷ "{\"maxLength\":1.5}" ∷ [])
+  pub each_kind_builds : All_build ("{\"type\":\"null\"}" ∷ "{\"type\":\"boolean\"}" ∷ "{\"type\":\"integer\"}" ∷ "{\"type\":\"number\"}" ∷ "{\"type\":\"string\"}" ∷ "{\"type\":\"array\"}" ∷ "{\"type\":\"object\"}" ∷ [])
+  pub constants_and_limits_build : All_build ("{\"const\":-1}" ∷ "{\"const\":0}" ∷ "{\"const\":1}" ∷ "{\"const\":18446744073709551615}" ∷ "{\"minimum\":-1}" ∷ "{\"minimum\":0}" ∷ "{\"minimum\":1}" ∷ "{\"minimum\":18446744073709551615}" ∷ "{\"maximum\":-1}" ∷ "{\"maximum\":0}" ∷ "{\"maximum\":1}" ∷ "{\"maximum\":18446744073709551615}" ∷ "{\"const\":\"\"}" ∷ "{\"multipleOf\":1}" ∷ "{\"minLength\":0}" ∷ "{\"maxLength\":0}" ∷ [])
+  pub bodies_build_alone_and_behind_slow : All_build ("{\"patternProperties\":{\"x\":{}}}" ∷ "{\"patternProperties\":{\"x$\":{}}}" ∷ "{\"patternProperties\":{\"\\\\.\":{}}}" ∷ "{\"patternProperties\":{\"(slow)x\":{}}}" ∷ "{\"patternProperties\":{\"(slow)\\\\.\":{}}}" ∷ [])
+  pub a_greater_number_below_zero : Fails "{\"const\":-3}" "-2" ("-3 was expected @ \"\", /const" ∷ [])
+  pub a_text_that_begins_so : Fails "{\"const\":\"a\"}" "\"ab\"" ("\"a\" was expected @ \"\", /const" ∷ [])
+  pub a_text_in_capitals : Fails "{\"const\":\"a\"}" "\"A\"" ("\"a\" was expected @ \"\", /const" ∷ [])
+  pub a_number_past_the_signed_ones : Holds "{\"minimum\":5}" "9223372036854775808"
+  pub zero_is_a_multiple : Holds "{\"multipleOf\":3}" "0"
+  pub one_character_of_four_bytes : Holds "{\"maxLength\":1}" "\"\\ud83d\\ude00\""
   pub an_unknown_keyword_is_ignored : Holds "{\"enum\":[]}" "1"
   pub a_class_is_refused : Is_refused "{\"patternProperties\":{\"[a-z]\":{}}}" ("\"[a-z]\" is not a \"regex\" @ \"\", /patternProperties/[a-z]" ∷ [])
   pub a_slow_nothing_is_refused : Is_refused "{\"patternProperties\":{\"(slow)\":{}}}" ("\"(slow)\" is not a \"regex\" @ \"\", /patternProperties/(slow)" ∷ [])
   pub a_slow_anchor_is_refused : Is_refused "{\"patternProperties\":{\"(slow)^a\":{}}}" ("\"(slow)^a\" is not a \"regex\" @ \"\", /patternProperties/(slow)^a" ∷ [])
   pub an_empty_pattern_is_refused : Is_refused "{\"patternProperties\":{\"\":{}}}" ("\"\" is not a \"regex\" @ \"\", /patternProperties/" ∷ [])
   pub two_anchors_is_refused : Is_refused "{\"patternProperties\":{\"^$\":{}}}" ("\"^$\" is not a \"regex\" @ \"\", /patternProperties/^$" ∷ [])
+  pub a_slow_end_is_refused : Is_refused "{\"patternProperties\":{\"(slow)a$\":{}}}" ("\"(slow)a$\" is not a \"regex\" @ \"\", /patternProperties/(slow)a$" ∷ [])
   pub the_end_is_not_the_start : Says_of "a$" "ab" unmatched unmatched
   pub the_end_is_the_end : Says_of "a$" "ba" matched matched
+  pub the_start_is_the_start : Says_of "^a" "ba" unmatched unmatched
+  pub both_ends_are_the_whole : Says_of "^a$" "ab" unmatched unmatched
+  pub the_end_is_behind_a_line_feed : Says_of "a$" "a\n" unmatched unmatched
   pub a_test_needs_no_matcher : Says_of "^(a|b)$" "b" unmatched matched
   pub a_body_stands_anywhere : Fails "{\"patternProperties\":{\"b\":false}}" "{\"abc\":1,\"ac\":2}" ("False schema does not allow 1 @ /abc, /patternProperties/b" ∷ [])
   pub an_escaped_body_stands_anywhere : Fails "{\"patternProperties\":{\"\\\\.\":false}}" "{\"a.c\":1,\"abc\":2}" ("False schema does not allow 1 @ /a.c, /patternProperties/\\." ∷ [])

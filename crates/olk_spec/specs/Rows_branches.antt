@@ -24,4 +24,5 @@ pub record Rows_branches : Type 0 where
   pub then_alone_builds : Builds "{\"then\":5}"
   pub else_alone_is_unread : Holds "{\"else\":false}" "1"
   pub each_branch_of_all_of_is_asked : Fails "{\"allOf\":[{\"type\":\"string\"},true,false]}" "1" ("1 is not of type \"string\" @ \"\", /allOf/0/type" ∷ "False schema does not allow 1 @ \"\", /allOf/2" ∷ [])
+  pub the_branch_behind_100_others_has_position_100 : Fails "{\"allOf\":[true,true,true,true,true,true,true,true,true,true,true,true,true,true,true,true,true,true,true,true,true,true,true,true,true,true,true,true,true,true,true,true,true,true,true,true,true,true,true,true,true,true,true,true,true,true,true,true,true,true,true,true,true,true,true,true,true,true,true,true,true,true,true,true,true,true,true,true,true,true,true,true,true,true,true,true,true,true,true,true,true,true,true,true,true,true,true,true,true,true,true,true,true,true,true,true,true,true,true,true,false]}" "1" ("False schema does not allow 1 @ \"\", /allOf/100" ∷ [])
   pub the_eleventh_branch_has_position_10 : Fails "{\"allOf\":[true,true,true,true,true,true,true,true,true,true,false]}" "1" ("False schema does not allow 1 @ \"\", /allOf/10" ∷ [])

@@ -43,6 +43,8 @@ pub record Rows_costs : Type 0 where
   pub one_of_three_patterns_makes_a_matcher : Costs three_patterns 6 0 1 2
   pub one_of_three_patterns_asks_a_matcher : Asks three_patterns "{\"c\":1}" 1
   pub schemas_chosen_by_a_text_are_compiled : Costs "{\"propertyDependencies\":{\"k\":{\"a\":{\"type\":\"string\"},\"b\":{}}}}" 3 1 0 0
+  pub in_a_branch_three_names_and_two_patterns_ask_six : Costs "{\"allOf\":[{\"properties\":{\"a\":{},\"b\":{},\"c\":{}},\"patternProperties\":{\"x\":{},\"y\":{}},\"additionalProperties\":false}]}" 7 0 2 6
+  pub each_place_is_compiled_once : Costs "{\"additionalProperties\":{},\"propertyNames\":{},\"not\":{},\"if\":{},\"then\":{},\"else\":{},\"title\":{},\"allOf\":[{}],\"anyOf\":[{}],\"oneOf\":[{}],\"properties\":{\"a\":{}},\"patternProperties\":{\"a\":{}},\"dependentSchemas\":{\"a\":{}},\"dependencies\":{\"a\":{}},\"propertyDependencies\":{\"k\":{\"a\":{}}}}" 15 0 1 1
   pub patterns_inside_patterns_are_asked : Asks "{\"patternProperties\":{\"a\":{\"patternProperties\":{\"b\":{}}}}}" "{\"a\":{\"b\":1},\"c\":2}" 3
   pub each_branch_may_be_asked : Asks "{\"anyOf\":[true,{\"patternProperties\":{\"x\":{}}}]}" "{\"x\":1}" 1
   pub each_member_asks_the_matcher : Asks "{\"patternProperties\":{\"(slow)x\":{\"type\":\"integer\"}}}" "{\"ax\":\"t\",\"b\":\"t\"}" 2
@@ -58,7 +60,12 @@ pub record Rows_costs : Type 0 where
   pub beside_else_a_condition_asks : Asks "{\"if\":{\"patternProperties\":{\"a\":false}},\"else\":true}" "{\"b\":1}" 1
   pub what_applies_where_the_condition_holds_asks : Asks "{\"if\":true,\"then\":{\"patternProperties\":{\"a\":{}}}}" "{\"b\":1}" 1
   pub a_dependent_schema_asks : Asks "{\"dependentSchemas\":{\"b\":{\"patternProperties\":{\"a\":{}}}}}" "{\"b\":1}" 1
+  pub a_schema_of_a_dependency_asks : Asks "{\"dependencies\":{\"b\":{\"patternProperties\":{\"a\":{}}}}}" "{\"b\":1}" 1
+  pub a_branch_of_all_of_asks : Asks "{\"allOf\":[{\"patternProperties\":{\"a\":{}}}]}" "{\"b\":1}" 1
+  pub what_applies_where_the_condition_fails_asks : Asks "{\"if\":false,\"else\":{\"patternProperties\":{\"a\":{}}}}" "{\"b\":1}" 1
   pub a_schema_chosen_by_a_text_asks : Asks "{\"propertyDependencies\":{\"k\":{\"t\":{\"patternProperties\":{\"a\":{}}}}}}" "{\"k\":\"t\"}" 1
+  pub a_declared_member_asks : Asks "{\"properties\":{\"b\":{\"patternProperties\":{\"a\":{}}}}}" "{\"b\":{\"c\":1}}" 1
+  pub two_unfinished_entries_are_asked_again : Asks "{\"properties\":{\"ab\":{}},\"patternProperties\":{\"(slow)a\":{},\"(slow)b\":{}},\"additionalProperties\":false}" "{\"ab\":1}" 2
   pub an_additional_schema_asks : Asks "{\"additionalProperties\":{\"patternProperties\":{\"a\":{}}}}" "{\"b\":{\"c\":1}}" 1
   pub a_member_and_its_leaf_are_counted : Costs "{\"properties\":{\"a\":{\"type\":\"integer\"}}}" 2 1 0 0
   pub else_alone_is_not_compiled : Costs "{\"else\":false}" 1 0 0 0

@@ -32,5 +32,9 @@ pub record Rows_dependencies : Type 0 where
   pub another_value_chooses_none : Holds by_kind "\"a\""
   pub null_is_not_the_text_null : Holds "{\"propertyDependencies\":{\"k\":{\"null\":false}}}" "{\"k\":null}"
   pub a_number_is_not_the_text_of_its_digits : Holds "{\"propertyDependencies\":{\"k\":{\"1\":false}}}" "{\"k\":1}"
+  pub a_list_of_one_text_chooses_none : Holds "{\"propertyDependencies\":{\"k\":{\"a\":false}}}" "{\"k\":[\"a\"]}"
+  pub true_is_not_the_text_true : Holds "{\"propertyDependencies\":{\"k\":{\"true\":false}}}" "{\"k\":true}"
+  pub a_name_that_two_keys_want_is_told_twice : Fails "{\"dependentRequired\":{\"a\":[\"c\"],\"b\":[\"c\"]}}" "{\"a\":1,\"b\":1}" ("\"c\" is a required property @ \"\", /dependentRequired" ∷ "\"c\" is a required property @ \"\", /dependentRequired" ∷ [])
+  pub a_declared_name_meets_the_schema_of_names : Fails "{\"properties\":{\"ab\":{}},\"propertyNames\":{\"maxLength\":1}}" "{\"ab\":1}" ("\"ab\" is longer than 1 characters @ \"\", /propertyNames/maxLength" ∷ [])
   pub the_second_key_chooses_too : Fails "{\"propertyDependencies\":{\"a\":{},\"b\":{\"x\":false}}}" "{\"b\":\"x\"}" ("False schema does not allow {\"b\":\"x\"} @ \"\", /propertyDependencies/b/x" ∷ [])
   pub the_empty_text_chooses_too : Fails "{\"propertyDependencies\":{\"k\":{\"\":false}}}" "{\"k\":\"\"}" ("False schema does not allow {\"k\":\"\"} @ \"\", /propertyDependencies/k/" ∷ [])

@@ -65,6 +65,9 @@ pub record Rows_patterns : Type 0 where
   pub the_last_of_65_patterns_matches : Holds patterns_65 "{\"m64\":1}"
   pub the_first_of_66_patterns_does_not_count : Holds_under false patterns_66 "{\"m64\":1}"
   pub the_first_of_66_patterns_counts : Fails_under true patterns_66 "{\"m64\":1}" ("False schema does not allow 1 @ /m64, /patternProperties/(slow)m64" ∷ [])
+  pub a_name_that_a_false_schema_refuses_is_not_additional : Fails "{\"patternProperties\":{\"^a\":false},\"additionalProperties\":false}" "{\"a\":1}" ("False schema does not allow 1 @ /a, /patternProperties/^a" ∷ [])
+  pub the_case_of_letters_counts : Holds "{\"patternProperties\":{\"^foo\":false,\"foo$\":false,\"^foo$\":false,\"^(foo|bar)$\":false}}" "{\"Foo\":1}"
+  pub the_end_is_behind_a_line_feed : Holds "{\"patternProperties\":{\"spam$\":false,\"^spam$\":false,\"^(spam|a)$\":false}}" "{\"spam\\n\":1}"
   pub prefix_of_letters : Is_pattern "^foo" (starts_with_text (codes "foo"))
   pub prefix_with_a_hyphen : Is_pattern "^x-" (starts_with_text (codes "x-"))
   pub prefix_with_a_slash : Is_pattern "^path/to" (starts_with_text (codes "path/to"))
@@ -75,6 +78,8 @@ pub record Rows_patterns : Type 0 where
   pub alternatives : Is_pattern "^(a|b)$" (is_one_of (codes "a" ∷ codes "b" ∷ []))
   pub no_white_space : Is_pattern "^\\S*$" (has_no_whitespace)
   pub suffix_of_letters : Is_pattern "spam$" (ends_with_text (codes "spam"))
+  pub prefix_of_all_special_characters : Is_pattern "^\\\\\\^\\$\\.\\*\\+\\?\\(\\)\\[\\]\\{\\}\\|" (starts_with_text (codes "\\^$.*+?()[]{}|"))
+  pub prefix_of_other_characters : Is_pattern "^a b\"#,:;<=>@_!&'~`%/-Ã©" (starts_with_text (codes "a b\"#,:;<=>@_!&'~`%/-Ã©"))
   pub suffix_that_is_a_dollar : Is_pattern "\\$$" (ends_with_text (codes "$"))
   pub letters_alone_are_no_test : Is_no_pattern "foo"
   pub an_anchor_alone_is_no_test : Is_no_pattern "^"
@@ -85,6 +90,8 @@ pub record Rows_patterns : Type 0 where
   pub a_question_mark_is_no_test : Is_no_pattern "^foo?"
   pub a_class_is_no_test : Is_no_pattern "^[a-z]"
   pub open_alternatives_are_no_test : Is_no_pattern "^foo|bar"
+  pub a_closing_brace_is_no_test : Is_no_pattern "^a}"
+  pub a_closing_bracket_is_no_test : Is_no_pattern "^a]"
   pub a_group_is_no_test : Is_no_pattern "^foo(bar)"
   pub a_number_in_braces_is_no_test : Is_no_pattern "^a{2}"
   pub a_digit_is_no_test : Is_no_pattern "^foo\\d"

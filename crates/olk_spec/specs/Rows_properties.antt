@@ -57,4 +57,13 @@ pub record Rows_properties : Type 0 where
   pub the_last_of_16_names_is_asked : Fails names_16 "{\"p00\":1,\"p01\":1,\"p02\":1,\"p03\":1,\"p04\":1,\"p05\":1,\"p06\":1,\"p07\":1,\"p08\":1,\"p09\":1,\"p10\":1,\"p11\":1,\"p12\":1,\"p13\":1,\"p14\":1,\"p15\":\"x\",\"p16\":1,\"p17\":1,\"p18\":1,\"p19\":1}" ("\"x\" is not of type \"integer\" @ /p15, /properties/p15/type" ∷ [])
   pub the_last_of_16_names_is_asked_alone : Fails names_16 "{\"p15\":\"x\"}" ("\"x\" is not of type \"integer\" @ /p15, /properties/p15/type" ∷ [])
   pub paths_are_escaped : Fails "{\"properties\":{\"a/b\":false}}" "{\"a/b\":1}" ("False schema does not allow 1 @ /a~1b, /properties/a~1b" ∷ [])
+  pub a_name_beyond_ascii_stands_as_it_is_in_paths : Fails "{\"properties\":{\"\\u00e9\":false}}" "{\"\\u00e9\":1}" ("False schema does not allow 1 @ /Ã©, /properties/Ã©" ∷ [])
+  pub quotes_and_percents_stand_as_they_are_in_paths : Fails "{\"properties\":{\"\\\"\":false,\"%\":false}}" "{\"\\\"\":1,\"%\":2}" ("False schema does not allow 1 @ /\", /properties/\"" ∷ "False schema does not allow 2 @ /%, /properties/%" ∷ [])
+  pub a_missing_name_is_told_as_json : Fails "{\"required\":[\"a\\\"b\\n\"]}" "{}" ("\"a\\\"b\\n\" is a required property @ \"\", /required" ∷ [])
+  pub three_unexpected_names_are_told_as_they_are : Fails "{\"properties\":{},\"additionalProperties\":false}" "{\"a\":1,\"b'\\\"\":2,\"c\":3}" ("Additional properties are not allowed ('a', 'b'\"', 'c' were unexpected) @ \"\", /additionalProperties" ∷ [])
+  pub a_member_that_is_null_is_there : Fails "{\"required\":[\"a\"],\"dependentRequired\":{\"a\":[\"b\"]}}" "{\"a\":null}" ("\"b\" is a required property @ \"\", /dependentRequired" ∷ [])
+  pub a_member_that_is_false_is_there : Fails "{\"required\":[\"a\"],\"dependentRequired\":{\"a\":[\"b\"]}}" "{\"a\":false}" ("\"b\" is a required property @ \"\", /dependentRequired" ∷ [])
+  pub members_that_are_null_are_declared_and_unexpected : Fails "{\"properties\":{\"a\":false},\"additionalProperties\":false}" "{\"a\":null,\"b\":null}" ("Additional properties are not allowed ('b' was unexpected) @ \"\", /additionalProperties" ∷ "False schema does not allow null @ /a, /properties/a" ∷ [])
+  pub what_other_keywords_and_branches_name_is_additional : Fails "{\"allOf\":[{\"properties\":{\"a\":{}}}],\"dependentSchemas\":{\"b\":{}},\"properties\":{},\"additionalProperties\":false}" "{\"a\":1,\"b\":2}" ("Additional properties are not allowed ('a', 'b' were unexpected) @ \"\", /additionalProperties" ∷ [])
+  pub in_an_open_object_a_declared_name_meets_its_patterns : Fails "{\"properties\":{\"a\":{}},\"patternProperties\":{\"^a\":false}}" "{\"a\":1}" ("False schema does not allow 1 @ /a, /patternProperties/^a" ∷ [])
   pub other_values_pass : Holds "{\"properties\":{\"a\":false},\"required\":[\"a\"],\"additionalProperties\":false,\"patternProperties\":{\"\":false},\"propertyNames\":false,\"dependentRequired\":{\"a\":[\"b\"]},\"dependentSchemas\":{\"a\":false},\"dependencies\":{\"a\":false},\"propertyDependencies\":{\"a\":{\"b\":false}}}" "[1]"

@@ -62,5 +62,8 @@ pub record Rows_trees : Type 0 where
   pub the_error_of_a_leaf_has_its_keyword : Has_tree "{\"minimum\":5}" "1" "\"\" @ \"\" invalid(/minimum @ \"\" invalid error minimum: 1 is less than the minimum of 5)"
   pub the_error_of_a_negation_has_its_keyword : Has_tree "{\"not\":true}" "1" "\"\" @ \"\" invalid(/not @ \"\" invalid error not: true is not allowed for 1)"
   pub the_error_of_unexpected_names_has_their_keyword : Has_tree "{\"properties\":{},\"additionalProperties\":false}" "{\"a\":1}" "\"\" @ \"\" invalid(/additionalProperties @ \"\" invalid error additionalProperties: Additional properties are not allowed ('a' was unexpected))"
+  pub without_properties_one_name_is_not_fused : Has_tree "{\"additionalProperties\":false,\"required\":[\"a\"]}" "{}" "\"\" @ \"\" invalid(/additionalProperties @ \"\")(/required @ \"\" invalid error required: \"a\" is a required property)"
+  pub in_a_closed_object_a_repeated_name_is_not_fused : Has_tree "{\"properties\":{},\"additionalProperties\":false,\"required\":[\"a\",\"a\"]}" "{}" "\"\" @ \"\" invalid(/additionalProperties @ \"\")(/required @ \"\" invalid error required: \"a\" is a required property error required: \"a\" is a required property)"
+  pub members_names_and_keys_are_shown_in_byte_order : Has_tree "{\"additionalProperties\":{},\"dependencies\":{\"a\":{},\"b\":[]},\"dependentRequired\":{\"a\":[\"x\"],\"b\":[\"y\"]},\"propertyNames\":{\"const\":\"a\"}}" "{\"a\":1,\"b\":2}" "\"\" @ \"\" invalid(/additionalProperties @ \"\" names [\"a\",\"b\"](/additionalProperties @ /a)(/additionalProperties @ /b))(/dependencies @ \"\"(/dependencies/a @ \"\")(/dependencies @ \"\"))(/dependentRequired @ \"\" invalid(/dependentRequired @ \"\" invalid error required: \"x\" is a required property)(/dependentRequired @ \"\" invalid error required: \"y\" is a required property))(/propertyNames @ \"\" invalid(/propertyNames @ \"\"(/propertyNames/const @ \"\"))(/propertyNames @ \"\" invalid(/propertyNames/const @ \"\" invalid error const: \"a\" was expected)))"
   pub a_negation_of_a_fraction_promises_no_text : Has_tree "{\"not\":{\"title\":1.5}}" "1" "\"\" @ \"\" invalid(/not @ \"\" invalid error not: ~)"
   pub a_false_schema_over_a_fraction_promises_no_text : Has_tree "false" "1.5" "\"\" @ \"\" invalid error falseSchema: ~"

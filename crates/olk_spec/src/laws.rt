@@ -2,7 +2,7 @@
 
 ghost use Rattle.std.specs.Prelude.{codes};
 ghost use Rattle.olk_spec.specs.Laws.{Verdict_of_reports, Empty_report, Only_report, Not_not, One_branch, Passes, Verdict_of_trees};
-ghost use Rattle.olk_spec.specs.Refused.{One_length, One_list_of_places, One_list_of_lines, One_list_of_kinds, All_names_are_told, First_name_alone_is_no_report, Order_in_a_branch_is_free, First_faults_alone_are_no_report, Exchanged_branches_are_no_report, No_branches_are_no_report};
+ghost use Rattle.olk_spec.specs.Refused.{One_length, One_list_of_places, One_list_of_lines, One_list_of_kinds, One_list_of_fault_keywords, All_names_are_told, First_name_alone_is_no_report, Order_in_a_branch_is_free, First_faults_alone_are_no_report, Exchanged_branches_are_no_report, No_branches_are_no_report};
 ghost use Rattle.olk_spec.specs.Refused_trees.{One_validity, One_list_of_annotations, One_frame, One_list_of_keywords, One_list_of_texts, Names_are_shown, Without_its_names_it_is_no_tree, At_another_member_it_is_no_tree, Errors_are_told, With_another_text_it_is_no_tree, Without_its_error_it_is_no_tree, Any_text_stands_for_a_fraction, Texts_of_a_leaf_stand_in_any_order, Without_one_of_its_texts_it_is_no_leaf};
 
 /// A schema accepts a value exactly where it finds no fault in it: exactly if the empty list is a
@@ -45,13 +45,14 @@ pub fn other_values()
 
 /// The order in a report is free, also inside a context. Apart from it every report of a schema
 /// over a value tells the same: as many faults, about the same instances, at the same paths, of the
-/// same kinds and with the same texts, and in a context the same of each branch. So a list in which
+/// same kinds and keywords and with the same texts, and in a context the same of each branch. So a list in which
 /// a fault or a name is left out is no report, and nor is one whose branches are exchanged.
 pub fn order()
     ensures one_length { One_length }
     ensures one_list_of_places { One_list_of_places }
     ensures one_list_of_lines { One_list_of_lines }
     ensures one_list_of_kinds { One_list_of_kinds }
+    ensures one_list_of_keywords { One_list_of_fault_keywords }
     ensures all_names { All_names_are_told }
     ensures first_name { First_name_alone_is_no_report }
     ensures any_order { Order_in_a_branch_is_free }

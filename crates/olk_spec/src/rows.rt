@@ -12,6 +12,7 @@ ghost use Rattle.olk_spec.specs.Rows_refusals.{Rows_refusals};
 ghost use Rattle.olk_spec.specs.Rows_costs.{Rows_costs};
 ghost use Rattle.olk_spec.specs.Rows_evaluation.{Rows_evaluation};
 ghost use Rattle.olk_spec.specs.Rows_trees.{Rows_trees};
+ghost use Rattle.olk_spec.specs.Rows_inside.{Rows_inside};
 ghost use Rattle.olk_spec.specs.Rows_faults.{Rows_faults};
 ghost use Rattle.olk_spec.specs.Rows_bench.{Rows_bench};
 ghost use Rattle.olk_spec.specs.Vectors_names.{Vectors_names};
@@ -57,6 +58,11 @@ pub fn rows_of_evaluation()
 /// Evaluation trees are, whole, those that are expected.
 pub fn rows_of_trees()
     ensures { Rows_trees }
+{}
+
+/// All keywords find and show what is expected where their schema is a branch of a member's.
+pub fn rows_of_inside()
+    ensures { Rows_inside }
 {}
 
 /// Faults and malformations have the kinds and instances that are expected, and each branch of

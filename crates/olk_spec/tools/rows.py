@@ -36,6 +36,13 @@ MORE_FORMS = {
     "Promises_its_text": "λ u. refl",
     "Promises_no_text": "λ u. refl",
     "Promises_its_refusal": "refl",
+    "All_promise_their_texts": "λ u. refl",
+    "All_promise_their_refusals": "refl",
+    "None_promises_its_refusal": "refl",
+    "Has_keywords": "λ u. refl",
+    "Keeps": "λ u. refl",
+    "Leaf_is_refused_as": "refl",
+    "All_build": "refl",
     "Says_of": "(refl, refl)",
     "Are_white_space": "refl",
     "Are_no_white_space": "refl",
@@ -43,8 +50,15 @@ MORE_FORMS = {
 PROOFS = {**FORMS, **MORE_FORMS}
 
 
+def as_bytes(text):
+    """A text with a character for each byte, as `codes` reads it."""
+    return text.encode().decode("latin-1")
+
+
 def quote(text):
-    return '"' + text.replace("\\", "\\\\").replace('"', '\\"') + '"'
+    """A text in antt's quotes."""
+    text = as_bytes(text).replace("\\", "\\\\").replace('"', '\\"').replace("\n", "\\n")
+    return f'"{text}"'
 
 
 def texts(items):
@@ -53,6 +67,10 @@ def texts(items):
 
 def ordered(items):
     return sorted(items, key=lambda t: t.encode())
+
+
+def listed(words):
+    return "(" + " ∷ ".join([*words, "[]"]) + ")"
 
 
 class Group:
@@ -152,6 +170,24 @@ class Group:
 
     def promises_its_refusal(self, name, schema):
         self.add(name, "Promises_its_refusal", self.text_of(schema))
+
+    def all_promise(self, name, pairs):
+        self.add(name, "All_promise_their_texts", listed(f"({self.text_of(s)}, {quoted_json(v)})" for s, v in pairs))
+
+    def all_promise_their_refusals(self, name, schemas, yes):
+        self.add(name, "All_promise_their_refusals" if yes else "None_promises_its_refusal", listed(map(self.text_of, schemas)))
+
+    def all_build(self, name, schemas):
+        self.add(name, "All_build", listed(map(self.text_of, schemas)))
+
+    def has_keywords(self, name, schema, value, keywords):
+        self.add(name, "Has_keywords", self.text_of(schema), quoted_json(value), texts(ordered(keywords)))
+
+    def keeps(self, name, schema, value, lines):
+        self.add(name, "Keeps", self.text_of(schema), quoted_json(value), texts(ordered(lines)))
+
+    def leaf_is_refused_as(self, name, keyword, value, text):
+        self.add(name, "Leaf_is_refused_as", quote(keyword), quoted_json(value), quote(text))
 
     def says_of(self, name, pattern, member, matcher, answer):
         self.add(name, "Says_of", quote(pattern), quote(member), matcher, answer)
@@ -270,6 +306,20 @@ def properties():
         g.fails("the_last_of_%d_names_is_asked" % n, many, {"p%02d" % i: ("x" if i == n - 1 else 1) for i in range(20)}, error)
         g.fails("the_last_of_%d_names_is_asked_alone" % n, many, {last: "x"}, error)
     g.fails("paths_are_escaped", '{"properties":{"a/b":false}}', '{"a/b":1}', ["False schema does not allow 1 @ /a~1b, /properties/a~1b"])
+    g.fails("a_name_beyond_ascii_stands_as_it_is_in_paths", {"properties": {"é": False}}, {"é": 1}, ["False schema does not allow 1 @ /é, /properties/é"])
+    g.fails("quotes_and_percents_stand_as_they_are_in_paths", {"properties": {'"': False, "%": False}}, {'"': 1, "%": 2},
+            ['False schema does not allow 1 @ /", /properties/"', "False schema does not allow 2 @ /%, /properties/%"])
+    g.fails("a_missing_name_is_told_as_json", {"required": ['a"b\n']}, "{}", ['"a\\"b\\n" is a required property @ "", /required'])
+    none_more = '{"properties":{},"additionalProperties":false}'
+    g.fails("three_unexpected_names_are_told_as_they_are", none_more, {"a": 1, "b'\"": 2, "c": 3},
+            ["Additional properties are not allowed ('a', 'b'\"', 'c' were unexpected) @ \"\", /additionalProperties"])
+    for value in ("null", "false"):
+        g.fails(f"a_member_that_is_{value}_is_there", '{"required":["a"],"dependentRequired":{"a":["b"]}}', '{"a":%s}' % value, ['"b" is a required property @ "", /dependentRequired'])
+    g.fails("members_that_are_null_are_declared_and_unexpected", '{"properties":{"a":false},"additionalProperties":false}', '{"a":null,"b":null}',
+            ["False schema does not allow null @ /a, /properties/a", "Additional properties are not allowed ('b' was unexpected) @ \"\", /additionalProperties"])
+    g.fails("what_other_keywords_and_branches_name_is_additional", '{"allOf":[{"properties":{"a":{}}}],"dependentSchemas":{"b":{}},"properties":{},"additionalProperties":false}', '{"a":1,"b":2}',
+            ["Additional properties are not allowed ('a', 'b' were unexpected) @ \"\", /additionalProperties"])
+    g.fails("in_an_open_object_a_declared_name_meets_its_patterns", '{"properties":{"a":{}},"patternProperties":{"^a":false}}', '{"a":1}', ["False schema does not allow 1 @ /a, /patternProperties/^a"])
     g.holds("other_values_pass", '{"properties":{"a":false},"required":["a"],"additionalProperties":false,"patternProperties":{"":false},"propertyNames":false,"dependentRequired":{"a":["b"]},"dependentSchemas":{"a":false},"dependencies":{"a":false},"propertyDependencies":{"a":{"b":false}}}', "[1]")
     return g
 
@@ -332,6 +382,11 @@ def patterns():
     g.holds_under("the_first_of_66_patterns_does_not_count", "false", wider, '{"m64":1}')
     g.fails_under("the_first_of_66_patterns_counts", "true", wider, '{"m64":1}', ["False schema does not allow 1 @ /m64, /patternProperties/(slow)m64"])
 
+    g.fails("a_name_that_a_false_schema_refuses_is_not_additional", '{"patternProperties":{"^a":false},"additionalProperties":false}', '{"a":1}',
+            ["False schema does not allow 1 @ /a, /patternProperties/^a"])
+    g.holds("the_case_of_letters_counts", '{"patternProperties":{"^foo":false,"foo$":false,"^foo$":false,"^(foo|bar)$":false}}', '{"Foo":1}')
+    g.holds("the_end_is_behind_a_line_feed", '{"patternProperties":{"spam$":false,"^spam$":false,"^(spam|a)$":false}}', {"spam\n": 1})
+
     def prefix(t):
         return f"starts_with_text (codes {quote(t)})"
 
@@ -346,6 +401,8 @@ def patterns():
         ("alternatives", "^(a|b)$", f"is_one_of (codes {quote('a')} ∷ codes {quote('b')} ∷ [])"),
         ("no_white_space", "^\\S*$", "has_no_whitespace"),
         ("suffix_of_letters", "spam$", f"ends_with_text (codes {quote('spam')})"),
+        ("prefix_of_all_special_characters", "^" + "".join("\\" + c for c in SPECIAL), prefix(SPECIAL)),
+        ("prefix_of_other_characters", '^a b"#,:;<=>@_!&\'~`%/-é', prefix('a b"#,:;<=>@_!&\'~`%/-é')),
         ("suffix_that_is_a_dollar", "\\$$", f"ends_with_text (codes {quote('$')})"),
     ):
         g.is_pattern(n, p, l)
@@ -353,6 +410,7 @@ def patterns():
         ("letters_alone_are_no_test", "foo"), ("an_anchor_alone_is_no_test", "^"), ("two_anchors_are_no_test", "^$"),
         ("one_alternative_is_no_test", "^(a)$"), ("a_star_is_no_test", "^foo.*"), ("a_plus_is_no_test", "^foo+"),
         ("a_question_mark_is_no_test", "^foo?"), ("a_class_is_no_test", "^[a-z]"), ("open_alternatives_are_no_test", "^foo|bar"),
+        ("a_closing_brace_is_no_test", "^a}"), ("a_closing_bracket_is_no_test", "^a]"),
         ("a_group_is_no_test", "^foo(bar)"), ("a_number_in_braces_is_no_test", "^a{2}"), ("a_digit_is_no_test", "^foo\\d"),
         ("a_word_character_is_no_test", "^a\\w"), ("an_escaped_hyphen_is_no_test", "^a\\-"), ("an_escaped_dollar_is_no_suffix", "foo\\$"),
         ("a_dollar_alone_is_no_suffix", "$"), ("a_group_is_no_suffix", "(a)$"), ("a_dot_is_no_suffix", "fo.o$"),
@@ -361,6 +419,7 @@ def patterns():
     return g
 
 
+SPECIAL = "\\^$.*+?()[]{}|"
 CLOSED = {"additionalProperties": False,
           "properties": {"foo": {"type": "string"}, "barbaz": {"type": "integer", "multipleOf": 3}},
           "patternProperties": {"^bar": {"type": "integer", "minimum": 5}, "spam$": {"type": "integer", "maximum": 10}}}
@@ -403,6 +462,7 @@ def branches():
     g.holds("else_alone_is_unread", '{"else":false}', "1")
     g.fails("each_branch_of_all_of_is_asked", '{"allOf":[{"type":"string"},true,false]}', "1",
             ['1 is not of type "string" @ "", /allOf/0/type', 'False schema does not allow 1 @ "", /allOf/2'])
+    g.fails("the_branch_behind_100_others_has_position_100", {"allOf": [True] * 100 + [False]}, "1", ['False schema does not allow 1 @ "", /allOf/100'])
     g.fails("the_eleventh_branch_has_position_10", {"allOf": [True] * 10 + [False]}, "1", ['False schema does not allow 1 @ "", /allOf/10'])
     return g
 
@@ -441,6 +501,10 @@ def dependencies():
         g.holds(n, kind, v)
     g.holds("null_is_not_the_text_null", '{"propertyDependencies":{"k":{"null":false}}}', '{"k":null}')
     g.holds("a_number_is_not_the_text_of_its_digits", '{"propertyDependencies":{"k":{"1":false}}}', '{"k":1}')
+    g.holds("a_list_of_one_text_chooses_none", '{"propertyDependencies":{"k":{"a":false}}}', '{"k":["a"]}')
+    g.holds("true_is_not_the_text_true", '{"propertyDependencies":{"k":{"true":false}}}', '{"k":true}')
+    g.fails("a_name_that_two_keys_want_is_told_twice", '{"dependentRequired":{"a":["c"],"b":["c"]}}', '{"a":1,"b":1}', ['"c" is a required property @ "", /dependentRequired'] * 2)
+    g.fails("a_declared_name_meets_the_schema_of_names", '{"properties":{"ab":{}},"propertyNames":{"maxLength":1}}', '{"ab":1}', ['"ab" is longer than 1 characters @ "", /propertyNames/maxLength'])
     g.fails("the_second_key_chooses_too", '{"propertyDependencies":{"a":{},"b":{"x":false}}}', '{"b":"x"}', ['False schema does not allow {"b":"x"} @ "", /propertyDependencies/b/x'])
     g.fails("the_empty_text_chooses_too", '{"propertyDependencies":{"k":{"":false}}}', '{"k":""}',
             ['False schema does not allow {"k":""} @ "", /propertyDependencies/k/'])
@@ -470,6 +534,9 @@ def refusals():
         ("an_entry_of_property_dependencies_that_is_no_object", '{"propertyDependencies":{"k":5}}', '5 is not of type "object" @ "", /propertyDependencies/k'),
         ("a_schema_of_property_dependencies_that_is_none", '{"propertyDependencies":{"k":{"t/u":5}}}', '5 is not of types "boolean", "object" @ "", /propertyDependencies/k/t~1u'),
         ("a_root_that_is_no_schema", "5", '5 is not of types "boolean", "object" @ "", ""'),
+        ("a_root_that_is_null", "null", 'null is not of types "boolean", "object" @ "", ""'),
+        ("a_root_that_is_a_text", '"a"', '"a" is not of types "boolean", "object" @ "", ""'),
+        ("a_root_that_is_a_list", "[]", '[] is not of types "boolean", "object" @ "", ""'),
         ("the_first_of_two_items_that_are_no_texts", '{"required":[1,2]}', '1 is not of type "string" @ "", /required'),
         ("a_name_repeated_behind_another", '{"dependentRequired":{"a":["b","c","b"]}}', '["b","c","b"] has non-unique elements @ "", /dependentRequired/a'),
         ("a_name_repeated_after_another", '{"dependentRequired":{"a":["c","b","b"]}}', '["c","b","b"] has non-unique elements @ "", /dependentRequired/a'),
@@ -485,18 +552,43 @@ def refusals():
         g.is_refused(n, s, [l])
     g.is_refused("each_refused_pattern_is_told", '{"patternProperties":{"a(":{},"b(":{}}}', ['"%s(" is not a "regex" @ "", /patternProperties/%s(' % (n, n) for n in "ab"])
     g.is_refused("each_entry_that_is_no_list_is_told", '{"dependentRequired":{"a":5,"b":5}}', ['5 is not of type "array" @ "", /dependentRequired/%s' % n for n in "ab"])
-    g.is_always_refused("a_reference_is_refused_whatever_the_leaves_read", '{"$ref":"#"}', ['"$ref" is not supported here @ "", /$ref'])
-    bad = [('{"%s":5}' % k, '5 is not of type "%s"' % t, "/" + k)
-            for t, ks in (("object", ("properties", "patternProperties", "dependentRequired", "dependentSchemas", "dependencies", "propertyDependencies")),
-                          ("array", ("required", "allOf", "anyOf", "oneOf"))) for k in ks]
-    bad += [('{"%s":5}' % k, '"%s" is not supported here' % k, "/" + k) for k in ("$ref", "$dynamicRef", "$recursiveRef", "unevaluatedProperties", "unevaluatedItems")]
+    g.is_refused("the_first_item_of_each_list_of_dependencies_is_told", '{"dependencies":{"a":[5,7],"b":[6]}}', ['%d is not of type "string" @ "", /dependencies' % n for n in (5, 6)])
+    g.is_refused("each_entry_of_property_dependencies_is_told", '{"propertyDependencies":{"a":5,"b":6}}', ['%d is not of type "object" @ "", /propertyDependencies/%s' % e for e in ((5, "a"), (6, "b"))])
+    g.is_refused("each_keyword_and_place_is_told_and_what_is_inside", '{"allOf":[5,6],"anyOf":7,"patternProperties":{"(":{"$ref":1}}}',
+                 ['5 is not of types "boolean", "object" @ "", /allOf/0', '6 is not of types "boolean", "object" @ "", /allOf/1', '7 is not of type "array" @ "", /anyOf',
+                  '"(" is not a "regex" @ "", /patternProperties/(', '"$ref" is not supported here @ "", /patternProperties/(/$ref'])
+    unsupported = ("$ref", "$dynamicRef", "$recursiveRef", "unevaluatedProperties", "unevaluatedItems")
+    objects = ("properties", "patternProperties", "dependentRequired", "dependentSchemas", "dependencies", "propertyDependencies")
+    arrays = ("required", "allOf", "anyOf", "oneOf")
+    schemas = ("additionalProperties", "not", "if", "then", "else")
+    g.is_always_refused("no_keyword_is_a_leaf_whatever_the_leaves_read", {"propertyNames": {"not": 5}, **dict.fromkeys((*unsupported, *objects, *arrays, *schemas), 5)},
+                        ['5 is not of types "boolean", "object" @ "", /%s' % k for k in (*schemas, "propertyNames/not")]
+                        + ['5 is not of type "object" @ "", /' + k for k in objects] + ['5 is not of type "array" @ "", /' + k for k in arrays]
+                        + ['"%s" is not supported here @ "", /%s' % (k, k) for k in unsupported])
+    bad = [('{"%s":5}' % k, '5 is not of type "%s"' % t, "/" + k) for t, ks in (("object", objects), ("array", arrays)) for k in ks]
+    bad += [('{"%s":5}' % k, '"%s" is not supported here' % k, "/" + k) for k in unsupported]
     bad += [('{"additionalProperties":5}', '5 is not of types "boolean", "object"', "/additionalProperties"), ('{"patternProperties":{"(":{}}}', '"(" is not a "regex"', "/patternProperties/("),
             ('{"required":[5]}', '5 is not of type "string"', "/required"), ('{"dependentRequired":{"a":5}}', '5 is not of type "array"', "/dependentRequired/a"),
             ('{"dependentRequired":{"a":["b","b"]}}', '["b","b"] has non-unique elements', "/dependentRequired/a"), ('{"dependentRequired":{"a":[5]}}', '5 is not of type "string"', "/dependentRequired"),
             ('{"dependencies":{"a":[5]}}', '5 is not of type "string"', "/dependencies"), ('{"propertyDependencies":{"a":5}}', '5 is not of type "object"', "/propertyDependencies/a"),
             ('{"type":5}', '5 is not a value for "type"', "/type")]
     inside = g.table("wrong_inside", bad)
-    alone = g.table("no_schema", [("5", '5 is not of types "boolean", "object"', "")])
+    alone = [(v, v + ' is not of types "boolean", "object"', "") for v in ("null", "5", '"a"', "[]")]
+    g.table("no_schema", alone)
+    g.table("no_schema_and_no_list", alone[:-1])
+    kinds = {"null": "null", "boolean": "true", "string": '"a"', "array": "[]", "object": "{}"}
+    other = g.table("of_another_kind", [
+        (schema % v, message % v, path)
+        for kind, v in kinds.items()
+        for own, schema, path in (
+            *(("object", '{"%s":%%s}' % k, "/" + k) for k in objects), ("object", '{"propertyDependencies":{"a":%s}}', "/propertyDependencies/a"),
+            *(("array", '{"%s":%%s}' % k, "/" + k) for k in arrays), ("array", '{"dependentRequired":{"a":%s}}', "/dependentRequired/a"),
+            ("string", '{"required":[%s]}', "/required"), ("string", '{"dependentRequired":{"a":[%s]}}', "/dependentRequired"), ("string", '{"dependencies":{"a":[%s]}}', "/dependencies"),
+        )
+        if kind != own
+        for message in ['%%s is not of type "%s"' % own]
+    ] + [('{"%s":%s}' % (k, v), '"%s" is not supported here' % k, "/" + k) for k in unsupported for v in kinds.values()])
+    g.are_refused_at("each_keyword_refuses_each_other_kind", "", "%s", other)
     for label, place, path in (
         ("at_the_root", "%s", ""), ("in_properties", '{"properties":{"n":%s}}', "/properties/n"), ("in_pattern_properties", '{"patternProperties":{"n":%s}}', "/patternProperties/n"),
         ("in_additional_properties", '{"additionalProperties":%s}', "/additionalProperties"), ("in_property_names", '{"propertyNames":%s}', "/propertyNames"),
@@ -507,7 +599,11 @@ def refusals():
     ):
         g.are_refused_at(label, path, place, inside)
         if label not in ("at_the_root", "in_property_names"):
-            g.are_refused_at(label.replace("in_", "no_schema_in_", 1), path, place, alone)
+            g.are_refused_at(label.replace("in_", "no_schema_in_", 1), path, place, "no_schema_and_no_list" if label == "in_dependencies" else "no_schema")
+    g.all_build("each_keyword_builds_of_nothing", [{k: {}} for k in (*objects, *schemas, "propertyNames")] + [{k: []} for k in arrays] + [{k: {"a": []}} for k in ("dependentRequired", "dependencies")] + [True, False, {}])
+    g.all_build("truth_values_build", [{k: b} for k in (*schemas, "propertyNames") for b in (True, False)])
+    g.all_build("repeats_build", [{"required": ["a", "a"]}, *({k: [True, True]} for k in ("allOf", "anyOf", "oneOf"))])
+    g.all_build("ignored_names_build_of_anything", [{k: v} for k in ("$schema", "$id", "$defs", "items") for v in ("x", {})])
     g.builds("a_condition_alone_builds", '{"if":5}')
     g.builds("an_ignored_keyword_holds_no_schema", '{"x":{"$ref":1}}')
     g.builds("names_that_are_neither_false_nor_an_object_build", '{"propertyNames":5}')
@@ -543,6 +639,10 @@ def costs():
     g.costs("one_of_three_patterns_makes_a_matcher", three, 6, 0, 1, 2)
     g.asks("one_of_three_patterns_asks_a_matcher", three, '{"c":1}', 1)
     g.costs("schemas_chosen_by_a_text_are_compiled", '{"propertyDependencies":{"k":{"a":{"type":"string"},"b":{}}}}', 3, 1, 0, 0)
+    shut_two = {"properties": {"a": {}, "b": {}, "c": {}}, "patternProperties": {"x": {}, "y": {}}, "additionalProperties": False}
+    g.costs("in_a_branch_three_names_and_two_patterns_ask_six", {"allOf": [shut_two]}, 7, 0, 2, 6)
+    g.costs("each_place_is_compiled_once", {k: {} for k in ("additionalProperties", "propertyNames", "not", "if", "then", "else", "title")} | {k: [{}] for k in ("allOf", "anyOf", "oneOf")}
+            | {k: {"a": {}} for k in ("properties", "patternProperties", "dependentSchemas", "dependencies")} | {"propertyDependencies": {"k": {"a": {}}}}, 15, 0, 1, 1)
     g.asks("patterns_inside_patterns_are_asked", '{"patternProperties":{"a":{"patternProperties":{"b":{}}}}}', '{"a":{"b":1},"c":2}', 3)
     g.asks("each_branch_may_be_asked", '{"anyOf":[true,{"patternProperties":{"x":{}}}]}', '{"x":1}', 1)
     g.asks("each_member_asks_the_matcher", '{"patternProperties":{"(slow)x":{"type":"integer"}}}', '{"ax":"t","b":"t"}', 2)
@@ -561,9 +661,14 @@ def costs():
         ("beside_else_a_condition_asks", '{"if":{"patternProperties":{"a":false}},"else":true}'),
         ("what_applies_where_the_condition_holds_asks", '{"if":true,"then":{"patternProperties":{"a":{}}}}'),
         ("a_dependent_schema_asks", '{"dependentSchemas":{"b":{"patternProperties":{"a":{}}}}}'),
+        ("a_schema_of_a_dependency_asks", '{"dependencies":{"b":{"patternProperties":{"a":{}}}}}'),
+        ("a_branch_of_all_of_asks", '{"allOf":[{"patternProperties":{"a":{}}}]}'),
+        ("what_applies_where_the_condition_fails_asks", '{"if":false,"else":{"patternProperties":{"a":{}}}}'),
     ):
         g.asks(name, schema, '{"b":1}', 1)
     g.asks("a_schema_chosen_by_a_text_asks", '{"propertyDependencies":{"k":{"t":{"patternProperties":{"a":{}}}}}}', '{"k":"t"}', 1)
+    g.asks("a_declared_member_asks", '{"properties":{"b":{"patternProperties":{"a":{}}}}}', '{"b":{"c":1}}', 1)
+    g.asks("two_unfinished_entries_are_asked_again", '{"properties":{"ab":{}},"patternProperties":{"(slow)a":{},"(slow)b":{}},"additionalProperties":false}', '{"ab":1}', 2)
     g.asks("an_additional_schema_asks", '{"additionalProperties":{"patternProperties":{"a":{}}}}', '{"b":{"c":1}}', 1)
     g.costs("a_member_and_its_leaf_are_counted", '{"properties":{"a":{"type":"integer"}}}', 2, 1, 0, 0)
     g.costs("else_alone_is_not_compiled", '{"else":false}', 1, 0, 0, 0)
@@ -716,10 +821,115 @@ def trees():
         ("the_error_of_a_negation_has_its_keyword", '{"not":true}', "1", '"" @ "" invalid(/not @ "" invalid error not: true is not allowed for 1)'),
         ("the_error_of_unexpected_names_has_their_keyword", '{"properties":{},"additionalProperties":false}', '{"a":1}',
          '"" @ "" invalid(/additionalProperties @ "" invalid error additionalProperties: Additional properties are not allowed (\'a\' was unexpected))'),
+        ("without_properties_one_name_is_not_fused", '{"additionalProperties":false,"required":["a"]}', "{}", '"" @ "" invalid(/additionalProperties @ "")(/required @ "" invalid' + required("a") + ")"),
+        ("in_a_closed_object_a_repeated_name_is_not_fused", '{"properties":{},"additionalProperties":false,"required":["a","a"]}', "{}",
+         '"" @ "" invalid(/additionalProperties @ "")(/required @ "" invalid' + required("a", "a") + ")"),
+        ("members_names_and_keys_are_shown_in_byte_order",
+         '{"additionalProperties":{},"dependencies":{"a":{},"b":[]},"dependentRequired":{"a":["x"],"b":["y"]},"propertyNames":{"const":"a"}}', '{"a":1,"b":2}',
+         '"" @ "" invalid(/additionalProperties @ "" names ["a","b"](/additionalProperties @ /a)(/additionalProperties @ /b))(/dependencies @ ""(/dependencies/a @ "")(/dependencies @ ""))'
+         '(/dependentRequired @ "" invalid(/dependentRequired @ "" invalid' + required("x") + ')(/dependentRequired @ "" invalid' + required("y") + "))"
+         '(/propertyNames @ "" invalid(/propertyNames @ ""(/propertyNames/const @ ""))(/propertyNames @ "" invalid(/propertyNames/const @ "" invalid error const: "a" was expected)))'),
         ("a_negation_of_a_fraction_promises_no_text", '{"not":{"title":1.5}}', "1", '"" @ "" invalid(/not @ "" invalid error not: ~)'),
         ("a_false_schema_over_a_fraction_promises_no_text", "false", "1.5", '"" @ "" invalid error falseSchema: ~'),
     ):
         g.has_tree(name, schema, value, tree)
+    return g
+
+
+# ---- all keywords inside a member and a branch
+
+# The value, and of each schema its keywords: the value of each, the child that it shows, and the faults that it finds, at the
+# schema's own paths; V stands for the value, FALSE for the error of a false schema over it and NO for its line.
+INSIDE = (
+    ("each_keyword_that_accepts", {"b": 1, "c": "t"}, {
+        "additionalProperties": (True, "", ()),
+        "allOf": ([True], '(/allOf @ ""(/allOf/0 @ ""))', ()),
+        "anyOf": ([True, False], '(/anyOf @ ""(/anyOf/0 @ ""))', ()),
+        "dependencies": ({"b": {"type": "object"}, "c": ["b"]}, '(/dependencies @ ""(/dependencies/b @ ""(/dependencies/b/type @ ""))(/dependencies @ ""))', ()),
+        "dependentRequired": ({"b": ["c"]}, '(/dependentRequired @ ""(/dependentRequired @ ""))', ()),
+        "dependentSchemas": ({"b": True}, '(/dependentSchemas @ ""(/dependentSchemas/b @ ""))', ()),
+        "else": (False, "", ()),
+        "if": (True, '(/if @ ""(/if @ "")(/then @ ""))', ()),
+        "not": (False, '(/not @ "")', ()),
+        "oneOf": ([False, True], '(/oneOf @ ""(/oneOf/1 @ ""))', ()),
+        "patternProperties": ({"^b": True}, '(/patternProperties @ "" names ["b"](/patternProperties/^b @ /b))', ()),
+        "properties": ({"c": True}, '(/properties @ "" names ["c"](/properties/c @ /c))', ()),
+        "propertyDependencies": ({"c": {"t": True}}, '(/propertyDependencies @ ""(/propertyDependencies/c/t @ ""))', ()),
+        "propertyNames": ({"maxLength": 1}, '(/propertyNames @ ""(/propertyNames @ ""(/propertyNames/maxLength @ ""))(/propertyNames @ ""(/propertyNames/maxLength @ "")))', ()),
+        "required": (["b"], '(/required @ "")', ()),
+        "then": (True, "", ()),
+        "type": ("object", '(/type @ "")', ()),
+    }),
+    ("each_keyword_that_refuses", {"b": 1, "c": "t"}, {
+        "additionalProperties": (True, "", ()),
+        "allOf": ([False], '(/allOf @ "" invalid(/allOf/0 @ ""FALSE))', ("NO/allOf/0",)),
+        "anyOf": ([False], '(/anyOf @ "" invalid(/anyOf/0 @ ""FALSE))', ("V is not valid under any of the schemas listed in the 'anyOf' keyword @ \"\", /anyOf [{NO/anyOf/0;}]",)),
+        "dependencies": ({"b": False, "c": ["x"]}, '(/dependencies @ "" invalid(/dependencies/b @ ""FALSE)(/dependencies @ "" invalid error required: "x" is a required property))',
+                         ("NO/dependencies/b", '"x" is a required property @ "", /dependencies')),
+        "dependentRequired": ({"b": ["y"]}, '(/dependentRequired @ "" invalid(/dependentRequired @ "" invalid error required: "y" is a required property))', ('"y" is a required property @ "", /dependentRequired',)),
+        "dependentSchemas": ({"b": False}, '(/dependentSchemas @ "" invalid(/dependentSchemas/b @ ""FALSE))', ("NO/dependentSchemas/b",)),
+        "else": (False, "", ("NO/else",)),
+        "if": (False, '(/if @ "" invalid(/else @ ""FALSE))', ()),
+        "not": (True, '(/not @ "" invalid error not: true is not allowed for V)', ('true is not allowed for V @ "", /not',)),
+        "oneOf": ([False, False], '(/oneOf @ "" invalid(/oneOf/0 @ ""FALSE)(/oneOf/1 @ ""FALSE))', ("V is not valid under any of the schemas listed in the 'oneOf' keyword @ \"\", /oneOf [{NO/oneOf/0;}{NO/oneOf/1;}]",)),
+        "patternProperties": ({"^b": False}, '(/patternProperties @ "" invalid(/patternProperties/^b @ /b invalid error falseSchema: False schema does not allow 1))', ("False schema does not allow 1 @ /b, /patternProperties/^b",)),
+        "properties": ({"c": False}, '(/properties @ "" invalid(/properties/c @ /c invalid error falseSchema: False schema does not allow "t"))', ('False schema does not allow "t" @ /c, /properties/c',)),
+        "propertyDependencies": ({"c": {"t": False}}, '(/propertyDependencies @ "" invalid(/propertyDependencies/c/t @ ""FALSE))', ("NO/propertyDependencies/c/t",)),
+        "propertyNames": ({"const": "b"}, '(/propertyNames @ "" invalid(/propertyNames @ ""(/propertyNames/const @ ""))(/propertyNames @ "" invalid(/propertyNames/const @ "" invalid error const: "b" was expected)))',
+                          ('"b" was expected @ "", /propertyNames/const',)),
+        "required": (["z"], '(/required @ "" invalid error required: "z" is a required property)', ('"z" is a required property @ "", /required',)),
+        "then": (True, "", ()),
+        "type": ("null", '(/type @ "" invalid error type: V is not of type "null")', ('V is not of type "null" @ "", /type',)),
+    }),
+    ("too_many_branches_and_any_member_or_name", {"b": 1}, {
+        "additionalProperties": (False, '(/additionalProperties @ "" invalid error falseSchema: False schema does not allow 1)', ('False schema does not allow 1 @ "", /additionalProperties',)),
+        "oneOf": ([True, True, False], '(/oneOf @ "" invalid error oneOf: more than one subschema succeeded(/oneOf/0 @ "")(/oneOf/1 @ ""))',
+                  ("V is valid under more than one of the schemas listed in the 'oneOf' keyword @ \"\", /oneOf [{}{}{NO/oneOf/2;}]",)),
+        "propertyNames": (False, '(/propertyNames @ ""FALSE)', ("NO/propertyNames",)),
+    }),
+    ("a_choice_of_none_and_two_missing_names", {"b": 1}, {
+        "anyOf": ([], '(/anyOf @ "" invalid)', ("V is not valid under any of the schemas listed in the 'anyOf' keyword @ \"\", /anyOf []",)),
+        "oneOf": ([], '(/oneOf @ "" invalid)', ("V is not valid under any of the schemas listed in the 'oneOf' keyword @ \"\", /oneOf []",)),
+        "properties": ({"b": {}}, '(/properties @ "" invalid(/properties/b @ /b)(/required @ "" invalid error required: "x" is a required property error required: "y" is a required property))', ()),
+        "required": (["x", "y"], "", ('"x" is a required property @ "", /required', '"y" is a required property @ "", /required')),
+    }),
+    ("unexpected_members_and_a_missing_name", {"b": 1, "u": 2}, {
+        "additionalProperties": (False, '(/additionalProperties @ "" invalid error additionalProperties: Additional properties are not allowed (\'u\' was unexpected)(/properties/b @ /b)'
+                                 '(/required @ "" invalid error required: "x" is a required property))', ("Additional properties are not allowed ('u' was unexpected) @ \"\", /additionalProperties",)),
+        "properties": ({"b": {}}, "", ()),
+        "required": (["x"], "", ('"x" is a required property @ "", /required',)),
+    }),
+    ("matches_and_additional_members", {"m": 1, "x": 2, "y": 3}, {
+        "additionalProperties": ({}, '(/additionalProperties @ "" names ["x","y"](/patternProperties/^m @ /m)(/additionalProperties @ /x)(/additionalProperties @ /y)(/patternProperties @ "" names ["m"]))', ()),
+        "patternProperties": ({"^m": {}}, "", ()),
+    }),
+    ("declared_matching_and_additional_members", {"b": 1, "m": 2, "x": 3}, {
+        "additionalProperties": ({"type": "null"}, '(/additionalProperties @ "" invalid(/properties/b @ /b)(/patternProperties/^m @ /m)(/additionalProperties @ /x invalid(/additionalProperties/type @ /x invalid error type: 3 is not of type "null")))',
+                                 ('3 is not of type "null" @ /x, /additionalProperties/type',)),
+        "patternProperties": ({"^m": {}}, "", ()),
+        "properties": ({"b": {}}, "", ()),
+    }),
+)
+
+
+def inside():
+    g = Group("Rows_inside", "What keywords find and show where their schema is a branch of a member's.")
+    for name, value, keywords in INSIDE:
+        schema = {"properties": {"a": {"allOf": [{k: it[0] for k, it in keywords.items()}]}}}
+        shown = compact(value)
+        no = f'False schema does not allow {shown} @ "", '
+
+        def placed(text):
+            """A text whose paths are those of the schema alone."""
+            text = text.replace("FALSE", f" invalid error falseSchema: False schema does not allow {shown}").replace("NO/", no + "/").replace("V is", shown + " is").replace("for V", "for " + shown)
+            text = re.sub(r'(""|/[^ ()]*) @ (""|/[^ ()]*)(?=[ ()])', lambda it: "/properties/a/allOf/0%s @ /a%s" % tuple(p.strip('"') for p in it.groups()), text)
+            return re.sub(r'@ (""|/\S*), /', lambda it: "@ /a%s, /properties/a/allOf/0/" % it[1].strip('"'), text)
+
+        lines = [placed(line) for it in keywords.values() for line in it[2]]
+        invalid, names = (" invalid", "") if lines else ("", ' names ["a"]')
+        children = placed(f'("" @ ""{invalid}' + "".join(it[1] for it in keywords.values()) + ")")
+        (g.fails(name, schema, {"a": value}, lines) if lines else g.holds(name, schema, {"a": value}))
+        g.has_tree(name + "_shown", schema, {"a": value}, f'"" @ ""{invalid}(/properties @ ""{invalid}{names}(/properties/a @ /a{invalid}(/properties/a/allOf @ /a{invalid}{children})))')
     return g
 
 
@@ -737,6 +947,16 @@ def faults():
     g.cuts_to("the_first_of_two_unexpected_names_is_kept", shut, '{"a":1,"b":2}', ["Additional properties are not allowed ('a' was unexpected) @ \"\", /additionalProperties"])
     g.fails("beside_patterns_names_are_told", '{"patternProperties":{},"additionalProperties":false}', '{"a":1}',
             ["Additional properties are not allowed ('a' was unexpected) @ \"\", /additionalProperties"])
+    g.has_keywords("faults_have_the_keywords_of_their_kinds",
+                   '{"additionalProperties":false,"allOf":[false,{"oneOf":[true,true]}],"anyOf":[],"not":true,"oneOf":[],"properties":{},"propertyNames":{"maxLength":0},"required":["b"],"type":"null"}', '{"a":1}',
+                   ["additionalProperties", "falseSchema", "oneOf", "anyOf", "not", "oneOf", "propertyNames", "required", "type"])
+    g.cuts_to("a_choice_in_a_member_is_kept_with_its_branches", '{"properties":{"a":{"anyOf":[false]}}}', '{"a":1}',
+              ["1 is not valid under any of the schemas listed in the 'anyOf' keyword @ /a, /properties/a/anyOf [{False schema does not allow 1 @ /a, /properties/a/anyOf/0;}]"])
+    g.cuts_to("no_accepting_branch_is_kept_with_its_branches", none, "1",
+              ["1 is not valid under any of the schemas listed in the 'oneOf' keyword @ \"\", /oneOf [{False schema does not allow 1 @ \"\", /oneOf/0;}]"])
+    g.cuts_to("too_many_accepting_branches_are_kept", many, "1",
+              ["1 is valid under more than one of the schemas listed in the 'oneOf' keyword @ \"\", /oneOf [{}{}{False schema does not allow 1 @ \"\", /oneOf/2;}]"])
+    g.keeps("a_name_is_kept_with_the_fault_inside", '{"propertyNames":{"maxLength":0}}', '{"a":1}', ['PropertyNames of {"a":1} @ "", /propertyNames/maxLength {Leaf of "a" @ "", /propertyNames/maxLength}'])
     for name, schema, value, line in (
         ("no_accepting_branch", none, "1", 'OneOfNotValid of 1 @ "", /oneOf'),
         ("too_many_accepting_branches", many, "1", 'OneOfMultipleValid of 1 @ "", /oneOf'),
@@ -771,11 +991,17 @@ def faults():
         ("no_accepting_branch_over_a_fraction_promises_no_text", none, "1.5", False),
         ("too_many_accepting_branches_over_a_fraction_promise_no_text", many, "1.5", False),
         ("a_negation_over_a_fraction_promises_no_text", '{"not":true}', "1.5", False),
+        ("a_false_schema_over_a_fraction_promises_no_text", "false", "1.5", False),
         ("a_name_of_an_object_with_a_fraction_promises_its_text", '{"propertyNames":{"not":true}}', '{"a":1.5}', True),
         ("a_name_whose_own_fault_prints_a_fraction_promises_no_text", '{"propertyNames":{"not":{"title":1.5}}}', '{"a":1}', False),
     ):
         g.promises(name, schema, value, yes)
     g.promises_its_refusal("a_refused_name_with_a_fraction_promises_its_text", '{"$ref":1.5}')
+    g.all_promise("over_whole_numbers_each_kind_promises_its_text", ((none, "1"), (many, "1"), ('{"not":true}', "1"), ("false", "1"), ('{"minimum":5}', "1"), (shut, '{"a":1}'), ('{"required":["a"]}', "{}")))
+    g.all_promise("over_a_fraction_names_and_leaves_promise_their_texts", (('{"type":"object"}', "1.5"), (shut, '{"a":1.5}'), ('{"required":["a"]}', '{"b":1.5}'), ('{"dependentRequired":{"b":["a"]}}', '{"b":1.5}')))
+    g.all_promise_their_refusals("refusals_without_a_fraction_promise_their_texts", ('{"properties":5}', '{"not":5}', '{"dependentRequired":{"a":["b","b"]}}', '{"patternProperties":{"(":{}}}', '{"type":5}', '{"$ref":1}'), True)
+    g.all_promise_their_refusals("refusals_that_print_a_fraction_promise_no_text", ('{"properties":1.5}', '{"not":1.5}', '{"dependentRequired":{"a":["b","b",1.5]}}', '{"type":1.5}', '{"required":[1.5]}'), False)
+    g.leaf_is_refused_as("the_name_of_a_leaf_is_told_as_json", 'a"b', "5", '5 is not a value for "a\\"b"')
     return g
 
 
@@ -816,11 +1042,25 @@ def bench():
         value = s[s.index(":") + 1:-1]
         if "." not in value:
             g.is_refused(n, s, ['%s is not a value for "%s" @ "", /%s' % (value, k, k)])
+    g.is_refused("null_as_constant", '{"const":null}', ['null is not a value for "const" @ "", /const'])
+    g.all_promise_their_refusals("no_leaf_takes_a_fraction", [{k: 1.5} for k in ("const", "minimum", "maximum", "multipleOf", "minLength", "maxLength")], False)
+    g.all_build("each_kind_builds", [{"type": kind} for kind in kinds])
+    g.all_build("constants_and_limits_build", [{k: n} for k in ("const", "minimum", "maximum") for n in (-1, 0, 1, 2**64 - 1)] + [{"const": ""}, {"multipleOf": 1}, {"minLength": 0}, {"maxLength": 0}])
+    g.all_build("bodies_build_alone_and_behind_slow", [{"patternProperties": {p: {}}} for p in ("x", "x$", "\\.", "(slow)x", "(slow)\\.")])
+    g.fails("a_greater_number_below_zero", '{"const":-3}', "-2", ['-3 was expected @ "", /const'])
+    g.fails("a_text_that_begins_so", '{"const":"a"}', '"ab"', ['"a" was expected @ "", /const'])
+    g.fails("a_text_in_capitals", '{"const":"a"}', '"A"', ['"a" was expected @ "", /const'])
+    g.holds("a_number_past_the_signed_ones", '{"minimum":5}', "9223372036854775808")
+    g.holds("zero_is_a_multiple", '{"multipleOf":3}', "0")
+    g.holds("one_character_of_four_bytes", '{"maxLength":1}', '"\\ud83d\\ude00"')
     g.holds("an_unknown_keyword_is_ignored", '{"enum":[]}', "1")
-    for n, p in (("a_class", "[a-z]"), ("a_slow_nothing", "(slow)"), ("a_slow_anchor", "(slow)^a"), ("an_empty_pattern", ""), ("two_anchors", "^$")):
+    for n, p in (("a_class", "[a-z]"), ("a_slow_nothing", "(slow)"), ("a_slow_anchor", "(slow)^a"), ("an_empty_pattern", ""), ("two_anchors", "^$"), ("a_slow_end", "(slow)a$")):
         g.is_refused(n + "_is_refused", {"patternProperties": {p: {}}}, ['"%s" is not a "regex" @ "", /patternProperties/%s' % (p, p)])
     g.says_of("the_end_is_not_the_start", "a$", "ab", "unmatched", "unmatched")
     g.says_of("the_end_is_the_end", "a$", "ba", "matched", "matched")
+    g.says_of("the_start_is_the_start", "^a", "ba", "unmatched", "unmatched")
+    g.says_of("both_ends_are_the_whole", "^a$", "ab", "unmatched", "unmatched")
+    g.says_of("the_end_is_behind_a_line_feed", "a$", "a\n", "unmatched", "unmatched")
     g.says_of("a_test_needs_no_matcher", "^(a|b)$", "b", "unmatched", "matched")
     g.fails("a_body_stands_anywhere", '{"patternProperties":{"b":false}}', '{"abc":1,"ac":2}', ["False schema does not allow 1 @ /abc, /patternProperties/b"])
     g.fails("an_escaped_body_stands_anywhere", '{"patternProperties":{"\\\\.":false}}', '{"a.c":1,"abc":2}', ["False schema does not allow 1 @ /a.c, /patternProperties/\\."])
@@ -938,5 +1178,5 @@ def refused_patterns():
 
 
 if __name__ == "__main__":
-    for group in (properties(), patterns(), branches(), dependencies(), refusals(), costs(), evaluation(), trees(), faults(), bench(), names(), members(), refused_patterns()):
+    for group in (properties(), patterns(), branches(), dependencies(), refusals(), costs(), evaluation(), trees(), inside(), faults(), bench(), names(), members(), refused_patterns()):
         group.write()

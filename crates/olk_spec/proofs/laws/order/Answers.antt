@@ -1,5 +1,5 @@
 use Rattle.olk_spec.proofs.laws.order.Goals as goal
-use Rattle.olk_spec.proofs.Refused.{one_length, one_list_of_places, one_list_of_lines, one_list_of_kinds, all_names_are_told, first_name_alone_is_no_report, order_in_a_branch_is_free, first_faults_alone_are_no_report, exchanged_branches_are_no_report, no_branches_are_no_report}
+use Rattle.olk_spec.proofs.Refused.{one_length, one_list_of_places, one_list_of_lines, one_list_of_kinds, one_list_of_fault_keywords, all_names_are_told, first_name_alone_is_no_report, order_in_a_branch_is_free, first_faults_alone_are_no_report, exchanged_branches_are_no_report, no_branches_are_no_report}
 
 pub returns-clause-one_length : goal.returns-clause-one_length
 returns-clause-one_length c = one_length
@@ -12,6 +12,9 @@ returns-clause-one_list_of_lines c = one_list_of_lines
 
 pub returns-clause-one_list_of_kinds : goal.returns-clause-one_list_of_kinds
 returns-clause-one_list_of_kinds c = one_list_of_kinds
+
+pub returns-clause-one_list_of_keywords : goal.returns-clause-one_list_of_keywords
+returns-clause-one_list_of_keywords c = one_list_of_fault_keywords
 
 pub returns-clause-all_names : goal.returns-clause-all_names
 returns-clause-all_names c = all_names_are_told
