@@ -44,7 +44,8 @@ pub fn compile<'a, L: MakeLeaf, M: MakeRegex, N: BuiltNode<L::Leaf, M::Engine>>(
         (IsPropertyNamesFalse (one_below ctx.old.place (codes "propertyNames"))) }
     ensures unread { IsMember (members_view parent.now.entries)
         (codes "propertyNames", view schema.now)
-        → is_none result ≡ not (is_object (view schema.now) || is_truth false (view schema.now)) }
+        → is_none result
+        ≡ not (is_object (view schema.now) || is_truth false (view schema.now)) }
     ensures unread_at_no_cost { IsMember (members_view parent.now.entries)
         (codes "propertyNames", view schema.now)
         → IfNone result (ctx.new.meter.now ≡ ctx.old.meter.now) }
