@@ -18,7 +18,7 @@ pub use olk_keywords::{
 
 // Building and asking.
 pub use olk_validator::{
-    BuiltNode, Context, DEFERRED_MEMBERS, ErrorSink, Errors, Evaluate, EvaluationContext,
+    BuiltNode, Check, Context, DEFERRED_MEMBERS, ErrorSink, Errors, Evaluate, EvaluationContext,
     HASHMAP_THRESHOLD, IsValid, Located, Makers, Means, Meter, Reports, Show, Stop, Validate,
     ValidationContext, Validator, Walk, are_properties_valid, compile, holds_whole_numbers,
 };
@@ -32,9 +32,9 @@ pub use olk_validator::{
 
 // Leaves, matchers, names and patterns.
 pub use olk_validator::{
-    CompiledPattern, JsonType, KeyHead, Leaf, MakeError, MakeLeaf, MakeRegex, NoRegex, NoRegexes,
-    Node, PatternOptimization, PropertyName, PropertyPattern, RegexEngine, Unfinished,
-    analyze_pattern, compile_pattern, contains_ecma_whitespace,
+    Asked, CompiledPattern, JsonType, KeyHead, Leaf, MakeError, MakeLeaf, MakeRegex, NoRegex,
+    NoRegexes, Node, PatternOptimization, PropertyName, PropertyPattern, RegexEngine, Subject,
+    Unfinished, analyze_pattern, compile_pattern, contains_ecma_whitespace,
 };
 
 // Validators over nodes of the type `SchemaNode`.
@@ -56,10 +56,14 @@ pub use olk_validator::{
 
 // Validators over nodes of any type, and what they hold.
 pub use olk_validator::{
-    AdditionalProperties, AllOf, AnyOf, BigMap, Body, DeclaredMembers, Dependencies,
-    DependentRequired, DependentSchemas, Entry, IfElse, IfThen, IfThenElse, KeywordOver, Not,
-    OneOf, PatternIndex, PatternProperties, PatternTable, Properties, PropertiesValidatorsMap,
-    PropertyDependencies, PropertyNames, RequiredName, SingleAnyOf, SingleOneOf, SingleValueAllOf,
-    SingleValuePatternProperties, SmallMap, SmallPropertiesWithRequired2, SortedEntries,
-    SortedNames, pattern_table, precompute_property_pattern_indices, properties_map,
+    AdditionalProperties, AdditionalPropertiesFalse, AdditionalPropertiesNotEmpty,
+    AdditionalPropertiesNotEmptyFalse, AdditionalPropertiesNotEmptyFalseWithRequired1,
+    AdditionalPropertiesWithPatterns, AdditionalPropertiesWithPatternsFalse,
+    AdditionalPropertiesWithPatternsNotEmpty, AdditionalPropertiesWithPatternsNotEmptyFalse, AllOf,
+    AnyOf, BigMap, Body, DeclaredMembers, Dependencies, DependentRequired, DependentSchemas, Entry,
+    IfElse, IfThen, IfThenElse, KeywordOver, Not, OneOf, PatternIndex, PatternProperties,
+    PatternTable, Properties, PropertiesValidatorsMap, PropertyDependencies, PropertyNames,
+    Restriction, SingleAnyOf, SingleOneOf, SingleValueAllOf, SingleValuePatternProperties,
+    SmallMap, SmallPropertiesWithRequired2, SortedEntries, SortedNames, pattern_table,
+    precompute_property_pattern_indices, properties_map,
 };

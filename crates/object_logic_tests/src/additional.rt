@@ -6,7 +6,7 @@ use object_logic::{BuildError, ValidationContext};
 use olk_base::Meter;
 use olk_bench::{BenchLeaf, BenchLeaves, BenchRegex, BenchRegexes};
 use olk_build::{Context, compile};
-use olk_check::{IsValid, are_properties_valid};
+use olk_check::{Check, are_properties_valid};
 use olk_keywords::properties::compile_small_map;
 use olk_node::SchemaNode;
 use olk_tree::{BuiltNode, PropertiesMap};
@@ -68,7 +68,7 @@ fn declared<N: BuiltNode<BenchLeaf, BenchRegex>>(
     }
 }
 
-fn are_accepted<N: IsValid>(
+fn are_accepted<N: Check>(
     map: &PropertiesMap<N>,
     members: &Map<String, Value>,
     rest: Option<&N>,
@@ -77,7 +77,7 @@ fn are_accepted<N: IsValid>(
 }
 
 /// Whether the members are accepted with a schema for the rest, and without one.
-fn verdicts<N: IsValid>(
+fn verdicts<N: Check>(
     alloc: Global,
     map: &PropertiesMap<N>,
     rest: &N,
@@ -88,7 +88,7 @@ fn verdicts<N: IsValid>(
     format!(in alloc; "{with_rest}, {without}")
 }
 
-fn beside<N: BuiltNode<BenchLeaf, BenchRegex> + IsValid>(
+fn beside<N: BuiltNode<BenchLeaf, BenchRegex> + Check>(
     alloc: Global,
     names: &Map<String, Value>,
     rest: &N,
@@ -104,7 +104,7 @@ fn beside<N: BuiltNode<BenchLeaf, BenchRegex> + IsValid>(
 }
 
 /// The verdicts of `beside`, over values.
-fn zip_names<N: BuiltNode<BenchLeaf, BenchRegex> + IsValid>(
+fn zip_names<N: BuiltNode<BenchLeaf, BenchRegex> + Check>(
     alloc: Global,
     names: &Value,
     rest: &N,
@@ -117,7 +117,7 @@ fn zip_names<N: BuiltNode<BenchLeaf, BenchRegex> + IsValid>(
 }
 
 /// The verdicts of `beside_names`, where the node for the rest is built of this schema.
-fn with_rest<N: BuiltNode<BenchLeaf, BenchRegex> + IsValid>(
+fn with_rest<N: BuiltNode<BenchLeaf, BenchRegex> + Check>(
     alloc: Global,
     names: &Value,
     rest: &Value,

@@ -160,6 +160,7 @@ const PATTERNS_MADE: &str =
     r#"{"patternProperties":{"a":{"type":"null"}}} | 2 places, 1 leaves, 1 engines, 0 asks
 {"patternProperties":{"a":{},"b":true,"^c":{"minLength":1}}} | 4 places, 1 leaves, 2 engines, 0 asks
 {"patternProperties":{"^a":{},"a$":{},"^a$":true,"^(a|b)$":false,"^\\S*$":{}}} | 6 places, 0 leaves, 0 engines, 0 asks
+{"patternProperties":{"^x":{},"spam$":{"type":"integer"}}} | 3 places, 1 leaves, 0 engines, 0 asks
 {"patternProperties":{"a":{"patternProperties":{"a":{}}}}} | 3 places, 0 leaves, 2 engines, 0 asks
 {"allOf":[{"patternProperties":{"a":{}}},{"patternProperties":{"a":{},"(slow)b":{}}},{}]} | 7 places, 0 leaves, 3 engines, 0 asks
 {"patternProperties":{"a":{"type":"null"}},"properties":{"a":{},"b":{}},"required":["a","b"]} | 4 places, 1 leaves, 1 engines, 0 asks
@@ -453,16 +454,6 @@ fn verdict_text(told: Told, told_where_matched: Told) -> &'static str {
     }
 }
 
-/// What is wrong with a verdict where an unfinished match is none, or where it is one: it asks as
-/// often.
-fn wrong_with(told: Told, matched: Told) -> &'static str {
-    if (told.asks, told.unfinished) == (matched.asks, matched.unfinished) {
-        first_of(told.wrong, matched.wrong)
-    } else {
-        ", other counts where an unfinished match is one"
-    }
-}
-
 fn counts_text(
     alloc: Global,
     verdict: &str,
@@ -473,10 +464,31 @@ fn counts_text(
     format!(in alloc; "{verdict} | {asks} asks, {unfinished} unfinished{wrong}")
 }
 
+/// The counts where an unfinished match is none, and where it is one.
+fn both_counts_text(
+    alloc: Global,
+    verdict: &str,
+    told: (u64, u64),
+    matched: (u64, u64),
+    wrong: &str,
+) -> Result<String, AllocError> {
+    let ((asks, unfinished), (others, left)) = (told, matched);
+    format!(in alloc;
+        "{verdict} | {asks} asks, {unfinished} unfinished or {others} asks, {left} unfinished{wrong}"
+    )
+}
+
 /// What a verdict comes to under both answers.
 fn told_text(alloc: Global, told: Told, matched: Told) -> Result<String, AllocError> {
-    let (verdict, wrong) = (verdict_text(told, matched), wrong_with(told, matched));
-    counts_text(alloc, verdict, told.asks, told.unfinished, wrong)
+    let verdict = verdict_text(told, matched);
+    let wrong = first_of(told.wrong, matched.wrong);
+    let counts = (told.asks, told.unfinished);
+    let where_matched = (matched.asks, matched.unfinished);
+    if counts == where_matched {
+        counts_text(alloc, verdict, told.asks, told.unfinished, wrong)
+    } else {
+        both_counts_text(alloc, verdict, counts, where_matched, wrong)
+    }
 }
 
 fn told_in_all_ways<V: Asked>(
@@ -497,7 +509,8 @@ fn told_by_a_verdict<V: Asked>(
     instance: &Value,
 ) -> Result<String, AllocError> {
     let told = told_by_way(Way::IsValid, validator, asked, alloc, instance, false)?;
-    told_text(alloc, told, told)
+    let matched = told_by_way(Way::IsValid, validator, asked, alloc, instance, true)?;
+    told_text(alloc, told, matched)
 }
 
 /// What asking comes to in engines, whatever building asked.
@@ -573,9 +586,14 @@ const ENGINES: &str =
 {"patternProperties":{"(slow)x":true,"(slow)y":{"type":"integer"},"^x":{}}} | {"xy":"t"} | accepted or refused | 2 asks, 2 unfinished
 {"not":{"patternProperties":{"(slow)x":false}}} | {"x":1} | refused or accepted | 1 asks, 1 unfinished
 {"patternProperties":{"(slow)x":false}} | {"a":1} | accepted | 1 asks, 0 unfinished
+{"not":{"patternProperties":{"(slow)x":false}}} | {"a":1} | refused | 1 asks, 0 unfinished
+{"anyOf":[]} | 1 | refused | 0 asks, 0 unfinished
+{"oneOf":[]} | 1 | refused | 0 asks, 0 unfinished
 {"additionalProperties":false,"properties":{"a":{},"b":{}},"patternProperties":{"x":{},"y$":{},"^z":{}}} | {"c":1} | refused | 1 asks, 0 unfinished
 {"additionalProperties":false,"properties":{"a":{},"b":{}},"patternProperties":{"x":{},"y$":{},"^z":{}}} | {"a":1,"b":2,"by":3} | accepted | 1 asks, 0 unfinished
+{"additionalProperties":false,"properties":{"a":{},"bspam":{}},"patternProperties":{"spam$":{}}} | {"a":1,"bspam":2} | accepted | 0 asks, 0 unfinished
 {"additionalProperties":false,"properties":{"a":{},"bspam":{}},"patternProperties":{"spam$":{}}} | {"a":1,"xspam":1} | accepted | 0 asks, 0 unfinished
+{"patternProperties":{"^x":{},"spam$":{"type":"integer"}}} | {"x1":"t"} | accepted | 0 asks, 0 unfinished
 {"additionalProperties":false,"properties":{"a":{},"bspam":{}},"patternProperties":{"spam":{"minimum":2}}} | {"a":1,"bspam":2} | accepted | 0 asks, 0 unfinished
 {"additionalProperties":false,"properties":{"a":{},"bspam":{}},"patternProperties":{"spam":{"minimum":2}}} | {"a":1,"bspam":1} | refused | 0 asks, 0 unfinished
 {"additionalProperties":false,"properties":{"a":{},"bspam":{}},"patternProperties":{"spam":{}}} | {"a":1,"xspam":1} | accepted | 1 asks, 0 unfinished
@@ -621,11 +639,13 @@ fn many_patterns_at_a_declared_name(rt: HostRuntime) -> Result<(), Fail> {
     )
 }
 
-// A branch that accepts spares the others, and what they would ask.
-const SPARED: &str =
-    r#"{"anyOf":[true,{"patternProperties":{"x":{}}}]} | {"x":1} | accepted | 0 asks, 0 unfinished"#;
+// A branch that accepts spares the others, and what they would ask. A verdict ends at the member
+// that is refused, so it asks of two members less where an unfinished match is one.
+const ENDED: &str =
+    r#"{"anyOf":[true,{"patternProperties":{"x":{}}}]} | {"x":1} | accepted | 0 asks, 0 unfinished
+{"patternProperties":{"(slow)x":false}} | {"ax":1,"b":1} | accepted or refused | 2 asks, 1 unfinished or 1 asks, 1 unfinished"#;
 
 #[test]
-fn a_branch_that_is_spared(rt: HostRuntime) -> Result<(), Fail> {
-    expect(&AskedEngines::ByAVerdict, rt.alloc(), Table::Asked(SPARED))
+fn a_verdict_ends_where_it_is_known(rt: HostRuntime) -> Result<(), Fail> {
+    expect(&AskedEngines::ByAVerdict, rt.alloc(), Table::Asked(ENDED))
 }

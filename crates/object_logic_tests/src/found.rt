@@ -87,7 +87,7 @@ fn with_branches(alloc: Global, error: &ValidationError<'_>) -> Result<String, A
 fn push_instance(text: &mut String, error: &ValidationError<'_>) -> Result<(), AllocError> {
     match error.instance() {
         Node::Value(value) => text.write(format_args!(" of {value}")),
-        Node::Name(name) => text.write(format_args!(" of the name {}", name.as_str())),
+        Node::Name(name) => text.write(format_args!(" of the name {}", name)),
     }
 }
 

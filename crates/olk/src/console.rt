@@ -2,9 +2,9 @@
 ghost use Rattle.std.specs.Prelude.{◌≡◌, IfOk, OnOk};
 ghost use Rattle.olk.specs.Statuses.{status_of, code_of, worse};
 
-use crate::visible::Visible;
+use olk_places::Visible;
 use std::alloc::Global;
-use std::fmt::{self, Display, Formatter};
+use std::fmt::Display;
 use std::io::{self, BufWriter, ErrorKind, Printer, Write};
 use std::rt::Clock;
 use std::time::Instant;
@@ -56,32 +56,6 @@ impl Status {
             Status::Invalid => 1,
             Status::Failed => 2,
             Status::Memory => 3,
-        }
-    }
-}
-
-/// The place of a value: a file, and a line of it where each line is a value.
-#[derive(Clone, Copy)]
-pub struct Place<'n> {
-    /// The file's path.
-    pub name: &'n str,
-    /// The line's number, from 1.
-    pub line: Option<u64>,
-}
-
-impl Place<'_> {
-    /// The number of the first line of the value's text.
-    pub fn first_line(&self) -> u64 {
-        self.line.unwrap_or(1)
-    }
-}
-
-impl Display for Place<'_> {
-    fn fmt<W: fmt::Write>(&self, f: &mut Formatter<W>) -> fmt::Result {
-        write!(f, "{}", Visible(self.name))?;
-        match self.line {
-            Some(line) => write!(f, ":{line}"),
-            None => Ok(()),
         }
     }
 }

@@ -1,19 +1,18 @@
 //! Instances, read and answered one after another.
-ghost use Rattle.std.specs.Prelude.{◌≡◌, false};
+ghost use Rattle.std.specs.Prelude.{◌≡◌, ◌∷◌, [], List, Option, length, false, OnOk};
 ghost use Rattle.serde_json.specs.View.{view};
-ghost use Rattle.olk_base.specs.Kit.{kit, world};
+ghost use Rattle.olk_spec.specs.Names.{Text};
 ghost use Rattle.olk_spec.specs.Meaning.{accepts};
-ghost use Rattle.olk.specs.Statuses.{status_of, worse};
+ghost use Rattle.olk_base.specs.Kit.{kit, world};
 ghost use Rattle.olk_validator.specs.Validators.{IsValidatorOf};
+ghost use Rattle.olk.specs.Statuses.{worse, status_of, IsChecked};
 
 use crate::answer::{accepts, asked_errors};
-use crate::console::{Console, Place, Status};
-use crate::json::{errors_text, first_text, placed};
-use crate::lines::error_lines;
-use crate::located::Located;
+use crate::console::{Console, Status};
 use crate::options::{Ask, Format, Options, STANDARD_INPUT};
 use crate::reading::{INPUT_LEN, is_blank, read_file, read_value, shown_name};
 use olk_answers::refusal_text;
+use olk_places::{Located, Place, error_lines, errors_text, first_text, placed};
 use olk_replies::{Question, tell_evaluation};
 use olk_validator::{Leaf, RegexEngine, Validator};
 use serde_json::Value;
@@ -33,7 +32,8 @@ pub struct Checker<'c, K, R> {
     pub validator: &'c Validator<K, R>,
 }
 
-/// Checks each instance. One that can't be read is passed over, and that is said.
+/// Checks each instance. One that can't be read is passed over, and that is said; it counts as
+/// failed.
 ///
 /// # Errors
 ///
@@ -45,17 +45,41 @@ pub fn check_instances<
 >(rt: &T, console: &mut Console<'_, T>, checker: &Checker<'_, K, R>) -> io::Result<()>
     requires stands { IsValidatorOf (kit K.Leaf R.RegexEngine) checker.now.validator.now
         (view checker.now.schema.now) }
+    ensures { OnOk result ((them : List (Option Text))
+        × IsChecked (world K.Leaf R.RegexEngine) (view checker.now.schema.now)
+        console.old.status them console.new.status
+        × (checker.now.options.now.has_lines ≡ false
+        → length them ≡ length checker.now.options.now.instances.items)) }
 {
     let files = checker.options.instances.len();
-    for (checked, path) in checker.options.instances.iter().enumerate() {
+    let mut checked = 0usize;
+    for path in &checker.options.instances {
         console.tell_progress(checked, files)?;
-        if checker.options.has_lines {
-            check_lines(rt, console, checker, path)?;
-        } else {
-            check_file(rt, console, checker, path)?;
-        }
+        check_path(rt, console, checker, path)?;
+        checked = checked.saturating_add(1);
     }
     Ok(())
+}
+
+/// Checks what a path names: a value, or lines of values.
+fn check_path<T: Files + Input + Print + Eprint + AllocGlobal, K: Leaf, R: RegexEngine>(
+    rt: &T,
+    console: &mut Console<'_, T>,
+    checker: &Checker<'_, K, R>,
+    path: &str,
+) -> io::Result<()>
+    requires stands { IsValidatorOf (kit K.Leaf R.RegexEngine) checker.now.validator.now
+        (view checker.now.schema.now) }
+    ensures { OnOk result ((them : List (Option Text))
+        × IsChecked (world K.Leaf R.RegexEngine) (view checker.now.schema.now)
+        console.old.status them console.new.status
+        × (checker.now.options.now.has_lines ≡ false → length them ≡ 1)) }
+{
+    if checker.options.has_lines {
+        check_lines(rt, console, checker, path)
+    } else {
+        check_file(rt, console, checker, path)
+    }
 }
 
 /// Checks the value that a file holds.
@@ -67,6 +91,9 @@ fn check_file<T: Files + Input + Print + Eprint + AllocGlobal, K: Leaf, R: Regex
 ) -> io::Result<()>
     requires stands { IsValidatorOf (kit K.Leaf R.RegexEngine) checker.now.validator.now
         (view checker.now.schema.now) }
+    ensures { OnOk result ((it : Option Text)
+        × IsChecked (world K.Leaf R.RegexEngine) (view checker.now.schema.now)
+        console.old.status (it ∷ []) console.new.status) }
 {
     let name = shown_name(path);
     match read_file(rt, path) {
@@ -84,6 +111,9 @@ fn check_lines<T: Files + Input + Print + Eprint + AllocGlobal, K: Leaf, R: Rege
 ) -> io::Result<()>
     requires stands { IsValidatorOf (kit K.Leaf R.RegexEngine) checker.now.validator.now
         (view checker.now.schema.now) }
+    ensures { OnOk result ((them : List (Option Text))
+        × IsChecked (world K.Leaf R.RegexEngine) (view checker.now.schema.now)
+        console.old.status them console.new.status) }
 {
     let name = shown_name(path);
     if path == STANDARD_INPUT {
@@ -107,6 +137,9 @@ fn check_each_line<T: Print + Eprint + AllocGlobal, K: Leaf, R: RegexEngine, I: 
 ) -> io::Result<()>
     requires stands { IsValidatorOf (kit K.Leaf R.RegexEngine) checker.now.validator.now
         (view checker.now.schema.now) }
+    ensures { OnOk result ((them : List (Option Text))
+        × IsChecked (world K.Leaf R.RegexEngine) (view checker.now.schema.now)
+        console.old.status them console.new.status) }
 {
     let mut text = Vec::new(console.alloc());
     for number in 1..u64::MAX {
@@ -137,6 +170,9 @@ fn check_text<T: Print + Eprint + AllocGlobal, K: Leaf, R: RegexEngine>(
 ) -> io::Result<()>
     requires stands { IsValidatorOf (kit K.Leaf R.RegexEngine) checker.now.validator.now
         (view checker.now.schema.now) }
+    ensures { OnOk result (IsChecked (world K.Leaf R.RegexEngine)
+        (view checker.now.schema.now) console.old.status (Some text.now ∷ [])
+        console.new.status) }
 {
     match read_value(console, place, text)? {
         Some(instance) => check_value(console, checker, Given { place, text }, &instance),
@@ -217,7 +253,9 @@ fn pass_over<T: Print + Eprint + AllocGlobal>(
     options: &Options<'_>,
     name: &str,
     error: io::Error,
-) -> io::Result<()> {
+) -> io::Result<()>
+    ensures { OnOk result (console.new.status ≡ worse console.old.status Status.Failed) }
+{
     console.fail_to_read(name, error)?;
     refuse(
         console,
@@ -233,7 +271,9 @@ fn refuse<T: Print + Eprint + AllocGlobal>(
     options: &Options<'_>,
     place: Place<'_>,
     why: &str,
-) -> io::Result<()> {
+) -> io::Result<()>
+    ensures { console.new.status ≡ console.old.status }
+{
     if options.is_quiet || options.format == Format::Text {
         return Ok(());
     }

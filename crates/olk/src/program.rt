@@ -1,13 +1,18 @@
 //! The program: a schema is read and built, and instances are checked.
+ghost use Rattle.std.specs.Prelude.{◌≡◌, length, IfOk, OnOk, MatchResult};
+ghost use Rattle.serde_json.specs.Data.{Data};
+ghost use Rattle.serde_json.specs.View.{view};
+ghost use Rattle.olk.specs.Statuses.{IsRunBy, IsFailure};
+
 use crate::console::{Console, Status};
 use crate::instances::{Checker, check_instances};
 use crate::options::{Format, Options, read_options};
 use crate::reading::shown_name;
 use crate::schema::{note_draft, read_schema, refuse_malformed, refuse_unsupported};
-use crate::visible::Visible;
 use crate::words::first_no_text;
 use clap::Error;
 use clap::error::ErrorKind;
+use olk_places::Visible;
 use olk_validator::{BuildError, Meter, NoRegexes, Validator};
 use olk_vocabulary::Vocabulary;
 use serde_json::Value;
@@ -27,7 +32,14 @@ pub fn run<T: Env + Files + Input + Print + Eprint + Clock + AllocGlobal>(
     } else {
         None
     };
-    match run_words(rt, start) {
+    ended_status(rt, run_words(rt, start))
+}
+
+/// The status that a run came to, or that of the error that ended it.
+fn ended_status<T: Eprint>(rt: &T, ended: io::Result<Status>) -> Status
+    ensures { MatchResult ended (λ status. result ≡ status) (λ _. IsFailure result) }
+{
+    match ended {
         Ok(status) => status,
         Err(error) => failed_status(rt, &error),
     }
@@ -35,7 +47,9 @@ pub fn run<T: Env + Files + Input + Print + Eprint + Clock + AllocGlobal>(
 
 /// The status of an error that ends a run. It is said where it can be; but that nobody reads what is
 /// written, as behind `| head -1`, needs no word.
-fn failed_status<T: Eprint>(rt: &T, error: &io::Error) -> Status {
+fn failed_status<T: Eprint>(rt: &T, error: &io::Error) -> Status
+    ensures { IsFailure result }
+{
     if error.kind() != io::ErrorKind::BrokenPipe {
         let _ = eprintln!(rt; "olk: {error}");
     }
@@ -90,7 +104,10 @@ fn check_all<T: Files + Input + Print + Eprint + Clock + AllocGlobal>(
     rt: &T,
     options: &Options<'_>,
     start: Option<Instant>,
-) -> io::Result<Status> {
+) -> io::Result<Status>
+    ensures { IfOk result (λ status. (S : Data) × IsRunBy S options.now.has_lines
+        (length options.now.instances.items) status) }
+{
     let mut console = Console::new(rt, start)?;
     let done = check_by_file(rt, &mut console, options);
     let status = console.finish()?;
@@ -102,7 +119,11 @@ fn check_by_file<T: Files + Input + Print + Eprint + Clock + AllocGlobal>(
     rt: &T,
     console: &mut Console<'_, T>,
     options: &Options<'_>,
-) -> io::Result<()> {
+) -> io::Result<()>
+    requires { console.old.status ≡ Status.Valid }
+    ensures { OnOk result ((S : Data) × IsRunBy S options.now.has_lines
+        (length options.now.instances.items) console.new.status) }
+{
     match read_schema(rt, console, options.schema)? {
         Some(schema) => check_by(rt, console, options, &schema),
         None => Ok(()),
@@ -115,7 +136,11 @@ fn check_by<'c, T: Files + Input + Print + Eprint + Clock + AllocGlobal>(
     console: &mut Console<'_, T>,
     options: &'c Options<'_>,
     schema: &'c Value,
-) -> io::Result<()> {
+) -> io::Result<()>
+    requires { console.old.status ≡ Status.Valid }
+    ensures { OnOk result (IsRunBy (view schema.now) options.now.has_lines
+        (length options.now.instances.items) console.new.status) }
+{
     if !options.is_quiet {
         note_draft(console, options.schema, schema)?;
     }
@@ -145,7 +170,9 @@ fn check_by<'c, T: Files + Input + Print + Eprint + Clock + AllocGlobal>(
 fn accept_schema<T: Print + Eprint + AllocGlobal>(
     console: &mut Console<'_, T>,
     options: &Options<'_>,
-) -> io::Result<()> {
+) -> io::Result<()>
+    ensures { console.new.status ≡ console.old.status }
+{
     if options.is_quiet || options.format == Format::Json {
         return Ok(());
     }

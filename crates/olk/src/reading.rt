@@ -1,7 +1,11 @@
 //! The bytes of files, and the values that texts are.
-use crate::console::{Console, Place};
-use crate::nesting::Nesting;
+ghost use Rattle.std.specs.Prelude.{◌≡◌, IfOk, MatchOption};
+ghost use Rattle.serde_json.specs.View.{view};
+ghost use Rattle.olk.specs.Statuses.{worse, IsReadAs, IsUnread};
+
+use crate::console::{Console, Status};
 use crate::options::STANDARD_INPUT;
+use olk_places::{Nesting, Place};
 use serde_json::{Error, Value};
 use std::alloc::{AllocError, Global};
 use std::fs;
@@ -49,7 +53,11 @@ pub fn read_value<T: Print + Eprint + AllocGlobal>(
     console: &mut Console<'_, T>,
     place: Place<'_>,
     text: &[u8],
-) -> io::Result<Option<Value>> {
+) -> io::Result<Option<Value>>
+    ensures { IfOk result (λ found. MatchOption found
+        (IsUnread text.now × (console.new.status ≡ worse console.old.status Status.Failed))
+        (λ v. IsReadAs text.now (view v) × (console.new.status ≡ console.old.status))) }
+{
     match Value::from_slice(console.alloc(), text) {
         Ok(value) => Ok(Some(value)),
         Err(error) => {

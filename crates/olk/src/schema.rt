@@ -1,10 +1,10 @@
 //! The schema: read, and what is said of one that is not used as it stands.
-use crate::console::{Console, Place};
-use crate::limited::{Limited, SHOWN_LEN};
+ghost use Rattle.std.specs.Prelude.{◌≡◌, IfOk, OnOk, MatchOption, if◌then◌else◌};
+ghost use Rattle.olk.specs.Statuses.{worse};
+
+use crate::console::{Console, Status};
 use crate::reading::{read_file, read_value, shown_name};
-use crate::shown::shown_message;
-use crate::unsupported::unsupported_lines;
-use crate::visible::Visible;
+use olk_places::{Limited, Place, SHOWN_LEN, Visible, shown_message, unsupported_lines};
 use olk_validator::ValidationError;
 use serde_json::Value;
 use std::alloc::{AllocError, Global};
@@ -29,7 +29,11 @@ pub fn read_schema<T: Files + Input + Print + Eprint + AllocGlobal>(
     rt: &T,
     console: &mut Console<'_, T>,
     path: &str,
-) -> io::Result<Option<Value>> {
+) -> io::Result<Option<Value>>
+    ensures { IfOk result (λ found. MatchOption found
+        (console.new.status ≡ worse console.old.status Status.Failed)
+        (λ _. console.new.status ≡ console.old.status)) }
+{
     let name = shown_name(path);
     match read_file(rt, path) {
         Ok(text) => read_value(console, Place { name, line: None }, &text),
@@ -49,7 +53,9 @@ pub fn note_draft<T: Print + Eprint + AllocGlobal>(
     console: &mut Console<'_, T>,
     path: &str,
     schema: &Value,
-) -> io::Result<()> {
+) -> io::Result<()>
+    ensures { console.new.status ≡ console.old.status }
+{
     let Some(Value::String(draft)) = schema.get("$schema") else {
         return Ok(());
     };
@@ -86,7 +92,10 @@ pub fn refuse_unsupported<T: Print + Eprint + AllocGlobal>(
     console: &mut Console<'_, T>,
     path: &str,
     schema: &Value,
-) -> io::Result<bool> {
+) -> io::Result<bool>
+    ensures { IfOk result (λ is_refused. console.new.status
+        ≡ (if is_refused then worse console.old.status Status.Failed else console.old.status)) }
+{
     let lines = unsupported_lines(console.alloc(), schema)?;
     if lines.is_empty() {
         return Ok(false);
@@ -108,7 +117,9 @@ pub fn refuse_malformed<T: Print + Eprint + AllocGlobal>(
     console: &mut Console<'_, T>,
     path: &str,
     error: &ValidationError<'_>,
-) -> io::Result<()> {
+) -> io::Result<()>
+    ensures { OnOk result (console.new.status ≡ worse console.old.status Status.Failed) }
+{
     let name = Visible(shown_name(path));
     let place = cut(console.alloc(), error.schema_path(), PATH_LEN)?;
     let most = VALUE_AND_PATH_LEN

@@ -21,6 +21,6 @@ pub use lists::{append, append_all, one};
 pub use meter::Meter;
 pub use names::{KeyHead, PropertyName};
 pub use no_regexes::{NoRegex, NoRegexes};
-pub use node::{JsonType, Node, SAID_ROOM, quoted_text};
+pub use node::{Asked, JsonType, Node, SAID_ROOM, Subject, leaf_accepts, quoted_text};
 pub use pattern::{CompiledPattern, PropertyPattern, compile_pattern};
 pub use traits::{Leaf, MakeError, MakeLeaf, MakeRegex, RegexEngine, Unfinished};

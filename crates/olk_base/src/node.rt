@@ -1,13 +1,15 @@
 //! What a schema is asked about.
 ghost use Rattle.std.specs.Prelude.{◌≡◌, IfOk, option_map, string_bytes};
 ghost use Rattle.std.specs.List.{list_all};
-ghost use Rattle.olk_base.specs.Nodes.{data_of, type_of};
+ghost use Rattle.olk_spec.specs.Names.{is_empty};
+ghost use Rattle.olk_base.specs.Nodes.{data_of, subject_data, type_of};
 ghost use Rattle.olk_base.specs.Plain.{is_plain};
 ghost use Rattle.serde_json.specs.Find.{as_object};
 ghost use Rattle.serde_json.specs.Data.{string};
 ghost use Rattle.serde_json.specs.View.{members_view};
 ghost use Rattle.serde_json.specs.Written.{compact_text};
 
+use crate::traits::Leaf;
 use serde_json::{Map, Value};
 use std::alloc::{AllocError, Global};
 
@@ -35,7 +37,7 @@ pub enum Node<'a> {
     /// A JSON value.
     Value(&'a Value),
     /// The name of a member, as the text that it spells.
-    Name(&'a String),
+    Name(&'a str),
 }
 
 impl<'a> Node<'a> {
@@ -63,6 +65,110 @@ impl<'a> Node<'a> {
             Node::Value(Value::Object(_)) => JsonType::Object,
             Node::Name(_) => JsonType::String,
         }
+    }
+}
+
+/// What is asked about below a public call, in two words: a value, or the name of a member.
+#[derive(Clone, Copy)]
+pub enum Subject<'n, 'a> {
+    /// A JSON value.
+    Value(&'a Value),
+    /// The name of a member, as the text that it spells.
+    Name(&'n &'a str),
+}
+
+impl<'n, 'a> Subject<'n, 'a> {
+    /// What a public call is asked about.
+    #[inline(always)]
+    pub fn of(node: &'n Node<'a>) -> Subject<'n, 'a>
+        ensures { subject_data result ≡ data_of node.now }
+    {
+        match node {
+            Node::Value(value) => Subject::Value(*value),
+            Node::Name(name) => Subject::Name(name),
+        }
+    }
+
+    /// The members, where it is an object; a name is none.
+    pub fn as_object(self) -> Option<&'a Map<String, Value>>
+        ensures { option_map (λ m. members_view m.now.entries) result
+            ≡ as_object (subject_data self.entry) }
+    {
+        match self {
+            Subject::Value(value) => value.as_object(),
+            Subject::Name(_) => None,
+        }
+    }
+
+    /// The same as a node.
+    #[inline(always)]
+    pub fn node(self) -> Node<'a>
+        ensures { data_of result ≡ subject_data self.entry }
+    {
+        match self {
+            Subject::Value(value) => Node::Value(value),
+            Subject::Name(name) => Node::Name(*name),
+        }
+    }
+}
+
+/// Whether the leaf accepts the subject; one choice is made, so that the leaf makes none.
+#[inline(always)]
+pub fn leaf_accepts<K: Leaf>(leaf: &K, subject: Subject<'_, '_>) -> bool
+    ensures { result ≡ is_empty (K.finds leaf.now (subject_data subject.entry)) }
+{
+    match subject {
+        Subject::Value(value) => leaf.is_valid(Node::Value(value)),
+        Subject::Name(name) => leaf.is_valid(Node::Name(*name)),
+    }
+}
+
+/// What a schema can be asked about, as the one that asks knows it: a value, or a name alone.
+pub trait Asked: Copy {
+    ghost use Rattle.std.specs.Prelude.{◌≡◌, option_map};
+    ghost use Rattle.serde_json.specs.Data.{Data};
+    ghost use Rattle.serde_json.specs.Find.{as_object};
+    ghost use Rattle.serde_json.specs.View.{members_view};
+    ghost use Rattle.olk_base.specs.Nodes.{data_of};
+
+    // what is asked about
+    ghost stands_for: { Self → Data };
+
+    /// The members, where it is an object.
+    fn as_object(&self) -> Option<&Map<String, Value>>
+        ensures { option_map (λ m. members_view m.now.entries) result
+            ≡ as_object (stands_for self.now) };
+
+    /// The same as a node.
+    fn node(&self) -> Node<'_>
+        ensures { data_of result ≡ stands_for self.now };
+}
+
+impl<'a> Asked for &'a Value {
+    ghost use Rattle.serde_json.specs.View.{view};
+
+    ghost stands_for = { λ v. view v.now };
+
+    fn as_object(&self) -> Option<&Map<String, Value>> {
+        Value::as_object(*self)
+    }
+
+    fn node(&self) -> Node<'_> {
+        Node::Value(*self)
+    }
+}
+
+impl<'a> Asked for &'a str {
+    ghost use Rattle.serde_json.specs.Data.{string};
+
+    ghost stands_for = { λ s. string s.now };
+
+    fn as_object(&self) -> Option<&Map<String, Value>> {
+        None
+    }
+
+    fn node(&self) -> Node<'_> {
+        Node::Name(*self)
     }
 }
 

@@ -336,7 +336,7 @@ fn leaf(alloc: Global, cells: &str) -> Result<String, Fail> {
         return Ok(leaf_of(alloc, &value, Node::Value(&Value::Null))?);
     }
     let name = String::from_str(alloc, node)?;
-    Ok(leaf_of(alloc, &value, Node::Name(&name))?)
+    Ok(leaf_of(alloc, &value, Node::Name(name.as_str()))?)
 }
 
 // The value of a leaf, a name or null, and what `is_valid`, `validate`, `collect_errors` after a
@@ -362,7 +362,7 @@ fn node(alloc: Global, word: &str) -> Result<String, Fail> {
     let text = match word {
         "object" => node_text(alloc, Node::Value(&Value::Object(Map::new(alloc)))),
         "null" => node_text(alloc, Node::Value(&Value::Null)),
-        _ => node_text(alloc, Node::Name(&String::new(alloc))),
+        _ => node_text(alloc, Node::Name("")),
     };
     Ok(text?)
 }

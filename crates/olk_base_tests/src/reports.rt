@@ -211,7 +211,7 @@ fn text_of_kind(alloc: Global, word: &str, instance: Node<'_>) -> Result<String,
 fn kind(alloc: Global, cells: &str) -> Result<String, Fail> {
     let (word, name) = two(cells);
     let name = String::from_str(alloc, name)?;
-    let text = text_of_kind(alloc, word, Node::Name(&name));
+    let text = text_of_kind(alloc, word, Node::Name(name.as_str()));
     drop(name);
     Ok(text?)
 }
@@ -262,7 +262,7 @@ fn place_of_pattern(alloc: Global, pattern: &str) -> Result<Location, AllocError
 
 fn refused_pattern(alloc: Global, pattern: &String) -> Result<String, AllocError> {
     let place = place_of_pattern(alloc, pattern.as_str())?;
-    let (kind, node) = (ValidationErrorKind::Regex, Node::Name(pattern));
+    let (kind, node) = (ValidationErrorKind::Regex, Node::Name(pattern.as_str()));
     shown_once(
         alloc,
         ValidationError::refusing(kind, node, String::new(alloc), place),
@@ -284,7 +284,7 @@ fn error_of_name<'a>(
     let schema_path = "/anyOf/0/propertyNames/minLength";
     boxed(
         alloc,
-        ValidationError::new(kind, Node::Name(name), path, schema_path),
+        ValidationError::new(kind, Node::Name(name.as_str()), path, schema_path),
     )
 }
 
@@ -329,7 +329,7 @@ fn shown_of_name(
     object: Node<'_>,
 ) -> Result<String, AllocError> {
     let path = PathText::from_str(alloc, "/a")?;
-    let error = ValidationError::wrapping(error_of_name(alloc, name)?, object, path);
+    let error = ValidationError::wrapping_at(error_of_name(alloc, name)?, object, path);
     if word == "name" {
         shown_once(alloc, error)
     } else {
@@ -613,7 +613,7 @@ fn join_at_last(alloc: Global) -> Result<String, AllocError> {
 fn text_at_last(alloc: Global) -> Result<String, AllocError> {
     let kind = ValidationErrorKind::LeafRefused { keyword: "minimum" };
     let name = String::from_str(alloc, "x")?;
-    let error = ValidationError::new(kind, Node::Name(&name), String::new(alloc), "");
+    let error = ValidationError::new(kind, Node::Name(name.as_str()), String::new(alloc), "");
     error.message(alloc).or_else(|_| error.message(alloc))
 }
 

@@ -213,7 +213,7 @@ fn text_of(node: Node<'_>) -> Option<&str>
 {
     match node {
         Node::Value(value) => value.as_str(),
-        Node::Name(name) => Some(name.as_str()),
+        Node::Name(name) => Some(name),
     }
 }
 

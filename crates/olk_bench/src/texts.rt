@@ -69,7 +69,7 @@ pub fn shown_text(alloc: Global, node: Node<'_>) -> Result<String, AllocError>
         } else {
             value.to_string(alloc)
         },
-        Node::Name(name) => quoted_text(alloc, name.as_str()),
+        Node::Name(name) => quoted_text(alloc, name),
     }
 }
 

@@ -9,8 +9,10 @@ use olk_keywords::{
     additional_properties, all_of, any_of, dependencies, if_, not, pattern_properties,
     property_dependencies, property_names,
 };
-use olk_reports::BuildError;
-use olk_tree::additional_properties::AdditionalProperties;
+use olk_reports::{BuildError, Location};
+use olk_tree::additional_properties::{
+    AdditionalPropertiesNotEmptyFalseWithRequired1, Restriction, SidesOf,
+};
 use olk_tree::built_node::BuiltNode;
 use olk_tree::properties_map::PropertiesMap;
 use olk_tree::{KeywordOver, SmallMap};
@@ -52,66 +54,63 @@ fn push_map<N: Shown>(text: &mut String, map: &PropertiesMap<N>) -> Result<(), A
     }
 }
 
-fn push_declared<R, N: Shown>(
+/// The declared names, the patterns, and the node for the rest.
+fn push_sides<R, N: Shown>(
     text: &mut String,
-    keyword: &AdditionalProperties<R, N>,
+    sides: SidesOf<'_, R, N>,
+    place: Option<&Location>,
 ) -> Result<(), AllocError> {
-    match &keyword.properties {
-        Some(properties) => push_map(text, properties),
-        None => Ok(()),
+    if let Some(properties) = sides.properties {
+        push_map(text, properties)?;
     }
-}
-
-/// Where the patterns stand, and each with its node.
-fn push_beside<R, N: Shown>(
-    text: &mut String,
-    keyword: &AdditionalProperties<R, N>,
-) -> Result<(), AllocError> {
-    match &keyword.patterns {
-        Some(patterns) => {
-            push_all(text, &[" at ", keyword.patterns_location.as_str()])?;
-            push_patterns(text, patterns.as_slice())
-        }
+    if let Some(place) = place {
+        push_all(text, &[" at ", place.as_str()])?;
+    }
+    push_patterns(text, sides.patterns)?;
+    match sides.rest {
+        Some(rest) => push_rest(text, rest),
         None => Ok(()),
     }
 }
 
 /// The node for the rest.
-fn push_rest<R, N: Shown>(
-    text: &mut String,
-    keyword: &AdditionalProperties<R, N>,
-) -> Result<(), AllocError> {
-    match &keyword.rest {
-        Some(rest) => {
-            text.push_str(" rest:")?;
-            push_node(text, rest)
-        }
-        None => Ok(()),
-    }
+fn push_rest<N: Shown>(text: &mut String, rest: &N) -> Result<(), AllocError> {
+    text.push_str(" rest:")?;
+    push_node(text, rest)
 }
 
-/// The name that is required, and where.
-fn push_required<R, N>(
+/// The declared names, and the name that is required, with its place.
+fn push_with_required<N: Shown>(
     text: &mut String,
-    keyword: &AdditionalProperties<R, N>,
+    keyword: &AdditionalPropertiesNotEmptyFalseWithRequired1<N>,
 ) -> Result<(), AllocError> {
-    match &keyword.required {
-        Some(required) => {
-            let (name, place) = (required.name.as_str(), required.location.as_str());
-            push_all(text, &[" requires ", name, " at ", place])
-        }
-        None => Ok(()),
-    }
+    push_map(text, &keyword.properties)?;
+    let (name, place) = (
+        keyword.required.as_str(),
+        keyword.required_location.as_str(),
+    );
+    push_all(text, &[" requires ", name, " at ", place])
 }
 
 fn push_restriction<R, N: Shown>(
     text: &mut String,
-    keyword: &AdditionalProperties<R, N>,
+    keyword: &Restriction<R, N>,
 ) -> Result<(), AllocError> {
-    push_declared(text, keyword)?;
-    push_beside(text, keyword)?;
-    push_rest(text, keyword)?;
-    push_required(text, keyword)
+    match keyword {
+        Restriction::Schema(it) => push_rest(text, &it.node),
+        Restriction::False(_) => Ok(()),
+        Restriction::NotEmpty(it) => push_sides(text, it.sides::<R>(), None),
+        Restriction::NotEmptyFalse(it) => push_map(text, &it.properties),
+        Restriction::NotEmptyFalseWithRequired1(it) => push_with_required(text, it),
+        Restriction::WithPatterns(it) => {
+            push_sides(text, it.sides(), Some(&it.pattern_keyword_path))
+        }
+        Restriction::WithPatternsFalse(it) => {
+            push_sides(text, it.sides(), Some(&it.pattern_keyword_path))
+        }
+        Restriction::WithPatternsNotEmpty(it) => push_sides(text, it.sides(), None),
+        Restriction::WithPatternsNotEmptyFalse(it) => push_sides(text, it.sides(), None),
+    }
 }
 
 /// The form of a keyword of branches, or of a condition.
@@ -138,7 +137,7 @@ fn place_of<K, R, N>(keyword: &KeywordOver<K, R, N>) -> &str {
         KeywordOver::PropertyDependencies(keyword) => keyword.location.as_str(),
         KeywordOver::SingleValuePatternProperties(keyword) => keyword.location.as_str(),
         KeywordOver::PatternProperties(keyword) => keyword.location.as_str(),
-        KeywordOver::AdditionalProperties(keyword) => keyword.location.as_str(),
+        KeywordOver::AdditionalProperties(keyword) => keyword.location().as_str(),
         _ => "",
     }
 }
@@ -387,7 +386,7 @@ const RESTRICTIONS: &str =
     r#"additionalProperties | {"additionalProperties":false} | 0 0 0 0 /additionalProperties
 additionalProperties | {"additionalProperties":{"not":true}} | 2 0 0 0 /additionalProperties rest: /additionalProperties
 additionalProperties | {"additionalProperties":false,"properties":{"b":{"text":false},"a/~":true},"required":["b"]} | 2 1 0 0 /additionalProperties a/~: /properties/a~1~0 b: /properties/b requires b at /required
-additionalProperties | {"additionalProperties":{},"patternProperties":{"b":true,"^a":{"text":false}},"properties":{"b":{}},"required":["b"]} | 4 1 1 1 /additionalProperties b: /properties/b at /patternProperties prefix: /patternProperties/^a engine: /patternProperties/b rest: /additionalProperties
+additionalProperties | {"additionalProperties":{},"patternProperties":{"b":true,"^a":{"text":false}},"properties":{"b":{}},"required":["b"]} | 4 1 1 1 /additionalProperties b: /properties/b prefix: /patternProperties/^a engine: /patternProperties/b rest: /additionalProperties
 additionalProperties | {"additionalProperties":false,"patternProperties":{}} | 0 0 0 0 /additionalProperties at /patternProperties
 additionalProperties | {"additionalProperties":true,"patternProperties":{"(":5},"properties":{"a":5}} | 0 0 0 0 none
 additionalProperties | {"additionalProperties":5,"patternProperties":{"b":{}},"properties":{"a":{"text":false}}} | 0 0 0 0 not built"#;

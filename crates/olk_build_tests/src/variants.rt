@@ -6,7 +6,7 @@ use olk_base_tests::doubles::{EqualTo, Equality, NoText, NoTexts};
 use olk_base_tests::tables::expect_rows;
 use olk_build::{Context, compile};
 use olk_reports::BuildError;
-use olk_tree::additional_properties::AdditionalProperties;
+use olk_tree::additional_properties::Restriction;
 use olk_tree::built_node::BuiltNode;
 use olk_tree::properties_map::PropertiesMap;
 use olk_tree::{Body, KeywordOver, SmallMap, SortedEntries};
@@ -23,49 +23,63 @@ fn form_of_map<N>(map: &PropertiesMap<N>) -> &'static str {
     }
 }
 
+/// The variant of `additionalProperties`, without what it holds.
+fn variant_of_restriction<R, N>(keyword: &Restriction<R, N>) -> &'static str {
+    match keyword {
+        Restriction::Schema(_) => " AdditionalProperties",
+        Restriction::False(_) => " AdditionalPropertiesFalse",
+        Restriction::NotEmpty(_) => " AdditionalPropertiesNotEmpty",
+        Restriction::NotEmptyFalse(_) => " AdditionalPropertiesNotEmptyFalse",
+        Restriction::NotEmptyFalseWithRequired1(_) => {
+            " AdditionalPropertiesNotEmptyFalseWithRequired1"
+        }
+        Restriction::WithPatterns(_) => " AdditionalPropertiesWithPatterns",
+        Restriction::WithPatternsFalse(_) => " AdditionalPropertiesWithPatternsFalse",
+        Restriction::WithPatternsNotEmpty(_) => " AdditionalPropertiesWithPatternsNotEmpty",
+        Restriction::WithPatternsNotEmptyFalse(_) => {
+            " AdditionalPropertiesWithPatternsNotEmptyFalse"
+        }
+    }
+}
+
 /// The form of the map of declared names, if `properties` is taken over.
-fn form_of_declared<R, N>(keyword: &AdditionalProperties<R, N>) -> &'static str {
-    match &keyword.properties {
-        Some(properties) => form_of_map(properties),
-        None => "",
+fn form_of_declared<R, N>(keyword: &Restriction<R, N>) -> &'static str {
+    match keyword {
+        Restriction::NotEmpty(it) => form_of_map(&it.properties),
+        Restriction::NotEmptyFalse(it) => form_of_map(&it.properties),
+        Restriction::NotEmptyFalseWithRequired1(it) => form_of_map(&it.properties),
+        Restriction::WithPatternsNotEmpty(it) => form_of_map(&it.properties),
+        Restriction::WithPatternsNotEmptyFalse(it) => form_of_map(&it.properties),
+        _ => "",
     }
 }
 
-/// Whether `patternProperties` is taken over.
-fn form_of_patterns<R, N>(keyword: &AdditionalProperties<R, N>) -> &'static str {
-    match &keyword.patterns {
-        Some(_) => " patterns",
-        None => "",
-    }
-}
-
-/// Whether there is a node for the rest.
-fn form_of_rest<R, N>(keyword: &AdditionalProperties<R, N>) -> &'static str {
-    match &keyword.rest {
-        Some(_) => " rest",
-        None => "",
-    }
-}
-
-/// The name that is required, if `required` is taken over.
-fn push_required<R, N>(
-    text: &mut String,
-    keyword: &AdditionalProperties<R, N>,
-) -> Result<(), AllocError> {
-    match &keyword.required {
-        Some(required) => push_all(text, &[" requires ", required.name.as_str()]),
-        None => Ok(()),
-    }
-}
-
+/// The variant, the form of its map, and the name that it has from `required`.
 fn push_restriction<R, N>(
     text: &mut String,
-    keyword: &AdditionalProperties<R, N>,
+    keyword: &Restriction<R, N>,
 ) -> Result<(), AllocError> {
-    let (declared, patterns) = (form_of_declared(keyword), form_of_patterns(keyword));
-    let rest = form_of_rest(keyword);
-    push_all(text, &[" AdditionalProperties", declared, patterns, rest])?;
-    push_required(text, keyword)
+    push_all(
+        text,
+        &[variant_of_restriction(keyword), form_of_declared(keyword)],
+    )?;
+    match keyword {
+        Restriction::NotEmptyFalseWithRequired1(it) => {
+            push_all(text, &[" requires ", it.required.as_str()])
+        }
+        _ => Ok(()),
+    }
+}
+
+/// The node for the rest.
+fn rest_of<R, N>(keyword: &Restriction<R, N>) -> Option<&N> {
+    match keyword {
+        Restriction::Schema(it) => Some(&it.node),
+        Restriction::NotEmpty(it) => Some(&it.node),
+        Restriction::WithPatterns(it) => Some(&it.node),
+        Restriction::WithPatternsNotEmpty(it) => Some(&it.node),
+        _ => None,
+    }
 }
 
 /// The variant alone.
@@ -188,7 +202,7 @@ fn first_node_of_members<K, R, N>(keyword: &KeywordOver<K, R, N>) -> Option<&N> 
         KeywordOver::PropertyNames(keyword) => Some(&keyword.node),
         KeywordOver::PatternProperties(keyword) => first_matched(keyword.patterns.as_slice()),
         KeywordOver::SingleValuePatternProperties(keyword) => Some(&keyword.node),
-        KeywordOver::AdditionalProperties(keyword) => keyword.rest.as_ref(),
+        KeywordOver::AdditionalProperties(keyword) => rest_of(keyword),
         _ => None,
     }
 }
@@ -323,27 +337,27 @@ const VARIANTS: &str = r#"{"properties":{}} | { Properties small }
 {"patternProperties":{"^a":true},"properties":{"a":true,"b":true,"c":true,"d":true,"e":true,"f":true,"g":true,"h":true,"i":true,"j":true,"k":true,"l":true,"m":true,"n":true,"o":true}} | { SingleValuePatternProperties Properties big }
 {"additionalProperties":true,"patternProperties":{"^a":true},"properties":{"a":true},"required":["a","b"]} | { SingleValuePatternProperties Properties small Required }
 {"additionalProperties":true} | { }
-{"additionalProperties":false} | { AdditionalProperties }
-{"additionalProperties":{}} | { AdditionalProperties rest { } }
-{"additionalProperties":false,"properties":{}} | { AdditionalProperties small }
-{"additionalProperties":false,"properties":{"a":true,"b":true,"c":true,"d":true,"e":true,"f":true,"g":true,"h":true,"i":true,"j":true,"k":true,"l":true,"m":true,"n":true}} | { AdditionalProperties small }
-{"additionalProperties":false,"properties":{"a":true,"b":true,"c":true,"d":true,"e":true,"f":true,"g":true,"h":true,"i":true,"j":true,"k":true,"l":true,"m":true,"n":true,"o":true}} | { AdditionalProperties big }
-{"additionalProperties":{"text":false},"properties":{"a":true,"b":true,"c":true,"d":true,"e":true,"f":true,"g":true,"h":true,"i":true,"j":true,"k":true,"l":true,"m":true,"n":true}} | { AdditionalProperties small rest { Leaf } }
-{"additionalProperties":{"text":false},"properties":{"a":true,"b":true,"c":true,"d":true,"e":true,"f":true,"g":true,"h":true,"i":true,"j":true,"k":true,"l":true,"m":true,"n":true,"o":true}} | { AdditionalProperties big rest { Leaf } }
-{"additionalProperties":false,"patternProperties":{}} | { AdditionalProperties patterns }
-{"additionalProperties":false,"patternProperties":{"^a":true},"properties":{"a":true,"b":true,"c":true,"d":true,"e":true,"f":true,"g":true,"h":true,"i":true,"j":true,"k":true,"l":true,"m":true,"n":true}} | { AdditionalProperties small patterns }
-{"additionalProperties":false,"patternProperties":{"^a":true},"properties":{"a":true,"b":true,"c":true,"d":true,"e":true,"f":true,"g":true,"h":true,"i":true,"j":true,"k":true,"l":true,"m":true,"n":true,"o":true}} | { AdditionalProperties big patterns }
-{"additionalProperties":{"not":true},"patternProperties":{"^a":true,"b":true},"properties":{"a":true}} | { AdditionalProperties small patterns rest { Not } }
-{"additionalProperties":false,"properties":{"a":true,"b":true,"c":true,"d":true,"e":true,"f":true,"g":true,"h":true,"i":true,"j":true,"k":true,"l":true,"m":true,"n":true},"required":["a"]} | { AdditionalProperties small requires a }
-{"additionalProperties":false,"properties":{"a":true,"b":true,"c":true,"d":true,"e":true,"f":true,"g":true,"h":true,"i":true,"j":true,"k":true,"l":true,"m":true,"n":true,"o":true},"required":["z"]} | { AdditionalProperties big requires z }
-{"additionalProperties":false,"properties":{"a":true},"required":[]} | { AdditionalProperties small Required }
-{"additionalProperties":false,"properties":{"a":true},"required":["a","a"]} | { AdditionalProperties small Required }
-{"additionalProperties":false,"properties":{"a":true},"required":["a","b"]} | { AdditionalProperties small Required }
-{"additionalProperties":false,"required":["a"]} | { AdditionalProperties Required }
-{"additionalProperties":false,"patternProperties":{"^a":true},"properties":{"a":true},"required":["a"]} | { AdditionalProperties small patterns Required }
-{"additionalProperties":false,"patternProperties":{},"properties":{"a":true},"required":["a"]} | { AdditionalProperties small patterns Required }
-{"additionalProperties":{},"properties":{"a":true},"required":["a"]} | { AdditionalProperties small rest { } Required }
-{"additionalProperties":{},"properties":{"a":true},"required":["a","b"]} | { AdditionalProperties small rest { } Required }
+{"additionalProperties":false} | { AdditionalPropertiesFalse }
+{"additionalProperties":{}} | { AdditionalProperties { } }
+{"additionalProperties":false,"properties":{}} | { AdditionalPropertiesNotEmptyFalse small }
+{"additionalProperties":false,"properties":{"a":true,"b":true,"c":true,"d":true,"e":true,"f":true,"g":true,"h":true,"i":true,"j":true,"k":true,"l":true,"m":true,"n":true}} | { AdditionalPropertiesNotEmptyFalse small }
+{"additionalProperties":false,"properties":{"a":true,"b":true,"c":true,"d":true,"e":true,"f":true,"g":true,"h":true,"i":true,"j":true,"k":true,"l":true,"m":true,"n":true,"o":true}} | { AdditionalPropertiesNotEmptyFalse big }
+{"additionalProperties":{"text":false},"properties":{"a":true,"b":true,"c":true,"d":true,"e":true,"f":true,"g":true,"h":true,"i":true,"j":true,"k":true,"l":true,"m":true,"n":true}} | { AdditionalPropertiesNotEmpty small { Leaf } }
+{"additionalProperties":{"text":false},"properties":{"a":true,"b":true,"c":true,"d":true,"e":true,"f":true,"g":true,"h":true,"i":true,"j":true,"k":true,"l":true,"m":true,"n":true,"o":true}} | { AdditionalPropertiesNotEmpty big { Leaf } }
+{"additionalProperties":false,"patternProperties":{}} | { AdditionalPropertiesWithPatternsFalse }
+{"additionalProperties":false,"patternProperties":{"^a":true},"properties":{"a":true,"b":true,"c":true,"d":true,"e":true,"f":true,"g":true,"h":true,"i":true,"j":true,"k":true,"l":true,"m":true,"n":true}} | { AdditionalPropertiesWithPatternsNotEmptyFalse small }
+{"additionalProperties":false,"patternProperties":{"^a":true},"properties":{"a":true,"b":true,"c":true,"d":true,"e":true,"f":true,"g":true,"h":true,"i":true,"j":true,"k":true,"l":true,"m":true,"n":true,"o":true}} | { AdditionalPropertiesWithPatternsNotEmptyFalse big }
+{"additionalProperties":{"not":true},"patternProperties":{"^a":true,"b":true},"properties":{"a":true}} | { AdditionalPropertiesWithPatternsNotEmpty small { Not } }
+{"additionalProperties":false,"properties":{"a":true,"b":true,"c":true,"d":true,"e":true,"f":true,"g":true,"h":true,"i":true,"j":true,"k":true,"l":true,"m":true,"n":true},"required":["a"]} | { AdditionalPropertiesNotEmptyFalseWithRequired1 small requires a }
+{"additionalProperties":false,"properties":{"a":true,"b":true,"c":true,"d":true,"e":true,"f":true,"g":true,"h":true,"i":true,"j":true,"k":true,"l":true,"m":true,"n":true,"o":true},"required":["z"]} | { AdditionalPropertiesNotEmptyFalseWithRequired1 big requires z }
+{"additionalProperties":false,"properties":{"a":true},"required":[]} | { AdditionalPropertiesNotEmptyFalse small Required }
+{"additionalProperties":false,"properties":{"a":true},"required":["a","a"]} | { AdditionalPropertiesNotEmptyFalse small Required }
+{"additionalProperties":false,"properties":{"a":true},"required":["a","b"]} | { AdditionalPropertiesNotEmptyFalse small Required }
+{"additionalProperties":false,"required":["a"]} | { AdditionalPropertiesFalse Required }
+{"additionalProperties":false,"patternProperties":{"^a":true},"properties":{"a":true},"required":["a"]} | { AdditionalPropertiesWithPatternsNotEmptyFalse small Required }
+{"additionalProperties":false,"patternProperties":{},"properties":{"a":true},"required":["a"]} | { AdditionalPropertiesWithPatternsNotEmptyFalse small Required }
+{"additionalProperties":{},"properties":{"a":true},"required":["a"]} | { AdditionalPropertiesNotEmpty small { } Required }
+{"additionalProperties":{},"properties":{"a":true},"required":["a","b"]} | { AdditionalPropertiesNotEmpty small { } Required }
 {"allOf":[],"anyOf":[],"oneOf":[]} | { AllOf AnyOf OneOf }
 {"allOf":[true],"anyOf":[true],"oneOf":[true]} | { SingleValueAllOf SingleAnyOf SingleOneOf }
 {"allOf":[true,false],"anyOf":[true,false],"oneOf":[true,false]} | { AllOf AnyOf OneOf }
@@ -364,14 +378,14 @@ const VARIANTS: &str = r#"{"properties":{}} | { Properties small }
 {} | { }
 {"other":{"not":true}} | { }
 {"allOf":[true],"anyOf":[],"dependencies":{},"dependentRequired":{},"dependentSchemas":{},"else":true,"if":true,"not":true,"oneOf":[true],"patternProperties":{"a":true},"properties":{},"propertyDependencies":{},"propertyNames":false,"required":["a","b"],"text":false,"then":true} | { SingleValueAllOf AnyOf Dependencies Dependencies Dependencies IfThenElse Not SingleOneOf SingleValuePatternProperties Properties small PropertyDependencies PropertyNamesFalse Required Leaf }
-{"additionalProperties":false,"allOf":[],"anyOf":[true],"not":true,"oneOf":[],"properties":{"a":true},"propertyNames":{},"required":["a"],"text":false} | { AdditionalProperties small requires a AllOf SingleAnyOf Not OneOf PropertyNames { } Leaf }
+{"additionalProperties":false,"allOf":[],"anyOf":[true],"not":true,"oneOf":[],"properties":{"a":true},"propertyNames":{},"required":["a"],"text":false} | { AdditionalPropertiesNotEmptyFalseWithRequired1 small requires a AllOf SingleAnyOf Not OneOf PropertyNames { } Leaf }
 {"not":true,"properties":{},"propertyNames":false,"required":["a","b"],"text":false} | { Not PropertiesWithRequired2 a b PropertyNamesFalse Leaf }
 {"not":{"properties":{"a":true,"b":true,"c":true,"d":true,"e":true,"f":true,"g":true,"h":true,"i":true,"j":true,"k":true,"l":true,"m":true,"n":true}}} | { Not { Properties small } }
 {"not":{"properties":{"a":true,"b":true,"c":true,"d":true,"e":true,"f":true,"g":true,"h":true,"i":true,"j":true,"k":true,"l":true,"m":true,"n":true,"o":true}}} | { Not { Properties big } }
 {"allOf":[{"properties":{"a":true,"b":true,"c":true,"d":true,"e":true,"f":true,"g":true,"h":true,"i":true,"j":true,"k":true,"l":true,"m":true,"n":true},"required":["a","b"]}]} | { SingleValueAllOf { PropertiesWithRequired2 a b } }
 {"allOf":[{"properties":{"a":true,"b":true,"c":true,"d":true,"e":true,"f":true,"g":true,"h":true,"i":true,"j":true,"k":true,"l":true,"m":true,"n":true,"o":true},"required":["a","b"]}]} | { SingleValueAllOf { Properties big Required } }
-{"allOf":[{"additionalProperties":false,"properties":{"a":true,"b":true,"c":true,"d":true,"e":true,"f":true,"g":true,"h":true,"i":true,"j":true,"k":true,"l":true,"m":true,"n":true}},true]} | { AllOf { AdditionalProperties small } }
-{"allOf":[{"additionalProperties":false,"properties":{"a":true,"b":true,"c":true,"d":true,"e":true,"f":true,"g":true,"h":true,"i":true,"j":true,"k":true,"l":true,"m":true,"n":true,"o":true}},true]} | { AllOf { AdditionalProperties big } }
+{"allOf":[{"additionalProperties":false,"properties":{"a":true,"b":true,"c":true,"d":true,"e":true,"f":true,"g":true,"h":true,"i":true,"j":true,"k":true,"l":true,"m":true,"n":true}},true]} | { AllOf { AdditionalPropertiesNotEmptyFalse small } }
+{"allOf":[{"additionalProperties":false,"properties":{"a":true,"b":true,"c":true,"d":true,"e":true,"f":true,"g":true,"h":true,"i":true,"j":true,"k":true,"l":true,"m":true,"n":true,"o":true}},true]} | { AllOf { AdditionalPropertiesNotEmptyFalse big } }
 {"anyOf":[{"allOf":[],"anyOf":[true],"oneOf":[true,true]}]} | { SingleAnyOf { AllOf SingleAnyOf OneOf } }
 {"anyOf":[{"allOf":[true],"anyOf":[true,true],"oneOf":[]},true]} | { AnyOf { SingleValueAllOf AnyOf OneOf } }
 {"oneOf":[{"allOf":[true,true],"anyOf":[],"oneOf":[true]}]} | { SingleOneOf { AllOf AnyOf SingleOneOf } }
@@ -384,7 +398,7 @@ const VARIANTS: &str = r#"{"properties":{}} | { Properties small }
 {"properties":{"a":{"dependencies":{"a":[]}}},"required":["a","b"]} | { PropertiesWithRequired2 a b { Dependencies } }
 {"patternProperties":{"a":{"dependentSchemas":{}}}} | { SingleValuePatternProperties { Dependencies } }
 {"patternProperties":{"a":{"text":false},"b":true}} | { PatternProperties { Leaf } }
-{"additionalProperties":{"additionalProperties":false,"properties":{"a":true},"required":["a"]}} | { AdditionalProperties rest { AdditionalProperties small requires a } }
+{"additionalProperties":{"additionalProperties":false,"properties":{"a":true},"required":["a"]}} | { AdditionalProperties { AdditionalPropertiesNotEmptyFalseWithRequired1 small requires a } }
 {"propertyNames":{"propertyNames":{}}} | { PropertyNames { PropertyNames } }
 {"dependentSchemas":{"a":{"propertyDependencies":{}}}} | { Dependencies { PropertyDependencies } }
 {"propertyDependencies":{"a":{"b":{"not":true}}}} | { PropertyDependencies { Not } }"#;

@@ -1,5 +1,6 @@
 pub mod Asked
 pub mod Walks
+pub mod Beside
 pub mod Counting
 pub mod Missing
 pub mod Present

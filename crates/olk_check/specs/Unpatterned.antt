@@ -1,14 +1,14 @@
 -- Members that declared names and the rest speak of, and no patterns.
-use Rattle.std.specs.Prelude.{ℕ, true, List, [], Option, Some, None}
+use Rattle.std.specs.Prelude.{⊤, ℕ, true, false, List, [], Option, Some, None}
 use denote.Ref.{Bor}
 use Rattle.serde_json.specs.Data.{Data}
 use Rattle.serde_json.specs.View.{view}
 use Rattle.serde_json.specs.declared.value.Value.{Value}
 use Rattle.olk_spec.specs.Names.{Name, lookup_name}
-use Rattle.olk_spec.specs.World.{Says}
+use Rattle.olk_spec.specs.World.{Says, unmatched}
 use Rattle.olk_spec.specs.Schemas.{members}
 use Rattle.olk_tree.specs.Questions.{Question, always, every}
-use Rattle.olk_tree.specs.Additional.{Sides, rest_means, mapped_places}
+use Rattle.olk_tree.specs.Additional.{Sides, additional_means, known_by, rest_means, mapped_places}
 use Rattle.olk_tree.specs.declared.properties_map.PropertiesMap.{PropertiesMap}
 
 -- these declared names, no patterns, and this for the rest
@@ -36,3 +36,10 @@ module _ {N : Type 0} (m : N → Data → Question) where
   abbrev pub held_means : Option (Bor N × Bor Value) → Question
   held_means None = always true
   held_means (Some h) = m h.0.now (view h.1.now)
+
+  -- the meaning of the validators without patterns
+  abbrev pub declared_mean : PropertiesMap N → Option N → Data → Question
+  declared_mean p rest v = additional_means {R = ⊤} (λ r n. unmatched) (λ r. false) m (unpatterned p rest (known_by None)) v
+
+  abbrev pub alone_mean : N → Data → Question
+  alone_mean n v = additional_means {R = ⊤} (λ r n. unmatched) (λ r. false) m (alone n (known_by None)) v

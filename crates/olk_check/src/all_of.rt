@@ -1,19 +1,19 @@
 //! `allOf`: its verdict.
-use crate::IsValid;
+use crate::Check;
 use crate::walk::all_accept;
-use olk_base::{Node, ValidationContext};
+use olk_base::{Asked, ValidationContext};
 use olk_tree::all_of::{AllOf, SingleValueAllOf};
 
-impl<N: IsValid> IsValid for AllOf<N> {
+impl<N: Check> Check for AllOf<N> {
     #[inline(never)]
-    fn is_valid(&self, node: Node<'_>, ctx: &mut ValidationContext) -> bool {
-        all_accept(&self.schemas, node, ctx)
+    fn check<A: Asked>(&self, asked: A, ctx: &mut ValidationContext) -> bool {
+        all_accept(&self.schemas, asked, ctx)
     }
 }
 
-impl<N: IsValid> IsValid for SingleValueAllOf<N> {
+impl<N: Check> Check for SingleValueAllOf<N> {
     #[inline(never)]
-    fn is_valid(&self, node: Node<'_>, ctx: &mut ValidationContext) -> bool {
-        self.node.is_valid(node, ctx)
+    fn check<A: Asked>(&self, asked: A, ctx: &mut ValidationContext) -> bool {
+        self.node.check(asked, ctx)
     }
 }

@@ -1,19 +1,19 @@
 //! `anyOf`: its verdict.
-use crate::IsValid;
+use crate::Check;
 use crate::walk::any_accepts;
-use olk_base::{Node, ValidationContext};
+use olk_base::{Asked, ValidationContext};
 use olk_tree::any_of::{AnyOf, SingleAnyOf};
 
-impl<N: IsValid> IsValid for AnyOf<N> {
+impl<N: Check> Check for AnyOf<N> {
     #[inline(never)]
-    fn is_valid(&self, node: Node<'_>, ctx: &mut ValidationContext) -> bool {
-        any_accepts(&self.schemas, node, ctx)
+    fn check<A: Asked>(&self, asked: A, ctx: &mut ValidationContext) -> bool {
+        any_accepts(&self.schemas, asked, ctx)
     }
 }
 
-impl<N: IsValid> IsValid for SingleAnyOf<N> {
+impl<N: Check> Check for SingleAnyOf<N> {
     #[inline(never)]
-    fn is_valid(&self, node: Node<'_>, ctx: &mut ValidationContext) -> bool {
-        self.node.is_valid(node, ctx)
+    fn check<A: Asked>(&self, asked: A, ctx: &mut ValidationContext) -> bool {
+        self.node.check(asked, ctx)
     }
 }

@@ -1,42 +1,41 @@
 //! `dependentRequired`, `dependentSchemas` and `dependencies`: their verdicts.
 ghost use Rattle.std.specs.Prelude.{◌≡◌};
-ghost use Rattle.olk_base.specs.Nodes.{data_of};
 ghost use Rattle.olk_tree.specs.Questions.{every};
 ghost use Rattle.olk_tree.specs.Maps.{named};
 ghost use Rattle.olk_tree.specs.Dependencies.{due_nodes};
 ghost use Rattle.olk_tree.specs.Visited.{object_of};
 ghost use Rattle.olk_check.specs.Asks.{Asks};
 
-use crate::IsValid;
-use olk_base::{Node, ValidationContext};
+use crate::Check;
+use olk_base::{Asked, ValidationContext};
 use olk_tree::dependencies::Dependencies;
 use olk_tree::map::SmallMap;
 use olk_tree::validators_map::PropertiesValidatorsMap;
 use serde_json::{Map, Value};
 
-impl<N: IsValid> IsValid for Dependencies<N> {
+impl<N: Check> Check for Dependencies<N> {
     #[inline(never)]
-    fn is_valid(&self, node: Node<'_>, ctx: &mut ValidationContext) -> bool {
-        match node.as_object() {
-            Some(members) => due_accept(&self.dependencies, members, node, ctx),
+    fn check<A: Asked>(&self, asked: A, ctx: &mut ValidationContext) -> bool {
+        match asked.as_object() {
+            Some(members) => due_accept(&self.dependencies, members, asked, ctx),
             None => true,
         }
     }
 }
 
 /// Whether the node of each key that is a member accepts the object.
-fn due_accept<N: IsValid>(
+fn due_accept<A: Asked, N: Check>(
     dependencies: &SmallMap<N>,
     members: &Map<String, Value>,
-    object: Node<'_>,
+    asked: A,
     ctx: &mut ValidationContext,
 ) -> bool
-    requires { data_of object ≡ object_of members.now.entries }
-    ensures { Asks ctx.old ctx.new (every (λ n. N.means n (data_of object.entry))
-        (due_nodes (named dependencies.now) (data_of object.entry))) result }
+    requires { A.stands_for asked ≡ object_of members.now.entries }
+    ensures { Asks ctx.old ctx.new (every (λ n. N.means n (A.stands_for asked))
+        (due_nodes (named dependencies.now) (A.stands_for asked))) result }
 {
     for (_, dependency, _) in dependencies.declared_members(members) {
-        if !dependency.is_valid(object, ctx) {
+        if !dependency.check(asked, ctx) {
             return false;
         }
     }

@@ -1,32 +1,32 @@
 //! `if`, `then` and `else`: their verdicts.
-use crate::IsValid;
-use olk_base::{Node, ValidationContext};
+use crate::Check;
+use olk_base::{Asked, ValidationContext};
 use olk_tree::if_::{IfElse, IfThen, IfThenElse};
 
-impl<N: IsValid> IsValid for IfThen<N> {
+impl<N: Check> Check for IfThen<N> {
     #[inline(never)]
     #[tactic(auto, using(crate::proofs::Walks::conditional_answers))]
-    fn is_valid(&self, node: Node<'_>, ctx: &mut ValidationContext) -> bool {
-        !self.schema.is_valid(node, ctx) || self.then_schema.is_valid(node, ctx)
+    fn check<A: Asked>(&self, asked: A, ctx: &mut ValidationContext) -> bool {
+        !self.schema.check(asked, ctx) || self.then_schema.check(asked, ctx)
     }
 }
 
-impl<N: IsValid> IsValid for IfElse<N> {
+impl<N: Check> Check for IfElse<N> {
     #[inline(never)]
     #[tactic(auto, using(crate::proofs::Walks::conditional_answers))]
-    fn is_valid(&self, node: Node<'_>, ctx: &mut ValidationContext) -> bool {
-        self.schema.is_valid(node, ctx) || self.else_schema.is_valid(node, ctx)
+    fn check<A: Asked>(&self, asked: A, ctx: &mut ValidationContext) -> bool {
+        self.schema.check(asked, ctx) || self.else_schema.check(asked, ctx)
     }
 }
 
-impl<N: IsValid> IsValid for IfThenElse<N> {
+impl<N: Check> Check for IfThenElse<N> {
     #[inline(never)]
     #[tactic(auto, using(crate::proofs::Walks::conditional_answers))]
-    fn is_valid(&self, node: Node<'_>, ctx: &mut ValidationContext) -> bool {
-        if self.schema.is_valid(node, ctx) {
-            self.then_schema.is_valid(node, ctx)
+    fn check<A: Asked>(&self, asked: A, ctx: &mut ValidationContext) -> bool {
+        if self.schema.check(asked, ctx) {
+            self.then_schema.check(asked, ctx)
         } else {
-            self.else_schema.is_valid(node, ctx)
+            self.else_schema.check(asked, ctx)
         }
     }
 }

@@ -3,10 +3,15 @@
 //! Stands on `olk_tree`. Tested by `object_logic_tests`.
 #![tactic(auto)]
 
-use olk_base::{Node, ValidationContext};
+ghost use Rattle.olk_base.specs.Nodes.{subject_data};
+ghost use Rattle.olk_check.specs.Asks.{Asks};
+
+use olk_base::{Asked, Node, Subject, ValidationContext};
 use olk_tree::Means;
 
 /// What can be asked whether it accepts a value.
+///
+/// All that is `Check` has it by one implementation: implement `Check`.
 pub trait IsValid: Means {
     ghost use Rattle.olk_base.specs.Nodes.{data_of};
     ghost use Rattle.olk_check.specs.Asks.{Asks};
@@ -18,6 +23,38 @@ pub trait IsValid: Means {
     /// were asked and of matches that were left unfinished rise.
     fn is_valid(&self, node: Node<'_>, ctx: &mut ValidationContext) -> bool
         ensures { Asks ctx.old ctx.new (Self.means self.now (data_of node.entry)) result };
+}
+
+/// What checks a value, or a name alone: the verdict of `IsValid`, compiled once for each.
+///
+/// Each validator implements it, and so do keywords, bodies and nodes.
+pub trait Check: Means {
+    ghost use Rattle.olk_check.specs.Asks.{Asks};
+
+    /// Whether what is asked about is accepted.
+    fn check<A: Asked>(&self, asked: A, ctx: &mut ValidationContext) -> bool
+        ensures { Asks ctx.old ctx.new (Self.means self.now (A.stands_for asked)) result };
+}
+
+impl<C: Check> IsValid for C {
+    #[inline(always)]
+    fn is_valid(&self, node: Node<'_>, ctx: &mut ValidationContext) -> bool {
+        match node {
+            Node::Value(value) => self.check(value, ctx),
+            Node::Name(name) => self.check(name, ctx),
+        }
+    }
+}
+
+/// Whether the subject is accepted; one choice is made, and none below it.
+#[inline(always)]
+pub fn accepts<N: Check>(schema: &N, subject: Subject<'_, '_>, ctx: &mut ValidationContext) -> bool
+    ensures { Asks ctx.old ctx.new (N.means schema.now (subject_data subject.entry)) result }
+{
+    match subject {
+        Subject::Value(value) => schema.check(value, ctx),
+        Subject::Name(name) => schema.check(*name, ctx),
+    }
 }
 
 mod accepted;

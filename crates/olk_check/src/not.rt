@@ -1,12 +1,12 @@
 //! `not`: its verdict.
-use crate::IsValid;
-use olk_base::{Node, ValidationContext};
+use crate::Check;
+use olk_base::{Asked, ValidationContext};
 use olk_tree::not::Not;
 
-impl<N: IsValid> IsValid for Not<N> {
+impl<N: Check> Check for Not<N> {
     #[inline(never)]
     #[tactic(auto, using(crate::proofs::Walks::opposite_answers))]
-    fn is_valid(&self, node: Node<'_>, ctx: &mut ValidationContext) -> bool {
-        !self.node.is_valid(node, ctx)
+    fn check<A: Asked>(&self, asked: A, ctx: &mut ValidationContext) -> bool {
+        !self.node.check(asked, ctx)
     }
 }

@@ -1,11 +1,10 @@
 //! `oneOf`: its verdict.
-ghost use Rattle.olk_base.specs.Nodes.{data_of};
 ghost use Rattle.olk_tree.specs.Questions.{how_many, exactly_one};
 ghost use Rattle.olk_check.specs.Asks.{Asks};
 ghost use Rattle.olk_check.specs.Accepting.{IsHowMany, is_one};
 
-use crate::IsValid;
-use olk_base::{Node, ValidationContext};
+use crate::Check;
+use olk_base::{Asked, ValidationContext};
 use olk_tree::one_of::{OneOf, SingleOneOf};
 
 /// How many of some subschemas accept a value.
@@ -23,19 +22,19 @@ pub enum Accepting {
 ///
 /// Takes no memory. The context keeps its answer; of the counts only those of matchers that were
 /// asked and of matches that were left unfinished rise.
-pub fn how_many_accept<N: IsValid>(
+pub fn how_many_accept<A: Asked, N: Check>(
     schemas: &Vec<N>,
-    node: Node<'_>,
+    asked: A,
     ctx: &mut ValidationContext,
 ) -> Accepting
     ensures asks { Asks ctx.old ctx.new
-        (exactly_one (λ n. N.means n (data_of node.entry)) schemas.now.items) (is_one result) }
+        (exactly_one (λ n. N.means n (A.stands_for asked)) schemas.now.items) (is_one result) }
     ensures count { IsHowMany result
-        (how_many (λ n. N.means n (data_of node.entry)) ctx.old.answer schemas.now.items) }
+        (how_many (λ n. N.means n (A.stands_for asked)) ctx.old.answer schemas.now.items) }
 {
     let mut found = false;
     for schema in schemas {
-        if schema.is_valid(node, ctx) {
+        if schema.check(asked, ctx) {
             if found {
                 return Accepting::Several;
             }
@@ -49,10 +48,10 @@ pub fn how_many_accept<N: IsValid>(
     }
 }
 
-impl<N: IsValid> IsValid for OneOf<N> {
+impl<N: Check> Check for OneOf<N> {
     #[inline(never)]
-    fn is_valid(&self, node: Node<'_>, ctx: &mut ValidationContext) -> bool {
-        match how_many_accept(&self.schemas, node, ctx) {
+    fn check<A: Asked>(&self, asked: A, ctx: &mut ValidationContext) -> bool {
+        match how_many_accept(&self.schemas, asked, ctx) {
             Accepting::Zero => false,
             Accepting::One => true,
             Accepting::Several => false,
@@ -60,9 +59,9 @@ impl<N: IsValid> IsValid for OneOf<N> {
     }
 }
 
-impl<N: IsValid> IsValid for SingleOneOf<N> {
+impl<N: Check> Check for SingleOneOf<N> {
     #[inline(never)]
-    fn is_valid(&self, node: Node<'_>, ctx: &mut ValidationContext) -> bool {
-        self.node.is_valid(node, ctx)
+    fn check<A: Asked>(&self, asked: A, ctx: &mut ValidationContext) -> bool {
+        self.node.check(asked, ctx)
     }
 }

@@ -9,26 +9,26 @@ ghost use Rattle.olk_tree.specs.PatternProperties.{matched_mean, patterns_mean};
 ghost use Rattle.olk_tree.specs.Visited.{object_of};
 ghost use Rattle.olk_check.specs.Asks.{Asks};
 
-use crate::IsValid;
-use olk_base::{CompiledPattern, Node, PropertyPattern, RegexEngine, ValidationContext};
+use crate::Check;
+use olk_base::{Asked, CompiledPattern, PropertyPattern, RegexEngine, ValidationContext};
 use olk_meaning::{law_of_names, member};
 use olk_tree::pattern_properties::{PatternProperties, SingleValuePatternProperties};
 use serde_json::{Map, Value};
 
-impl<R: RegexEngine, N: IsValid> IsValid for PatternProperties<R, N> {
+impl<R: RegexEngine, N: Check> Check for PatternProperties<R, N> {
     #[inline(never)]
-    fn is_valid(&self, node: Node<'_>, ctx: &mut ValidationContext) -> bool {
-        match node.as_object() {
+    fn check<A: Asked>(&self, asked: A, ctx: &mut ValidationContext) -> bool {
+        match asked.as_object() {
             Some(members) => patterns_accept(&self.patterns, members, ctx),
             None => true,
         }
     }
 }
 
-impl<R: RegexEngine, N: IsValid> IsValid for SingleValuePatternProperties<R, N> {
+impl<R: RegexEngine, N: Check> Check for SingleValuePatternProperties<R, N> {
     #[inline(never)]
-    fn is_valid(&self, node: Node<'_>, ctx: &mut ValidationContext) -> bool {
-        match node.as_object() {
+    fn check<A: Asked>(&self, asked: A, ctx: &mut ValidationContext) -> bool {
+        match asked.as_object() {
             Some(members) => matched_accepted(&self.regex, &self.node, members, ctx),
             None => true,
         }
@@ -81,7 +81,7 @@ fn bytes_are_equal(exact: &str, name: &str) -> bool
 }
 
 /// Whether each node accepts the members whose names its pattern matches.
-fn patterns_accept<R: RegexEngine, N: IsValid>(
+fn patterns_accept<R: RegexEngine, N: Check>(
     patterns: &Vec<(CompiledPattern<R>, N)>,
     members: &Map<String, Value>,
     ctx: &mut ValidationContext,
@@ -98,7 +98,7 @@ fn patterns_accept<R: RegexEngine, N: IsValid>(
 }
 
 /// Whether the node accepts each member whose name the pattern matches. An exact text is looked up.
-fn matched_accepted<R: RegexEngine, N: IsValid>(
+fn matched_accepted<R: RegexEngine, N: Check>(
     pattern: &CompiledPattern<R>,
     subschema: &N,
     members: &Map<String, Value>,
@@ -117,7 +117,7 @@ fn matched_accepted<R: RegexEngine, N: IsValid>(
 }
 
 /// Whether the node accepts the member at the name, if there is one.
-fn named_accepted<N: IsValid>(
+fn named_accepted<N: Check>(
     name: &str,
     subschema: &N,
     members: &Map<String, Value>,
@@ -127,13 +127,13 @@ fn named_accepted<N: IsValid>(
         (at name.now (object_of members.now.entries))) result }
 {
     match member(members, name) {
-        Some(value) => subschema.is_valid(Node::Value(value), ctx),
+        Some(value) => subschema.check(value, ctx),
         None => true,
     }
 }
 
 /// The verdict of `matched_accepted`, found member by member.
-fn each_accepted<R: RegexEngine, N: IsValid>(
+fn each_accepted<R: RegexEngine, N: Check>(
     pattern: &CompiledPattern<R>,
     subschema: &N,
     members: &Map<String, Value>,
@@ -153,7 +153,7 @@ fn each_accepted<R: RegexEngine, N: IsValid>(
 /// Whether the node accepts the value, if the pattern matches its name.
 #[inline(always)]
 #[tactic(auto, using(crate::proofs::Walks::conditional_answers))]
-fn accepted_if_matched<R: RegexEngine, N: IsValid>(
+fn accepted_if_matched<R: RegexEngine, N: Check>(
     pattern: &CompiledPattern<R>,
     subschema: &N,
     name: &str,
@@ -164,5 +164,5 @@ fn accepted_if_matched<R: RegexEngine, N: IsValid>(
         (match_question R.answers R.costs pattern.now name.now)
         (N.means subschema.now (view value.now)) (always true)) result }
 {
-    !matches(pattern, name, ctx) || subschema.is_valid(Node::Value(value), ctx)
+    !matches(pattern, name, ctx) || subschema.check(value, ctx)
 }

@@ -1,7 +1,6 @@
 //! `properties`: its verdict.
 ghost use Rattle.std.specs.Prelude.{[], ◌∷◌, option_copied, option_map, option_to_list};
 ghost use Rattle.serde_json.specs.View.{view, members_view};
-ghost use Rattle.olk_base.specs.Nodes.{data_of};
 ghost use Rattle.olk_spec.specs.Names.{lookup_name, is_empty};
 ghost use Rattle.olk_spec.specs.Accepts.{missing};
 ghost use Rattle.olk_spec.specs.Schemas.{listed};
@@ -13,39 +12,39 @@ ghost use Rattle.olk_tree.specs.Visited.{object_of};
 ghost use Rattle.olk_check.specs.Asks.{Asks};
 ghost use Rattle.olk_check.specs.Together.{AsksOne, AsksTwo};
 
-use crate::IsValid;
+use crate::Check;
 use crate::accepted::Accepted;
 use crate::required::{has_both, is_met, is_present};
-use olk_base::{Node, ValidationContext};
+use olk_base::{Asked, ValidationContext};
 use olk_meaning::member;
 use olk_tree::entries::{SortedEntries, node_among};
 use olk_tree::properties::{Properties, SmallPropertiesWithRequired2};
 use olk_tree::validators_map::PropertiesValidatorsMap;
 use serde_json::{Map, Value};
 
-impl<N: IsValid> IsValid for Properties<N> {
-    fn is_valid(&self, node: Node<'_>, ctx: &mut ValidationContext) -> bool {
-        properties_accept(self, node, ctx).is_some()
+impl<N: Check> Check for Properties<N> {
+    fn check<A: Asked>(&self, asked: A, ctx: &mut ValidationContext) -> bool {
+        properties_accept(self, asked, ctx).is_some()
     }
 }
 
-impl<N: IsValid> IsValid for SmallPropertiesWithRequired2<N> {
-    fn is_valid(&self, node: Node<'_>, ctx: &mut ValidationContext) -> bool {
-        properties_with_required2_accept(self, node, ctx).is_some()
+impl<N: Check> Check for SmallPropertiesWithRequired2<N> {
+    fn check<A: Asked>(&self, asked: A, ctx: &mut ValidationContext) -> bool {
+        properties_with_required2_accept(self, asked, ctx).is_some()
     }
 }
 
 /// Whether each member whose name is declared is accepted, where the value is an object.
 #[inline(always)]
-pub(crate) fn properties_accept<N: IsValid>(
+pub(crate) fn properties_accept<A: Asked, N: Check>(
     keyword: &Properties<N>,
-    node: Node<'_>,
+    asked: A,
     ctx: &mut ValidationContext,
 ) -> Accepted
     ensures { AsksOne ctx.old ctx.new
-        (properties_mean N.means (mapped keyword.now.properties) (data_of node.entry)) result }
+        (properties_mean N.means (mapped keyword.now.properties) (A.stands_for asked)) result }
 {
-    match node.as_object() {
+    match asked.as_object() {
         Some(members) => members_accepted(keyword.properties.entries(), members, ctx),
         None => Accepted::One,
     }
@@ -54,17 +53,17 @@ pub(crate) fn properties_accept<N: IsValid>(
 /// Whether each member whose name is declared is accepted, and whether there is a member at the
 /// name, where the value is an object.
 #[inline(always)]
-pub(crate) fn properties_with_required_accept<N: IsValid>(
+pub(crate) fn properties_with_required_accept<A: Asked, N: Check>(
     keyword: &Properties<N>,
     name: &str,
-    node: Node<'_>,
+    asked: A,
     ctx: &mut ValidationContext,
 ) -> Accepted
     ensures { AsksTwo ctx.old ctx.new
-        (properties_mean N.means (mapped keyword.now.properties) (data_of node.entry))
-        (always (is_empty (missing (name.now ∷ []) (data_of node.entry)))) result }
+        (properties_mean N.means (mapped keyword.now.properties) (A.stands_for asked))
+        (always (is_empty (missing (name.now ∷ []) (A.stands_for asked)))) result }
 {
-    match node.as_object() {
+    match asked.as_object() {
         Some(members) => { members_accepted_with(keyword.properties.entries(), members, name, ctx) }
         None => Accepted::Two,
     }
@@ -73,17 +72,17 @@ pub(crate) fn properties_with_required_accept<N: IsValid>(
 /// Whether each member whose name is declared is accepted, and there is a member at both names that
 /// the keyword holds, where the value is an object.
 #[inline(always)]
-pub(crate) fn properties_with_required2_accept<N: IsValid>(
+pub(crate) fn properties_with_required2_accept<A: Asked, N: Check>(
     keyword: &SmallPropertiesWithRequired2<N>,
-    node: Node<'_>,
+    asked: A,
     ctx: &mut ValidationContext,
 ) -> Accepted
     ensures { AsksOne ctx.old ctx.new (both
         (always (is_empty (missing (two_texts keyword.now.first keyword.now.second)
-        (data_of node.entry))))
-        (properties_mean N.means (named keyword.now.properties) (data_of node.entry))) result }
+        (A.stands_for asked))))
+        (properties_mean N.means (named keyword.now.properties) (A.stands_for asked))) result }
 {
-    match node.as_object() {
+    match asked.as_object() {
         Some(members) => members_accepted_with_both(keyword, members, ctx),
         None => Accepted::One,
     }
@@ -92,7 +91,7 @@ pub(crate) fn properties_with_required2_accept<N: IsValid>(
 /// Whether each member of an object is accepted whose name is declared; apart, so that the function
 /// that asks a keyword stays small.
 #[inline(never)]
-fn members_accepted<N: IsValid>(
+fn members_accepted<N: Check>(
     properties: &SortedEntries<N>,
     members: &Map<String, Value>,
     ctx: &mut ValidationContext,
@@ -107,7 +106,7 @@ fn members_accepted<N: IsValid>(
 /// Whether each member of an object is accepted whose name is declared, and whether there is a
 /// member at the name.
 #[inline(never)]
-fn members_accepted_with<N: IsValid>(
+fn members_accepted_with<N: Check>(
     properties: &SortedEntries<N>,
     members: &Map<String, Value>,
     name: &str,
@@ -124,7 +123,7 @@ fn members_accepted_with<N: IsValid>(
 /// Whether each member of an object is accepted whose name is declared, and there is a member at
 /// both names that the keyword holds.
 #[inline(never)]
-fn members_accepted_with_both<N: IsValid>(
+fn members_accepted_with_both<N: Check>(
     keyword: &SmallPropertiesWithRequired2<N>,
     members: &Map<String, Value>,
     ctx: &mut ValidationContext,
@@ -148,7 +147,7 @@ fn members_accepted_with_both<N: IsValid>(
 /// Whether each member whose name is declared is accepted. A declared name that is looked up takes
 /// as long as two members that are walked.
 #[inline(always)]
-fn all_accepted<N: IsValid>(
+fn all_accepted<N: Check>(
     properties: &SortedEntries<N>,
     members: &Map<String, Value>,
     ctx: &mut ValidationContext,
@@ -166,7 +165,7 @@ fn all_accepted<N: IsValid>(
 
 /// Whether each member is accepted by what is declared at its name, if anything is, member by
 /// member.
-fn each_member_accepted<N: IsValid>(
+fn each_member_accepted<N: Check>(
     properties: &SortedEntries<N>,
     members: &Map<String, Value>,
     ctx: &mut ValidationContext,
@@ -190,7 +189,7 @@ fn each_member_accepted<N: IsValid>(
 /// The verdict of `all_accepted`, and whether there is a member at the name, for which few members
 /// are walked once.
 #[inline(always)]
-fn all_accepted_with<N: IsValid>(
+fn all_accepted_with<N: Check>(
     properties: &SortedEntries<N>,
     members: &Map<String, Value>,
     name: &str,
@@ -209,7 +208,7 @@ fn all_accepted_with<N: IsValid>(
 }
 
 /// The verdict of `each_member_accepted`, and whether there is a member at the name.
-fn each_member_accepted_with<N: IsValid>(
+fn each_member_accepted_with<N: Check>(
     properties: &SortedEntries<N>,
     members: &Map<String, Value>,
     required: &str,
@@ -240,7 +239,7 @@ fn each_member_accepted_with<N: IsValid>(
 /// The verdict of `all_accepted`, and whether there is a member at both names, for which few
 /// members are walked once.
 #[inline(always)]
-fn all_accepted_with_both<N: IsValid>(
+fn all_accepted_with_both<N: Check>(
     properties: &SortedEntries<N>,
     members: &Map<String, Value>,
     first: &str,
@@ -261,7 +260,7 @@ fn all_accepted_with_both<N: IsValid>(
 }
 
 /// The verdict of `each_member_accepted`, and whether there is a member at both names.
-fn each_member_accepted_with_both<N: IsValid>(
+fn each_member_accepted_with_both<N: Check>(
     properties: &SortedEntries<N>,
     members: &Map<String, Value>,
     first: &str,
@@ -292,7 +291,7 @@ fn each_member_accepted_with_both<N: IsValid>(
 }
 
 #[inline(always)]
-fn accepted_if_declared<N: IsValid>(
+fn accepted_if_declared<N: Check>(
     declared: Option<&N>,
     value: &Value,
     ctx: &mut ValidationContext,
@@ -301,13 +300,13 @@ fn accepted_if_declared<N: IsValid>(
         (option_to_list (option_copied declared.entry))) result }
 {
     match declared {
-        Some(subschema) => subschema.is_valid(Node::Value(value), ctx),
+        Some(subschema) => subschema.check(value, ctx),
         None => true,
     }
 }
 
 /// Whether each member whose name is declared is accepted, declared name by declared name.
-fn each_name_accepted<N: IsValid>(
+fn each_name_accepted<N: Check>(
     properties: &SortedEntries<N>,
     members: &Map<String, Value>,
     ctx: &mut ValidationContext,
@@ -325,7 +324,7 @@ fn each_name_accepted<N: IsValid>(
 }
 
 #[inline(always)]
-fn accepted_if_present<N: IsValid>(
+fn accepted_if_present<N: Check>(
     subschema: &N,
     value: Option<&Value>,
     ctx: &mut ValidationContext,
@@ -334,7 +333,7 @@ fn accepted_if_present<N: IsValid>(
         (option_to_list (option_map (λ v. view v.now) value.entry))) result }
 {
     match value {
-        Some(value) => subschema.is_valid(Node::Value(value), ctx),
+        Some(value) => subschema.check(value, ctx),
         None => true,
     }
 }

@@ -3,15 +3,15 @@ ghost use Rattle.olk_tree.specs.PropertyNames.{names_mean};
 ghost use Rattle.olk_tree.specs.Visited.{object_of};
 ghost use Rattle.olk_check.specs.Asks.{Asks};
 
-use crate::IsValid;
-use olk_base::{Node, ValidationContext};
+use crate::Check;
+use olk_base::{Asked, ValidationContext};
 use olk_tree::property_names::{PropertyNames, PropertyNamesFalse};
 use serde_json::{Map, Value};
 
-impl<N: IsValid> IsValid for PropertyNames<N> {
+impl<N: Check> Check for PropertyNames<N> {
     #[inline(never)]
-    fn is_valid(&self, node: Node<'_>, ctx: &mut ValidationContext) -> bool {
-        match node.as_object() {
+    fn check<A: Asked>(&self, asked: A, ctx: &mut ValidationContext) -> bool {
+        match asked.as_object() {
             Some(members) => names_accepted(&self.node, members, ctx),
             None => true,
         }
@@ -19,10 +19,10 @@ impl<N: IsValid> IsValid for PropertyNames<N> {
 }
 
 /// An object is to have no members.
-impl IsValid for PropertyNamesFalse {
+impl Check for PropertyNamesFalse {
     #[inline(never)]
-    fn is_valid(&self, node: Node<'_>, _ctx: &mut ValidationContext) -> bool {
-        match node.as_object() {
+    fn check<A: Asked>(&self, asked: A, _ctx: &mut ValidationContext) -> bool {
+        match asked.as_object() {
             Some(members) => members.is_empty(),
             None => true,
         }
@@ -30,7 +30,7 @@ impl IsValid for PropertyNamesFalse {
 }
 
 /// Whether each member's name is accepted.
-fn names_accepted<N: IsValid>(
+fn names_accepted<N: Check>(
     subschema: &N,
     members: &Map<String, Value>,
     ctx: &mut ValidationContext,
@@ -39,7 +39,7 @@ fn names_accepted<N: IsValid>(
         (names_mean N.means subschema.now (object_of members.now.entries)) result }
 {
     for (name, _) in members {
-        if !subschema.is_valid(Node::Name(name), ctx) {
+        if !subschema.check(name.as_str(), ctx) {
             return false;
         }
     }

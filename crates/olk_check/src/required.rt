@@ -7,8 +7,8 @@ ghost use Rattle.olk_spec.specs.Accepts.{missing};
 ghost use Rattle.olk_spec.specs.Schemas.{has};
 ghost use Rattle.olk_tree.specs.Maps.{texts_of};
 
-use crate::IsValid;
-use olk_base::{Node, ValidationContext, is_same_text};
+use crate::Check;
+use olk_base::{Asked, ValidationContext, is_same_text};
 use olk_meaning::has_member;
 use olk_tree::required::RequiredValidator;
 use serde_json::{Map, Value};
@@ -18,10 +18,10 @@ const FEW_MEMBERS: usize = 16;
 
 /// Each listed name is to be a member, where the value is an object (JSON Schema 2020-12
 /// Validation, 6.5.3).
-impl IsValid for RequiredValidator {
+impl Check for RequiredValidator {
     #[inline(never)]
-    fn is_valid(&self, node: Node<'_>, _ctx: &mut ValidationContext) -> bool {
-        match node.as_object() {
+    fn check<A: Asked>(&self, asked: A, _ctx: &mut ValidationContext) -> bool {
+        match asked.as_object() {
             Some(members) => has_each(members, &self.required),
             None => true,
         }

@@ -1,23 +1,22 @@
 //! Walks over nodes: whether each accepts a value, or one does.
-ghost use Rattle.olk_base.specs.Nodes.{data_of};
 ghost use Rattle.olk_tree.specs.Questions.{every, some};
 ghost use Rattle.olk_check.specs.Asks.{Asks};
 
-use crate::IsValid;
-use olk_base::{Node, ValidationContext};
+use crate::Check;
+use olk_base::{Asked, ValidationContext};
 
 /// Whether each of them accepts; the first that refuses is the last that is asked.
 #[tactic(auto, using(crate::proofs::Walks::list_walks))]
-pub(crate) fn all_accept<N: IsValid>(
+pub(crate) fn all_accept<A: Asked, N: Check>(
     nodes: &Vec<N>,
-    node: Node<'_>,
+    asked: A,
     ctx: &mut ValidationContext,
 ) -> bool
     ensures { Asks ctx.old ctx.new
-        (every (λ n. N.means n (data_of node.entry)) nodes.now.items) result }
+        (every (λ n. N.means n (A.stands_for asked)) nodes.now.items) result }
 {
     for n in nodes {
-        if !n.is_valid(node, ctx) {
+        if !n.check(asked, ctx) {
             return false;
         }
     }
@@ -26,16 +25,16 @@ pub(crate) fn all_accept<N: IsValid>(
 
 /// Whether one of them accepts; the first that accepts is the last that is asked.
 #[tactic(auto, using(crate::proofs::Walks::list_walks))]
-pub(crate) fn any_accepts<N: IsValid>(
+pub(crate) fn any_accepts<A: Asked, N: Check>(
     nodes: &Vec<N>,
-    node: Node<'_>,
+    asked: A,
     ctx: &mut ValidationContext,
 ) -> bool
     ensures { Asks ctx.old ctx.new
-        (some (λ n. N.means n (data_of node.entry)) nodes.now.items) result }
+        (some (λ n. N.means n (A.stands_for asked)) nodes.now.items) result }
 {
     for n in nodes {
-        if n.is_valid(node, ctx) {
+        if n.check(asked, ctx) {
             return true;
         }
     }

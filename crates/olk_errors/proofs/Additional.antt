@@ -10,8 +10,7 @@ use Rattle.olk_base.specs.Lawful.{Asking}
 use Rattle.olk_base.specs.Compiled.{pattern_answers}
 use Rattle.olk_base.specs.declared.pattern.CompiledPattern.{CompiledPattern}
 use Rattle.olk_tree.specs.Questions.{Question, said_to}
-use Rattle.olk_tree.specs.Additional.{Sides, known_at, known_or, known_or_asked, is_matched_by, matching_from, sides_of}
-use Rattle.olk_tree.specs.declared.additional_properties.AdditionalProperties.{AdditionalProperties}
+use Rattle.olk_tree.specs.Additional.{Sides, known_at, known_or, known_or_asked, is_matched_by, matching_from}
 use Rattle.olk_tree.specs.AdditionalAgreement.{match_is_said}
 use Rattle.olk_errors.specs.Found.{Outcome}
 use Rattle.olk_errors.specs.Outcomes.{of_node, of_branches, declared_nodes, unspoken_from, asked_from, asked_at, unexpected_at, if_matched}
@@ -32,9 +31,9 @@ pub record Asked (R N : Type 0) : Type 0 where
   pub name : Name
   pub value : Data
 
-abbrev pub asked_member : {R N : Type 0} → (R → Name → Says) → (N → Data → Question) → (N → Bool → Data → Path → List Fault) → (N → Bool → Data → Path → List Fault) → AdditionalProperties R N
+abbrev pub asked_member : {R N : Type 0} → (R → Name → Says) → (N → Data → Question) → (N → Bool → Data → Path → List Fault) → (N → Bool → Data → Path → List Fault) → Sides R N
     → Option (ℕ × N) → Name → Data → Asked R N
-asked_member answers m s r k d x v = record { answers = answers; means = m; first = s; report = r; sides = sides_of k; declared = d; name = x; value = v }
+asked_member answers m s r S d x v = record { answers = answers; means = m; first = s; report = r; sides = S; declared = d; name = x; value = v }
 
 -- a node is put apart from those after it
 put_apart : {N : Type 0} (b spoken : Bool) (n : N) (ms rest : List N)

@@ -15,3 +15,4 @@ mod Loops
 mod Additional
 mod Unexpected
 mod AdditionalMembers
+mod AdditionalHeld

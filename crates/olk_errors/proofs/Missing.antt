@@ -93,8 +93,8 @@ nothing_missing (n ∷ ns) v e = nothing_missing ns v e
 
 -- ---- one name
 
-module _ (v : Data) (P Q : Path) (name : String Global) where
-  pub one_first : (b : Bool) → head_of (map (λ n. fault (Required n) v Q P) (put_if b (string_bytes name) [])) ≡ map (λ n. fault (Required n) v Q P) (put_if b (string_bytes name) [])
+module _ (v : Data) (P Q : Path) (n : Name) where
+  pub one_first : (b : Bool) → head_of (map (λ n. fault (Required n) v Q P) (put_if b n [])) ≡ map (λ n. fault (Required n) v Q P) (put_if b n [])
   one_first true = refl
   one_first false = refl
 

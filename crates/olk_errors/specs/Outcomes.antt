@@ -1,11 +1,12 @@
 -- What asking comes to: of a node, of branches, of branches of which one is to accept, of declared members, of members' names, of members whose names patterns match, of members that `additionalProperties` asks, of names that are wanted, of a leaf, of a body.
-use Rattle.std.specs.Prelude.{◌≡◌, ◌⊎◌, ◌<◌, ℕ, ◌==◌, Bool, true, not, ◌&&◌, cond, List, [], ◌++◌, map, Option, Some, None, is_none, is_some, option_map, option_to_list}
+use Rattle.std.specs.Prelude.{◌≡◌, ◌⊎◌, ◌<◌, ℕ, ◌==◌, Bool, true, false, not, ◌&&◌, cond, List, [], ◌++◌, map, Option, Some, None, is_none, is_some, option_map, option_to_list}
 use Rattle.std.specs.List.{flat_map}
 use Rattle.serde_json.specs.Data.{Data, string}
 use Rattle.olk_spec.specs.Names.{Name, Path, ◌//◌, put_if, is_empty}
 use Rattle.olk_spec.specs.World.{Says, reads_as}
-use Rattle.olk_spec.specs.Faults.{Fault, Kind, fault, Leaf, OneOfNotValid, OneOfMultipleValid, IsLikeKind, Context, context}
+use Rattle.olk_spec.specs.Faults.{Fault, Kind, fault, AdditionalProperties, Leaf, OneOfNotValid, OneOfMultipleValid, IsLikeKind, Context, context}
 use Rattle.olk_spec.specs.Accepts.{missing}
+use Rattle.olk_spec.specs.Schemas.{members}
 use Rattle.olk_spec.specs.Reports.{required_faults, unexpected_faults, fault_if, wrapped}
 use Rattle.olk_reports.specs.Errors.{kind_of}
 use Rattle.olk_reports.specs.declared.error.ValidationErrorKind.{ValidationErrorKind}
@@ -14,7 +15,7 @@ use Rattle.olk_base.specs.Compiled.{pattern_answers}
 use Rattle.olk_base.specs.declared.pattern.CompiledPattern.{CompiledPattern}
 use Rattle.olk_tree.specs.Questions.{Question, always, conditional, every}
 use Rattle.olk_tree.specs.Matched.{is_match, matching, match_question}
-use Rattle.olk_tree.specs.Additional.{Sides, known_or, matching_from, additional_means, additional_report, additional_first, sides_of, has_neighbours}
+use Rattle.olk_tree.specs.Additional.{Sides, known_or, matching_from, additional_means, additional_report, additional_first}
 use Rattle.olk_tree.specs.Firsts.{first_of, head_of}
 use Rattle.olk_tree.specs.OneOf.{one_of_report}
 use Rattle.olk_tree.specs.Visited.{Declared}
@@ -22,7 +23,6 @@ use Rattle.olk_tree.specs.Properties.{properties_mean, properties_report, proper
 use Rattle.olk_tree.specs.PropertyNames.{names_mean, names_report, names_first}
 use Rattle.olk_tree.specs.PatternProperties.{matched_mean, matched_report, matched_first, patterns_mean, patterns_report, patterns_first}
 use Rattle.olk_tree.specs.Bodies.{body_means, body_report, body_first}
-use Rattle.olk_tree.specs.declared.additional_properties.AdditionalProperties.{AdditionalProperties}
 use Rattle.olk_tree.specs.declared.node.Body.{Body}
 use Rattle.olk_errors.specs.Found.{Outcome}
 
@@ -67,6 +67,10 @@ module _ {N : Type 0} (m : N → Data → Question) (s r : N → Bool → Data �
 
   abbrev pub of_asked_names : N → Data → Path → Outcome
   of_asked_names n v Q = record { accepts = (names_mean m n v).accepts u; first = names_first s u n v Q; all = names_report r u n v Q }
+
+  -- each member, with the same
+  abbrev pub of_values : N → Data → Path → Outcome
+  of_values n v Q = of_each u (λ x. m n x.1) (λ x. s n u x.1 (Q // x.0)) (λ x. r n u x.1 (Q // x.0)) (members v)
 
   abbrev pub of_body : Path → Body N → Data → Path → Outcome
   of_body P b v Q = record { accepts = (body_means m b v).accepts u; first = body_first (λ k. s k u) P b v Q; all = body_report (λ k. r k u) P b v Q }
@@ -121,14 +125,22 @@ module _ {R N : Type 0} (answers : R → Name → Says) (u : Bool) where
   abbrev pub if_matched : Says → CompiledPattern R → N → Name → List N
   if_matched known p n x = put_if (reads_as u (known_or known (pattern_answers answers p x))) n []
 
--- one fault of the members that are unexpected, if there are some
-abbrev pub of_unexpected : {R N : Type 0} → AdditionalProperties R N → List (Name × Data) → Data → Path → Outcome
-of_unexpected k xs v Q = record { accepts = is_empty xs; first = unexpected_faults (has_neighbours k) xs v k.location Q; all = unexpected_faults (has_neighbours k) xs v k.location Q }
+-- the fault of names that are not expected, told together
+abbrev pub unexpected_fault : List Name → Data → Path → Path → Fault
+unexpected_fault ns v P Q = fault (AdditionalProperties ns) v Q P
 
-module _ {R N : Type 0} (answers : R → Name → Says) (m : N → Data → Question) (s r : N → Bool → Data → Path → List Fault) (u : Bool) (k : AdditionalProperties R N) where
-  -- the same, as it is meant of each value
-  abbrev pub of_asked_members : (R → Bool) → Data → Path → Outcome
-  of_asked_members costs v Q = record { accepts = (additional_means answers costs m (sides_of k) v).accepts u; first = additional_first answers (sides_of k) u v Q (has_neighbours k) k.location s; all = additional_report answers (sides_of k) u v Q (has_neighbours k) k.location r }
+-- this one, if there are such names
+abbrev pub of_unexpected : List Name → Data → Path → Path → Outcome
+of_unexpected ns v P Q = own (is_empty ns) (not (is_empty ns)) (AdditionalProperties ns) v P Q
+
+-- a false schema over the first member, if there is one
+abbrev pub of_no_members : Data → Path → Path → Outcome
+of_no_members v P Q = record { accepts = is_empty (members v); first = unexpected_faults false (members v) v P Q; all = unexpected_faults false (members v) v P Q }
+
+-- members, with neighbours of `additionalProperties` beside it, which stands at P
+module _ {R N : Type 0} (answers : R → Name → Says) (costs : R → Bool) (m : N → Data → Question) (s r : N → Bool → Data → Path → List Fault) (u : Bool) (S : Sides R N) where
+  abbrev pub of_asked_members : Data → Path → Path → Outcome
+  of_asked_members v P Q = record { accepts = (additional_means answers costs m S v).accepts u; first = additional_first answers S u v Q true P s; all = additional_report answers S u v Q true P r }
 
 module _ {K : Type 0} (l : leaf.Ghosts K) where
   abbrev pub of_leaf : K → Data → Path → Path → Outcome

@@ -1,7 +1,7 @@
 //! `allOf`: its errors.
 use crate::branches::walk_each;
 use crate::{ErrorSink, Stop, Walk};
-use olk_base::{Node, ValidationContext};
+use olk_base::{Subject, ValidationContext};
 use olk_paths::Trail;
 use olk_tree::all_of::{AllOf, SingleValueAllOf};
 
@@ -9,7 +9,7 @@ impl<'a, N: Walk<'a>> Walk<'a> for AllOf<N> {
     #[inline(never)]
     fn walk(
         &'a self,
-        node: Node<'a>,
+        node: Subject<'_, 'a>,
         trail: &Trail<'_, 'a>,
         ctx: &mut ValidationContext,
         sink: &mut ErrorSink<'a>,
@@ -22,7 +22,7 @@ impl<'a, N: Walk<'a>> Walk<'a> for SingleValueAllOf<N> {
     #[inline(never)]
     fn walk(
         &'a self,
-        node: Node<'a>,
+        node: Subject<'_, 'a>,
         trail: &Trail<'_, 'a>,
         ctx: &mut ValidationContext,
         sink: &mut ErrorSink<'a>,

@@ -1,8 +1,8 @@
 //! `anyOf`: its errors.
 use crate::branches::{contexts, one_context};
 use crate::{ErrorSink, Stop, Walk};
-use olk_base::{Node, ValidationContext};
-use olk_check::IsValid;
+use olk_base::{Subject, ValidationContext};
+use olk_check::accepts;
 use olk_paths::Trail;
 use olk_reports::ValidationErrorKind;
 use olk_tree::any_of::{AnyOf, SingleAnyOf};
@@ -11,12 +11,12 @@ impl<'a, N: Walk<'a>> Walk<'a> for AnyOf<N> {
     #[inline(never)]
     fn walk(
         &'a self,
-        node: Node<'a>,
+        node: Subject<'_, 'a>,
         trail: &Trail<'_, 'a>,
         ctx: &mut ValidationContext,
         sink: &mut ErrorSink<'a>,
     ) -> Result<(), Stop> {
-        if self.is_valid(node, ctx) {
+        if accepts(self, node, ctx) {
             return Ok(());
         }
         let context = contexts(sink.alloc(), &self.schemas, node, trail, ctx)?;
@@ -29,12 +29,12 @@ impl<'a, N: Walk<'a>> Walk<'a> for SingleAnyOf<N> {
     #[inline(never)]
     fn walk(
         &'a self,
-        node: Node<'a>,
+        node: Subject<'_, 'a>,
         trail: &Trail<'_, 'a>,
         ctx: &mut ValidationContext,
         sink: &mut ErrorSink<'a>,
     ) -> Result<(), Stop> {
-        if self.node.is_valid(node, ctx) {
+        if accepts(&self.node, node, ctx) {
             return Ok(());
         }
         let context = one_context(sink.alloc(), &self.node, node, trail, ctx)?;

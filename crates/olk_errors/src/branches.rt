@@ -1,7 +1,7 @@
 //! Walks over nodes: the errors that they find.
 ghost use Rattle.std.specs.Prelude.{◌∷◌, [], map, IfOk};
 ghost use Rattle.olk_reports.proofs.Errors.{context_faults};
-ghost use Rattle.olk_base.specs.Nodes.{data_of};
+ghost use Rattle.olk_base.specs.Nodes.{subject_data};
 ghost use Rattle.olk_paths.specs.Trails.{path_at};
 ghost use Rattle.olk_check.specs.Asks.{OnlyAsks};
 ghost use Rattle.olk_errors.specs.Found.{Appends, AreLike, IsFirstOf};
@@ -9,7 +9,7 @@ ghost use Rattle.olk_errors.specs.Outcomes.{of_branches, of_node};
 ghost use Rattle.olk_errors.specs.Sinks.{Walks};
 
 use crate::{ErrorSink, Stop, Walk};
-use olk_base::{Node, ValidationContext, one};
+use olk_base::{Subject, ValidationContext, one};
 use olk_paths::Trail;
 use olk_reports::ValidationError;
 use std::alloc::{AllocError, Global};
@@ -18,14 +18,14 @@ use std::alloc::{AllocError, Global};
 #[inline(never)]
 pub(crate) fn walk_each<'a, N: Walk<'a>>(
     nodes: &'a Vec<N>,
-    node: Node<'a>,
+    node: Subject<'_, 'a>,
     trail: &Trail<'_, 'a>,
     ctx: &mut ValidationContext,
     sink: &mut ErrorSink<'a>,
 ) -> Result<(), Stop>
     ensures { Walks result sink.old sink.new ctx.old ctx.new
-        (of_branches N.means N.first N.report ctx.old.answer nodes.now.items (data_of node.entry)
-        (path_at trail.now)) }
+        (of_branches N.means N.first N.report ctx.old.answer nodes.now.items
+        (subject_data node.entry) (path_at trail.now)) }
 {
     for n in nodes {
         n.walk(node, trail, ctx, sink)?;
@@ -37,12 +37,12 @@ pub(crate) fn walk_each<'a, N: Walk<'a>>(
 pub(crate) fn contexts<'a, N: Walk<'a>>(
     alloc: Global,
     nodes: &'a Vec<N>,
-    node: Node<'a>,
+    node: Subject<'_, 'a>,
     trail: &Trail<'_, 'a>,
     ctx: &mut ValidationContext,
 ) -> Result<Vec<Vec<ValidationError<'a>>>, AllocError>
     ensures contexts { IfOk result (λ c. AreLike (context_faults c)
-        (map (λ n. N.report n ctx.old.answer (data_of node.entry) (path_at trail.now))
+        (map (λ n. N.report n ctx.old.answer (subject_data node.entry) (path_at trail.now))
         nodes.now.items)) }
     ensures context { OnlyAsks ctx.old ctx.new }
 {
@@ -58,12 +58,12 @@ pub(crate) fn contexts<'a, N: Walk<'a>>(
 pub(crate) fn one_context<'a, N: Walk<'a>>(
     alloc: Global,
     branch: &'a N,
-    node: Node<'a>,
+    node: Subject<'_, 'a>,
     trail: &Trail<'_, 'a>,
     ctx: &mut ValidationContext,
 ) -> Result<Vec<Vec<ValidationError<'a>>>, AllocError>
     ensures contexts { IfOk result (λ c. AreLike (context_faults c)
-        (N.report branch.now ctx.old.answer (data_of node.entry) (path_at trail.now) ∷ [])) }
+        (N.report branch.now ctx.old.answer (subject_data node.entry) (path_at trail.now) ∷ [])) }
     ensures context { OnlyAsks ctx.old ctx.new }
 {
     let errors = errors_of(alloc, branch, node, trail, ctx)?;
@@ -74,12 +74,12 @@ pub(crate) fn one_context<'a, N: Walk<'a>>(
 pub(crate) fn errors_of<'a, N: Walk<'a>>(
     alloc: Global,
     asked: &'a N,
-    node: Node<'a>,
+    node: Subject<'_, 'a>,
     trail: &Trail<'_, 'a>,
     ctx: &mut ValidationContext,
 ) -> Result<Vec<ValidationError<'a>>, AllocError>
     ensures errors { IfOk result (λ es. Appends [] es.items
-        (N.report asked.now ctx.old.answer (data_of node.entry) (path_at trail.now))) }
+        (N.report asked.now ctx.old.answer (subject_data node.entry) (path_at trail.now))) }
     ensures context { OnlyAsks ctx.old ctx.new }
 {
     let mut sink: ErrorSink<'a> = ErrorSink::all(alloc, Vec::new(alloc));
@@ -93,12 +93,12 @@ pub(crate) fn errors_of<'a, N: Walk<'a>>(
 pub(crate) fn first_error_of<'a, N: Walk<'a>>(
     alloc: Global,
     asked: &'a N,
-    node: Node<'a>,
+    node: Subject<'_, 'a>,
     trail: &Trail<'_, 'a>,
     ctx: &mut ValidationContext,
 ) -> Result<Option<ValidationError<'a>>, AllocError>
     ensures error { IfOk result (IsFirstOf (of_node N.means N.first N.report ctx.old.answer
-        asked.now (data_of node.entry) (path_at trail.now))) }
+        asked.now (subject_data node.entry) (path_at trail.now))) }
     ensures context { OnlyAsks ctx.old ctx.new }
 {
     let mut sink: ErrorSink<'a> = ErrorSink::first(alloc);

@@ -1,6 +1,6 @@
 //! `dependentRequired`, `dependentSchemas` and `dependencies`: their errors.
 ghost use Rattle.std.specs.Prelude.{◌≡◌};
-ghost use Rattle.olk_base.specs.Nodes.{data_of};
+ghost use Rattle.olk_base.specs.Nodes.{subject_data};
 ghost use Rattle.olk_paths.specs.Trails.{path_at};
 ghost use Rattle.olk_tree.specs.Maps.{named};
 ghost use Rattle.olk_tree.specs.Dependencies.{due_nodes};
@@ -9,7 +9,7 @@ ghost use Rattle.olk_errors.specs.Outcomes.{of_branches};
 ghost use Rattle.olk_errors.specs.Sinks.{Walks};
 
 use crate::{ErrorSink, Stop, Walk};
-use olk_base::{Node, ValidationContext};
+use olk_base::{Subject, ValidationContext};
 use olk_paths::Trail;
 use olk_tree::dependencies::Dependencies;
 use olk_tree::map::SmallMap;
@@ -20,7 +20,7 @@ impl<'a, N: Walk<'a>> Walk<'a> for Dependencies<N> {
     #[inline(never)]
     fn walk(
         &'a self,
-        node: Node<'a>,
+        node: Subject<'_, 'a>,
         trail: &Trail<'_, 'a>,
         ctx: &mut ValidationContext,
         sink: &mut ErrorSink<'a>,
@@ -36,15 +36,15 @@ impl<'a, N: Walk<'a>> Walk<'a> for Dependencies<N> {
 fn walk_due<'a, N: Walk<'a>>(
     dependencies: &'a SmallMap<N>,
     members: &'a Map<String, Value>,
-    object: Node<'a>,
+    object: Subject<'_, 'a>,
     trail: &Trail<'_, 'a>,
     ctx: &mut ValidationContext,
     sink: &mut ErrorSink<'a>,
 ) -> Result<(), Stop>
-    requires { data_of object ≡ object_of members.now.entries }
+    requires { subject_data object ≡ object_of members.now.entries }
     ensures { Walks result sink.old sink.new ctx.old ctx.new
         (of_branches N.means N.first N.report ctx.old.answer
-        (due_nodes (named dependencies.now) (data_of object.entry)) (data_of object.entry)
+        (due_nodes (named dependencies.now) (subject_data object.entry)) (subject_data object.entry)
         (path_at trail.now)) }
 {
     for (_, dependency, _) in dependencies.declared_members(members) {

@@ -1,7 +1,7 @@
 //! `if`, `then` and `else`: their errors.
 use crate::{ErrorSink, Stop, Walk};
-use olk_base::{Node, ValidationContext};
-use olk_check::IsValid;
+use olk_base::{Subject, ValidationContext};
+use olk_check::accepts;
 use olk_paths::Trail;
 use olk_tree::if_::{IfElse, IfThen, IfThenElse};
 
@@ -9,12 +9,12 @@ impl<'a, N: Walk<'a>> Walk<'a> for IfThen<N> {
     #[inline(never)]
     fn walk(
         &'a self,
-        node: Node<'a>,
+        node: Subject<'_, 'a>,
         trail: &Trail<'_, 'a>,
         ctx: &mut ValidationContext,
         sink: &mut ErrorSink<'a>,
     ) -> Result<(), Stop> {
-        if !self.schema.is_valid(node, ctx) {
+        if !accepts(&self.schema, node, ctx) {
             return Ok(());
         }
         self.then_schema.walk(node, trail, ctx, sink)
@@ -25,12 +25,12 @@ impl<'a, N: Walk<'a>> Walk<'a> for IfElse<N> {
     #[inline(never)]
     fn walk(
         &'a self,
-        node: Node<'a>,
+        node: Subject<'_, 'a>,
         trail: &Trail<'_, 'a>,
         ctx: &mut ValidationContext,
         sink: &mut ErrorSink<'a>,
     ) -> Result<(), Stop> {
-        if self.schema.is_valid(node, ctx) {
+        if accepts(&self.schema, node, ctx) {
             return Ok(());
         }
         self.else_schema.walk(node, trail, ctx, sink)
@@ -41,12 +41,12 @@ impl<'a, N: Walk<'a>> Walk<'a> for IfThenElse<N> {
     #[inline(never)]
     fn walk(
         &'a self,
-        node: Node<'a>,
+        node: Subject<'_, 'a>,
         trail: &Trail<'_, 'a>,
         ctx: &mut ValidationContext,
         sink: &mut ErrorSink<'a>,
     ) -> Result<(), Stop> {
-        if self.schema.is_valid(node, ctx) {
+        if accepts(&self.schema, node, ctx) {
             self.then_schema.walk(node, trail, ctx, sink)
         } else {
             self.else_schema.walk(node, trail, ctx, sink)

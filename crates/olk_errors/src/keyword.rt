@@ -1,6 +1,6 @@
 //! Keywords: their errors.
 ghost use Rattle.olk_base.specs.Kit.{kit};
-ghost use Rattle.olk_base.specs.Nodes.{data_of};
+ghost use Rattle.olk_base.specs.Nodes.{subject_data};
 ghost use Rattle.olk_paths.specs.Trails.{path_at};
 ghost use Rattle.olk_tree.specs.Validators.{answers_of};
 ghost use Rattle.olk_errors.specs.Outcomes.{of_node};
@@ -8,7 +8,7 @@ ghost use Rattle.olk_errors.specs.Sinks.{Walks};
 
 use crate::node::{report_texts, walk_leaf};
 use crate::{ErrorSink, Stop, Walk};
-use olk_base::{Leaf, Node, RegexEngine, ValidationContext};
+use olk_base::{Leaf, RegexEngine, Subject, ValidationContext};
 use olk_paths::Trail;
 use olk_tree::node::KeywordOver;
 
@@ -17,7 +17,7 @@ impl<'a, K: Leaf, R: RegexEngine, N: Walk<'a>> Walk<'a> for KeywordOver<K, R, N>
     #[tactic(auto, unfolding(olk_tree::specs::Validators::answers_of))]
     fn walk(
         &'a self,
-        node: Node<'a>,
+        node: Subject<'_, 'a>,
         trail: &Trail<'_, 'a>,
         ctx: &mut ValidationContext,
         sink: &mut ErrorSink<'a>,
@@ -34,7 +34,7 @@ impl<'a, K: Leaf, R: RegexEngine, N: Walk<'a>> Walk<'a> for KeywordOver<K, R, N>
 #[tactic(auto, unfolding(olk_tree::specs::Validators::answers_of))]
 fn walk_validator<'a, K: Leaf, R: RegexEngine, N: Walk<'a>>(
     keyword: &'a KeywordOver<K, R, N>,
-    node: Node<'a>,
+    node: Subject<'_, 'a>,
     trail: &Trail<'_, 'a>,
     ctx: &mut ValidationContext,
     sink: &mut ErrorSink<'a>,
@@ -43,7 +43,7 @@ fn walk_validator<'a, K: Leaf, R: RegexEngine, N: Walk<'a>>(
         (of_node (λ k. (answers_of (kit K.Leaf R.RegexEngine) k).means N.means) (λ k.
         (answers_of (kit K.Leaf R.RegexEngine) k).first N.means N.report N.first) (λ k.
         (answers_of (kit K.Leaf R.RegexEngine) k).report N.means N.report) ctx.old.answer
-        keyword.now (data_of node.entry) (path_at trail.now)) }
+        keyword.now (subject_data node.entry) (path_at trail.now)) }
 {
     match keyword {
         KeywordOver::Properties(keyword) => keyword.walk(node, trail, ctx, sink),

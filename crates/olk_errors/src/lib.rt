@@ -4,18 +4,20 @@
 //! Stands on `olk_check`. Tested by `object_logic_tests`.
 #![tactic(auto)]
 
-use olk_base::{Node, ValidationContext};
-use olk_check::IsValid;
+use olk_base::{Node, Subject, ValidationContext};
+use olk_check::{Check, IsValid};
 use olk_paths::{InstancePath, Trail};
 use olk_reports::{ValidateError, ValidationError};
 use olk_tree::Reports;
 use std::alloc::{AllocError, Global};
 use std::mem;
 
-/// What walks over a value and finds its errors.
-pub trait Walk<'a>: IsValid + Reports {
+/// What walks over a value and hands its errors to a sink.
+///
+/// Each validator implements it; callers ask by `Errors`.
+pub trait Walk<'a>: Check + Reports {
     ghost use Rattle.std.specs.Prelude.{OnOk, IfErr};
-    ghost use Rattle.olk_base.specs.Nodes.{data_of};
+    ghost use Rattle.olk_base.specs.Nodes.{subject_data};
     ghost use Rattle.olk_check.specs.Asks.{OnlyAsks};
     ghost use Rattle.olk_errors.specs.Found.{IsErrorOf};
     ghost use Rattle.olk_errors.specs.Outcomes.{of_node};
@@ -34,17 +36,17 @@ pub trait Walk<'a>: IsValid + Reports {
     /// all errors has what it had, and may have more.
     fn walk(
         &'a self,
-        node: Node<'a>,
+        node: Subject<'_, 'a>,
         trail: &Trail<'_, 'a>,
         ctx: &mut ValidationContext,
         sink: &mut ErrorSink<'a>,
     ) -> Result<(), Stop>
         ensures { Walks result sink.old sink.new ctx.old ctx.new
-            (of_node Self.means Self.first Self.report ctx.old.answer self.now (data_of node.entry)
-            (path_at trail.now)) };
+            (of_node Self.means Self.first Self.report ctx.old.answer self.now
+            (subject_data node.entry) (path_at trail.now)) };
 }
 
-/// What can be asked what is wrong with a value: all that walks.
+/// What can be asked what is wrong with a value: all that walks. Implement `Walk`.
 pub trait Errors<'a>: IsValid + Reports {
     ghost use Rattle.std.specs.Prelude.{◌≡◌, OnOk, OnErr, IfErr};
     ghost use Rattle.olk_base.specs.Nodes.{data_of};
@@ -112,7 +114,7 @@ impl<'a, W: Walk<'a>> Errors<'a> for W {
     ) -> Result<(), ValidateError<'a>> {
         let mut sink: ErrorSink<'a> = ErrorSink::first(alloc);
         let trail = Trail::At(path.as_str());
-        match self.walk(node, &trail, ctx, &mut sink) {
+        match self.walk(Subject::of(&node), &trail, ctx, &mut sink) {
             Ok(()) => Ok(()),
             Err(Stop) => match sink.into_first() {
                 Some(error) => Err(ValidateError::Invalid(error)),
@@ -134,7 +136,7 @@ impl<'a, W: Walk<'a>> Errors<'a> for W {
         let so_far: Vec<ValidationError<'a>> = mem::replace(errors, none);
         let mut sink: ErrorSink<'a> = ErrorSink::all(alloc, so_far);
         let trail = Trail::At(path.as_str());
-        let walked = self.walk(node, &trail, ctx, &mut sink);
+        let walked = self.walk(Subject::of(&node), &trail, ctx, &mut sink);
         *errors = sink.into_errors();
         match walked {
             Ok(()) => Ok(()),

@@ -1,13 +1,13 @@
 //! Leaves and bodies: their errors.
 ghost use Rattle.std.specs.Prelude.{◌≡◌, true, false};
-ghost use Rattle.olk_base.specs.Nodes.{data_of};
+ghost use Rattle.olk_base.specs.Nodes.{subject_data};
 ghost use Rattle.olk_paths.specs.Trails.{path_at};
 ghost use Rattle.olk_errors.specs.Outcomes.{of_leaf, of_body, of_branches};
 ghost use Rattle.olk_errors.specs.Sinks.{wants_one, Walks, Ends};
 
 use crate::branches::walk_each;
 use crate::{ErrorSink, Stop, Walk};
-use olk_base::{Leaf, Node, ValidationContext};
+use olk_base::{Leaf, Subject, ValidationContext, leaf_accepts};
 use olk_paths::{Location, Trail};
 use olk_reports::ValidationErrorKind;
 use olk_tree::node::Body;
@@ -23,14 +23,14 @@ use olk_tree::node::Body;
 pub fn walk_body<'a, W: Walk<'a>>(
     body: &'a Body<W>,
     location: &'a str,
-    node: Node<'a>,
+    node: Subject<'_, 'a>,
     trail: &Trail<'_, 'a>,
     ctx: &mut ValidationContext,
     sink: &mut ErrorSink<'a>,
 ) -> Result<(), Stop>
     ensures { Walks result sink.old sink.new ctx.old ctx.new
-        (of_body W.means W.first W.report ctx.old.answer location.now body.now (data_of node.entry)
-        (path_at trail.now)) }
+        (of_body W.means W.first W.report ctx.old.answer location.now body.now
+        (subject_data node.entry) (path_at trail.now)) }
 {
     match body {
         Body::Keywords(keywords) => walk_keywords(keywords, node, trail, ctx, sink),
@@ -43,14 +43,14 @@ pub fn walk_body<'a, W: Walk<'a>>(
 fn walk_other<'a, W: Walk<'a>>(
     body: &'a Body<W>,
     location: &'a str,
-    node: Node<'a>,
+    node: Subject<'_, 'a>,
     trail: &Trail<'_, 'a>,
     ctx: &mut ValidationContext,
     sink: &mut ErrorSink<'a>,
 ) -> Result<(), Stop>
     ensures { Walks result sink.old sink.new ctx.old ctx.new
-        (of_body W.means W.first W.report ctx.old.answer location.now body.now (data_of node.entry)
-        (path_at trail.now)) }
+        (of_body W.means W.first W.report ctx.old.answer location.now body.now
+        (subject_data node.entry) (path_at trail.now)) }
 {
     match body {
         Body::True => Ok(()),
@@ -68,14 +68,14 @@ fn walk_other<'a, W: Walk<'a>>(
 #[inline(always)]
 fn walk_keywords<'a, W: Walk<'a>>(
     keywords: &'a Vec<W>,
-    node: Node<'a>,
+    node: Subject<'_, 'a>,
     trail: &Trail<'_, 'a>,
     ctx: &mut ValidationContext,
     sink: &mut ErrorSink<'a>,
 ) -> Result<(), Stop>
     ensures { Walks result sink.old sink.new ctx.old ctx.new
-        (of_branches W.means W.first W.report ctx.old.answer keywords.now.items (data_of node.entry)
-        (path_at trail.now)) }
+        (of_branches W.means W.first W.report ctx.old.answer keywords.now.items
+        (subject_data node.entry) (path_at trail.now)) }
 {
     match keywords.as_slice() {
         [keyword] => keyword.walk(node, trail, ctx, sink),
@@ -88,14 +88,14 @@ fn walk_keywords<'a, W: Walk<'a>>(
 pub(crate) fn walk_leaf<'a, K: Leaf>(
     leaf: &'a K,
     location: &'a Location,
-    node: Node<'a>,
+    node: Subject<'_, 'a>,
     trail: &Trail<'_, 'a>,
     sink: &mut ErrorSink<'a>,
 ) -> Result<(), Stop>
     ensures { Ends result sink.old sink.new
-        (of_leaf K.Leaf leaf.now (data_of node.entry) location.now (path_at trail.now)) }
+        (of_leaf K.Leaf leaf.now (subject_data node.entry) location.now (path_at trail.now)) }
 {
-    if leaf.is_valid(node) {
+    if leaf_accepts(leaf, node) {
         return Ok(());
     }
     report_texts(leaf, location, node, trail, sink)
@@ -106,12 +106,12 @@ pub(crate) fn walk_leaf<'a, K: Leaf>(
 pub(crate) fn report_texts<'a, K: Leaf>(
     leaf: &'a K,
     location: &'a Location,
-    node: Node<'a>,
+    node: Subject<'_, 'a>,
     trail: &Trail<'_, 'a>,
     sink: &mut ErrorSink<'a>,
 ) -> Result<(), Stop>
     ensures { Ends result sink.old sink.new
-        (of_leaf K.Leaf leaf.now (data_of node.entry) location.now (path_at trail.now)) }
+        (of_leaf K.Leaf leaf.now (subject_data node.entry) location.now (path_at trail.now)) }
 {
     if sink.wants_one() {
         report_one_text(leaf, location, node, trail, sink)
@@ -124,15 +124,15 @@ pub(crate) fn report_texts<'a, K: Leaf>(
 fn report_one_text<'a, K: Leaf>(
     leaf: &'a K,
     location: &'a Location,
-    node: Node<'a>,
+    node: Subject<'_, 'a>,
     trail: &Trail<'_, 'a>,
     sink: &mut ErrorSink<'a>,
 ) -> Result<(), Stop>
     requires { wants_one sink.now ≡ true }
     ensures { Ends result sink.old sink.new
-        (of_leaf K.Leaf leaf.now (data_of node.entry) location.now (path_at trail.now)) }
+        (of_leaf K.Leaf leaf.now (subject_data node.entry) location.now (path_at trail.now)) }
 {
-    match leaf.validate(sink.alloc(), node)? {
+    match leaf.validate(sink.alloc(), node.node())? {
         Some(text) => {
             let keyword = leaf.keyword();
             let kind = ValidationErrorKind::Leaf { keyword, text };
@@ -146,16 +146,16 @@ fn report_one_text<'a, K: Leaf>(
 fn report_each_text<'a, K: Leaf>(
     leaf: &'a K,
     location: &'a Location,
-    node: Node<'a>,
+    node: Subject<'_, 'a>,
     trail: &Trail<'_, 'a>,
     sink: &mut ErrorSink<'a>,
 ) -> Result<(), Stop>
     requires { wants_one sink.now ≡ false }
     ensures { Ends result sink.old sink.new
-        (of_leaf K.Leaf leaf.now (data_of node.entry) location.now (path_at trail.now)) }
+        (of_leaf K.Leaf leaf.now (subject_data node.entry) location.now (path_at trail.now)) }
 {
     let mut texts = Vec::new(sink.alloc());
-    leaf.collect_errors(sink.alloc(), node, &mut texts)?;
+    leaf.collect_errors(sink.alloc(), node.node(), &mut texts)?;
     let keyword = leaf.keyword();
     for text in texts {
         let kind = ValidationErrorKind::Leaf { keyword, text };

@@ -1,21 +1,21 @@
 //! `not`: its errors.
 use crate::{ErrorSink, Stop, Walk};
-use olk_base::{Node, ValidationContext};
-use olk_check::IsValid;
+use olk_base::{Subject, ValidationContext};
+use olk_check::{Check, accepts};
 use olk_paths::Trail;
 use olk_reports::ValidationErrorKind;
 use olk_tree::not::Not;
 
-impl<'a, N: IsValid> Walk<'a> for Not<N> {
+impl<'a, N: Check> Walk<'a> for Not<N> {
     #[inline(never)]
     fn walk(
         &'a self,
-        node: Node<'a>,
+        node: Subject<'_, 'a>,
         trail: &Trail<'_, 'a>,
         ctx: &mut ValidationContext,
         sink: &mut ErrorSink<'a>,
     ) -> Result<(), Stop> {
-        if !self.node.is_valid(node, ctx) {
+        if !accepts(&self.node, node, ctx) {
             return Ok(());
         }
         let kind = ValidationErrorKind::Not {

@@ -1,15 +1,16 @@
 //! `oneOf`: its errors.
 ghost use Rattle.std.specs.Prelude.{map, IfOk};
-ghost use Rattle.olk_base.specs.Nodes.{data_of};
+ghost use Rattle.olk_base.specs.Nodes.{subject_data};
 ghost use Rattle.olk_paths.specs.Trails.{path_at};
-ghost use Rattle.olk_tree.specs.Questions.{how_many};
-ghost use Rattle.olk_check.specs.Asks.{OnlyAsks};
+ghost use Rattle.olk_tree.specs.Questions.{how_many, exactly_one};
+ghost use Rattle.olk_check.specs.Asks.{Asks, OnlyAsks};
+ghost use Rattle.olk_check.specs.Accepting.{IsHowMany, is_one};
 ghost use Rattle.olk_errors.specs.Outcomes.{IsKindOfOneOf};
 
 use crate::branches::{contexts, one_context};
 use crate::{ErrorSink, Stop, Walk};
-use olk_base::{Node, ValidationContext};
-use olk_check::{Accepting, IsValid, how_many_accept};
+use olk_base::{Subject, ValidationContext};
+use olk_check::{Accepting, Check, accepts, how_many_accept};
 use olk_paths::Trail;
 use olk_reports::ValidationErrorKind;
 use olk_tree::one_of::{OneOf, SingleOneOf};
@@ -19,7 +20,7 @@ impl<'a, N: Walk<'a>> Walk<'a> for OneOf<N> {
     #[inline(never)]
     fn walk(
         &'a self,
-        node: Node<'a>,
+        node: Subject<'_, 'a>,
         trail: &Trail<'_, 'a>,
         ctx: &mut ValidationContext,
         sink: &mut ErrorSink<'a>,
@@ -31,22 +32,41 @@ impl<'a, N: Walk<'a>> Walk<'a> for OneOf<N> {
     }
 }
 
+/// How many of the branches accept the subject; one choice is made, and none below it.
+#[inline(always)]
+fn accepting<N: Check>(
+    schemas: &Vec<N>,
+    node: Subject<'_, '_>,
+    ctx: &mut ValidationContext,
+) -> Accepting
+    ensures asks { Asks ctx.old ctx.new
+        (exactly_one (λ n. N.means n (subject_data node.entry)) schemas.now.items)
+        (is_one result) }
+    ensures count { IsHowMany result
+        (how_many (λ n. N.means n (subject_data node.entry)) ctx.old.answer schemas.now.items) }
+{
+    match node {
+        Subject::Value(value) => how_many_accept(schemas, value, ctx),
+        Subject::Name(name) => how_many_accept(schemas, *name, ctx),
+    }
+}
+
 /// What is wrong where not exactly one of the branches accepts; they are all asked before any error
 /// is looked for.
 fn one_of_kind<'a, N: Walk<'a>>(
     alloc: Global,
     schemas: &'a Vec<N>,
-    node: Node<'a>,
+    node: Subject<'_, 'a>,
     trail: &Trail<'_, 'a>,
     ctx: &mut ValidationContext,
 ) -> Result<Option<ValidationErrorKind<'a>>, AllocError>
     ensures kind { IfOk result (IsKindOfOneOf
-        (how_many (λ n. N.means n (data_of node.entry)) ctx.old.answer schemas.now.items)
-        (map (λ n. N.report n ctx.old.answer (data_of node.entry) (path_at trail.now))
+        (how_many (λ n. N.means n (subject_data node.entry)) ctx.old.answer schemas.now.items)
+        (map (λ n. N.report n ctx.old.answer (subject_data node.entry) (path_at trail.now))
         schemas.now.items)) }
     ensures context { OnlyAsks ctx.old ctx.new }
 {
-    match how_many_accept(schemas, node, ctx) {
+    match accepting(schemas, node, ctx) {
         Accepting::Zero => {
             let context = contexts(alloc, schemas, node, trail, ctx)?;
             Ok(Some(ValidationErrorKind::OneOfNotValid { context }))
@@ -63,12 +83,12 @@ impl<'a, N: Walk<'a>> Walk<'a> for SingleOneOf<N> {
     #[inline(never)]
     fn walk(
         &'a self,
-        node: Node<'a>,
+        node: Subject<'_, 'a>,
         trail: &Trail<'_, 'a>,
         ctx: &mut ValidationContext,
         sink: &mut ErrorSink<'a>,
     ) -> Result<(), Stop> {
-        if self.node.is_valid(node, ctx) {
+        if accepts(&self.node, node, ctx) {
             return Ok(());
         }
         let context = one_context(sink.alloc(), &self.node, node, trail, ctx)?;

@@ -8,7 +8,7 @@ ghost use Rattle.olk_errors.specs.Sinks.{wants_one, Walks};
 
 use crate::properties::walk_below;
 use crate::{ErrorSink, Stop, Walk};
-use olk_base::{CompiledPattern, Node, RegexEngine, ValidationContext};
+use olk_base::{CompiledPattern, RegexEngine, Subject, ValidationContext};
 use olk_check::matches;
 use olk_paths::Trail;
 use olk_tree::pattern_properties::{PatternProperties, SingleValuePatternProperties};
@@ -18,7 +18,7 @@ impl<'a, R: RegexEngine, N: Walk<'a>> Walk<'a> for PatternProperties<R, N> {
     #[inline(never)]
     fn walk(
         &'a self,
-        node: Node<'a>,
+        node: Subject<'_, 'a>,
         trail: &Trail<'_, 'a>,
         ctx: &mut ValidationContext,
         sink: &mut ErrorSink<'a>,
@@ -34,7 +34,7 @@ impl<'a, R: RegexEngine, N: Walk<'a>> Walk<'a> for SingleValuePatternProperties<
     #[inline(never)]
     fn walk(
         &'a self,
-        node: Node<'a>,
+        node: Subject<'_, 'a>,
         trail: &Trail<'_, 'a>,
         ctx: &mut ValidationContext,
         sink: &mut ErrorSink<'a>,

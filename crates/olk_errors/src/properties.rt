@@ -10,7 +10,7 @@ ghost use Rattle.olk_errors.specs.Sinks.{Walks};
 
 use crate::required::report_if_missing;
 use crate::{ErrorSink, Stop, Walk};
-use olk_base::{Node, ValidationContext};
+use olk_base::{Subject, ValidationContext};
 use olk_paths::Trail;
 use olk_tree::declared::DeclaredMembers;
 use olk_tree::entries::{SortedEntries, node_among};
@@ -22,7 +22,7 @@ impl<'a, N: Walk<'a>> Walk<'a> for Properties<N> {
     #[inline(never)]
     fn walk(
         &'a self,
-        node: Node<'a>,
+        node: Subject<'_, 'a>,
         trail: &Trail<'_, 'a>,
         ctx: &mut ValidationContext,
         sink: &mut ErrorSink<'a>,
@@ -38,7 +38,7 @@ impl<'a, N: Walk<'a>> Walk<'a> for SmallPropertiesWithRequired2<N> {
     #[inline(never)]
     fn walk(
         &'a self,
-        node: Node<'a>,
+        node: Subject<'_, 'a>,
         trail: &Trail<'_, 'a>,
         ctx: &mut ValidationContext,
         sink: &mut ErrorSink<'a>,
@@ -155,5 +155,5 @@ pub(crate) fn walk_below<'a, N: Walk<'a>>(
         (one_below (path_at trail.now) name.now)) }
 {
     let below = Trail::Below(&*trail, name);
-    subschema.walk(Node::Value(value), &below, ctx, sink)
+    subschema.walk(Subject::Value(value), &below, ctx, sink)
 }

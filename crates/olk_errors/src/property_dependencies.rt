@@ -1,7 +1,7 @@
 //! `propertyDependencies`: its errors.
 ghost use Rattle.std.specs.Prelude.{◌≡◌};
 ghost use Rattle.serde_json.specs.View.{view};
-ghost use Rattle.olk_base.specs.Nodes.{data_of};
+ghost use Rattle.olk_base.specs.Nodes.{subject_data};
 ghost use Rattle.olk_paths.specs.Trails.{path_at};
 ghost use Rattle.olk_tree.specs.Maps.{named};
 ghost use Rattle.olk_tree.specs.PropertyDependencies.{chosen_at, chosen_nodes};
@@ -10,7 +10,7 @@ ghost use Rattle.olk_errors.specs.Outcomes.{of_branches};
 ghost use Rattle.olk_errors.specs.Sinks.{Walks};
 
 use crate::{ErrorSink, Stop, Walk};
-use olk_base::{Node, ValidationContext};
+use olk_base::{Subject, ValidationContext};
 use olk_paths::Trail;
 use olk_tree::map::SmallMap;
 use olk_tree::property_dependencies::PropertyDependencies;
@@ -21,7 +21,7 @@ impl<'a, N: Walk<'a>> Walk<'a> for PropertyDependencies<N> {
     #[inline(never)]
     fn walk(
         &'a self,
-        node: Node<'a>,
+        node: Subject<'_, 'a>,
         trail: &Trail<'_, 'a>,
         ctx: &mut ValidationContext,
         sink: &mut ErrorSink<'a>,
@@ -37,16 +37,16 @@ impl<'a, N: Walk<'a>> Walk<'a> for PropertyDependencies<N> {
 fn walk_chosen<'a, N: Walk<'a>>(
     dependencies: &'a SmallMap<SmallMap<N>>,
     members: &'a Map<String, Value>,
-    object: Node<'a>,
+    object: Subject<'_, 'a>,
     trail: &Trail<'_, 'a>,
     ctx: &mut ValidationContext,
     sink: &mut ErrorSink<'a>,
 ) -> Result<(), Stop>
-    requires { data_of object ≡ object_of members.now.entries }
+    requires { subject_data object ≡ object_of members.now.entries }
     ensures { Walks result sink.old sink.new ctx.old ctx.new
         (of_branches N.means N.first N.report ctx.old.answer
-        (chosen_nodes (named dependencies.now) (data_of object.entry)) (data_of object.entry)
-        (path_at trail.now)) }
+        (chosen_nodes (named dependencies.now) (subject_data object.entry))
+        (subject_data object.entry) (path_at trail.now)) }
 {
     for (_, choices, value) in dependencies.declared_members(members) {
         walk_choice(choices, value, object, trail, ctx, sink)?;
@@ -58,14 +58,14 @@ fn walk_chosen<'a, N: Walk<'a>>(
 fn walk_choice<'a, N: Walk<'a>>(
     choices: &'a SmallMap<N>,
     value: &Value,
-    object: Node<'a>,
+    object: Subject<'_, 'a>,
     trail: &Trail<'_, 'a>,
     ctx: &mut ValidationContext,
     sink: &mut ErrorSink<'a>,
 ) -> Result<(), Stop>
     ensures { Walks result sink.old sink.new ctx.old ctx.new
         (of_branches N.means N.first N.report ctx.old.answer
-        (chosen_at choices.now (view value.now)) (data_of object.entry) (path_at trail.now)) }
+        (chosen_at choices.now (view value.now)) (subject_data object.entry) (path_at trail.now)) }
 {
     match choices.chosen_by(value) {
         Some(dependency) => dependency.walk(object, trail, ctx, sink),

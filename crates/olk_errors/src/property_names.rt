@@ -1,6 +1,6 @@
 //! `propertyNames`: its errors.
 ghost use Rattle.std.specs.Prelude.{◌≡◌, true, false, IfOk, string_bytes};
-ghost use Rattle.olk_base.specs.Nodes.{data_of};
+ghost use Rattle.olk_base.specs.Nodes.{subject_data};
 ghost use Rattle.olk_paths.specs.Trails.{path_at};
 ghost use Rattle.olk_spec.specs.Reports.{wrapped};
 ghost use Rattle.olk_reports.specs.Errors.{fault_of};
@@ -10,8 +10,8 @@ ghost use Rattle.olk_errors.specs.Sinks.{wants_one, Walks, Takes};
 
 use crate::branches::{errors_of, first_error_of};
 use crate::{ErrorSink, Stop, Walk};
-use olk_base::{Node, ValidationContext};
-use olk_check::IsValid;
+use olk_base::{Subject, ValidationContext};
+use olk_check::accepts;
 use olk_paths::{PathText, Trail};
 use olk_reports::{ValidationError, ValidationErrorKind};
 use olk_tree::property_names::{PropertyNames, PropertyNamesFalse};
@@ -22,7 +22,7 @@ impl<'a, N: Walk<'a>> Walk<'a> for PropertyNames<N> {
     #[inline(never)]
     fn walk(
         &'a self,
-        node: Node<'a>,
+        node: Subject<'_, 'a>,
         trail: &Trail<'_, 'a>,
         ctx: &mut ValidationContext,
         sink: &mut ErrorSink<'a>,
@@ -38,12 +38,12 @@ impl<'a> Walk<'a> for PropertyNamesFalse {
     #[inline(never)]
     fn walk(
         &'a self,
-        node: Node<'a>,
+        node: Subject<'_, 'a>,
         trail: &Trail<'_, 'a>,
         ctx: &mut ValidationContext,
         sink: &mut ErrorSink<'a>,
     ) -> Result<(), Stop> {
-        if self.is_valid(node, ctx) {
+        if accepts(self, node, ctx) {
             return Ok(());
         }
         let kind = ValidationErrorKind::FalseSchema;
@@ -55,15 +55,15 @@ impl<'a> Walk<'a> for PropertyNamesFalse {
 fn walk_names<'a, N: Walk<'a>>(
     subschema: &'a N,
     members: &'a Map<String, Value>,
-    object: Node<'a>,
+    object: Subject<'_, 'a>,
     trail: &Trail<'_, 'a>,
     ctx: &mut ValidationContext,
     sink: &mut ErrorSink<'a>,
 ) -> Result<(), Stop>
-    requires { data_of object ≡ object_of members.now.entries }
+    requires { subject_data object ≡ object_of members.now.entries }
     ensures { Walks result sink.old sink.new ctx.old ctx.new
-        (of_asked_names N.means N.first N.report ctx.old.answer subschema.now (data_of object.entry)
-        (path_at trail.now)) }
+        (of_asked_names N.means N.first N.report ctx.old.answer subschema.now
+        (subject_data object.entry) (path_at trail.now)) }
 {
     for (name, _) in members {
         walk_name(subschema, name, object, trail, ctx, sink)?;
@@ -75,14 +75,14 @@ fn walk_names<'a, N: Walk<'a>>(
 fn walk_name<'a, N: Walk<'a>>(
     subschema: &'a N,
     name: &'a String,
-    object: Node<'a>,
+    object: Subject<'_, 'a>,
     trail: &Trail<'_, 'a>,
     ctx: &mut ValidationContext,
     sink: &mut ErrorSink<'a>,
 ) -> Result<(), Stop>
     ensures { Walks result sink.old sink.new ctx.old ctx.new
-        (of_asked_name N.means N.first N.report ctx.old.answer subschema.now (data_of object.entry)
-        (string_bytes name.now) (path_at trail.now)) }
+        (of_asked_name N.means N.first N.report ctx.old.answer subschema.now
+        (subject_data object.entry) (string_bytes name.now) (path_at trail.now)) }
 {
     if sink.wants_one() {
         take_first_of_name(subschema, name, object, trail, ctx, sink)
@@ -95,17 +95,18 @@ fn walk_name<'a, N: Walk<'a>>(
 fn take_first_of_name<'a, N: Walk<'a>>(
     subschema: &'a N,
     name: &'a String,
-    object: Node<'a>,
+    object: Subject<'_, 'a>,
     trail: &Trail<'_, 'a>,
     ctx: &mut ValidationContext,
     sink: &mut ErrorSink<'a>,
 ) -> Result<(), Stop>
     requires { wants_one sink.now ≡ true }
     ensures { Walks result sink.old sink.new ctx.old ctx.new
-        (of_asked_name N.means N.first N.report ctx.old.answer subschema.now (data_of object.entry)
-        (string_bytes name.now) (path_at trail.now)) }
+        (of_asked_name N.means N.first N.report ctx.old.answer subschema.now
+        (subject_data object.entry) (string_bytes name.now) (path_at trail.now)) }
 {
-    match first_error_of(sink.alloc(), subschema, Node::Name(name), trail, ctx)? {
+    let name = name.as_str();
+    match first_error_of(sink.alloc(), subschema, Subject::Name(&name), trail, ctx)? {
         Some(error) => take_wrapped(error, object, trail, sink),
         None => Ok(()),
     }
@@ -115,17 +116,18 @@ fn take_first_of_name<'a, N: Walk<'a>>(
 fn take_all_of_name<'a, N: Walk<'a>>(
     subschema: &'a N,
     name: &'a String,
-    object: Node<'a>,
+    object: Subject<'_, 'a>,
     trail: &Trail<'_, 'a>,
     ctx: &mut ValidationContext,
     sink: &mut ErrorSink<'a>,
 ) -> Result<(), Stop>
     requires { wants_one sink.now ≡ false }
     ensures { Walks result sink.old sink.new ctx.old ctx.new
-        (of_asked_name N.means N.first N.report ctx.old.answer subschema.now (data_of object.entry)
-        (string_bytes name.now) (path_at trail.now)) }
+        (of_asked_name N.means N.first N.report ctx.old.answer subschema.now
+        (subject_data object.entry) (string_bytes name.now) (path_at trail.now)) }
 {
-    let errors = errors_of(sink.alloc(), subschema, Node::Name(name), trail, ctx)?;
+    let name = name.as_str();
+    let errors = errors_of(sink.alloc(), subschema, Subject::Name(&name), trail, ctx)?;
     for error in errors {
         take_wrapped(error, object, trail, sink)?;
     }
@@ -135,15 +137,15 @@ fn take_all_of_name<'a, N: Walk<'a>>(
 /// Takes the error of a member's name, told of the object.
 fn take_wrapped<'a>(
     error: ValidationError<'a>,
-    object: Node<'a>,
+    object: Subject<'_, 'a>,
     trail: &Trail<'_, 'a>,
     sink: &mut ErrorSink<'a>,
 ) -> Result<(), Stop>
     ensures { Takes result sink.old sink.new
-        (wrapped (data_of object.entry) (path_at trail.now) (fault_of error.entry)) }
+        (wrapped (subject_data object.entry) (path_at trail.now) (fault_of error.entry)) }
 {
     let (error, instance_path) = boxed_at(sink.alloc(), error, trail)?;
-    sink.take(ValidationError::wrapping(error, object, instance_path))
+    sink.take(ValidationError::wrapping_at(error, object.node(), instance_path))
 }
 
 /// The value in a box, and the text of the path to which the trail leads.

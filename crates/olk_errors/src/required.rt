@@ -1,6 +1,6 @@
 //! `required`: its errors.
 ghost use Rattle.std.specs.Prelude.{◌≡◌, ◌∷◌, []};
-ghost use Rattle.olk_base.specs.Nodes.{data_of};
+ghost use Rattle.olk_base.specs.Nodes.{subject_data};
 ghost use Rattle.olk_spec.specs.Faults.{Required, fault};
 ghost use Rattle.olk_paths.specs.Trails.{path_at};
 ghost use Rattle.olk_tree.specs.Maps.{texts_of};
@@ -9,7 +9,7 @@ ghost use Rattle.olk_errors.specs.Outcomes.{of_names};
 ghost use Rattle.olk_errors.specs.Sinks.{Ends, Takes};
 
 use crate::{ErrorSink, Stop, Walk};
-use olk_base::{Node, ValidationContext};
+use olk_base::{Subject, ValidationContext};
 use olk_check::is_present;
 use olk_paths::{Location, Trail};
 use olk_reports::ValidationErrorKind;
@@ -21,7 +21,7 @@ impl<'a> Walk<'a> for RequiredValidator {
     #[tactic(auto, using(olk_check::proofs::Asked::only_same, crate::proofs::Sinks::walks_alone))]
     fn walk(
         &'a self,
-        node: Node<'a>,
+        node: Subject<'_, 'a>,
         trail: &Trail<'_, 'a>,
         _ctx: &mut ValidationContext,
         sink: &mut ErrorSink<'a>,
@@ -40,13 +40,13 @@ fn walk_missing<'a>(
     names: &'a Vec<String>,
     location: &'a Location,
     members: &Map<String, Value>,
-    node: Node<'a>,
+    node: Subject<'_, 'a>,
     trail: &Trail<'_, 'a>,
     sink: &mut ErrorSink<'a>,
 ) -> Result<(), Stop>
-    requires { data_of node ≡ object_of members.now.entries }
+    requires { subject_data node ≡ object_of members.now.entries }
     ensures { Ends result sink.old sink.new
-        (of_names (texts_of names.now.items) (data_of node.entry) location.now
+        (of_names (texts_of names.now.items) (subject_data node.entry) location.now
         (path_at trail.now)) }
 {
     for name in names {
@@ -61,13 +61,13 @@ pub(crate) fn report_if_missing<'a>(
     name: &'a str,
     location: &'a Location,
     members: &Map<String, Value>,
-    node: Node<'a>,
+    node: Subject<'_, 'a>,
     trail: &Trail<'_, 'a>,
     sink: &mut ErrorSink<'a>,
 ) -> Result<(), Stop>
-    requires { data_of node ≡ object_of members.now.entries }
+    requires { subject_data node ≡ object_of members.now.entries }
     ensures { Ends result sink.old sink.new
-        (of_names (name.now ∷ []) (data_of node.entry) location.now (path_at trail.now)) }
+        (of_names (name.now ∷ []) (subject_data node.entry) location.now (path_at trail.now)) }
 {
     if is_present(members, name) {
         return Ok(());
@@ -80,12 +80,12 @@ pub(crate) fn report_if_missing<'a>(
 fn report_absent<'a>(
     name: &'a str,
     location: &'a Location,
-    node: Node<'a>,
+    node: Subject<'_, 'a>,
     trail: &Trail<'_, 'a>,
     sink: &mut ErrorSink<'a>,
 ) -> Result<(), Stop>
     ensures { Takes result sink.old sink.new
-        (fault (Required name.now) (data_of node.entry) (path_at trail.now) location.now) }
+        (fault (Required name.now) (subject_data node.entry) (path_at trail.now) location.now) }
 {
     let kind = ValidationErrorKind::Required { property: name };
     sink.report(kind, node, trail, location.as_str())

@@ -1,12 +1,12 @@
 //! What takes the errors of a walk.
 ghost use Rattle.std.specs.Prelude.{◌≡◌, [], true, false, option_to_list};
-ghost use Rattle.olk_base.specs.Nodes.{data_of};
+ghost use Rattle.olk_base.specs.Nodes.{subject_data};
 ghost use Rattle.olk_paths.specs.Trails.{path_at};
 ghost use Rattle.olk_reports.specs.Errors.{kind_of, fault_of};
 ghost use Rattle.olk_spec.specs.Faults.{fault};
 ghost use Rattle.olk_errors.specs.Sinks.{wants_one, held, Takes};
 
-use olk_base::{Node, append};
+use olk_base::{Subject, append};
 use olk_paths::Trail;
 use olk_reports::{ValidationError, ValidationErrorKind};
 use std::alloc::{AllocError, Global};
@@ -89,15 +89,16 @@ impl<'a> ErrorSink<'a> {
     pub fn report(
         &mut self,
         kind: ValidationErrorKind<'a>,
-        node: Node<'a>,
+        node: Subject<'_, 'a>,
         trail: &Trail<'_, 'a>,
         schema_path: &'a str,
     ) -> Result<(), Stop>
         ensures { Takes result self.old self.new
-            (fault (kind_of kind.entry) (data_of node.entry) (path_at trail.now) schema_path.now) }
+            (fault (kind_of kind.entry) (subject_data node.entry)
+            (path_at trail.now) schema_path.now) }
     {
         let instance_path = trail.text(self.alloc)?;
-        self.take(ValidationError::at(kind, node, instance_path, schema_path))
+        self.take(ValidationError::at(kind, node.node(), instance_path, schema_path))
     }
 
     /// Takes the error.

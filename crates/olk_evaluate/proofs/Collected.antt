@@ -9,8 +9,7 @@ use Rattle.olk_base.specs.Lawful.{Asking}
 use Rattle.olk_base.specs.Compiled.{pattern_answers}
 use Rattle.olk_base.specs.declared.pattern.CompiledPattern.{CompiledPattern}
 use Rattle.olk_tree.specs.Questions.{Question}
-use Rattle.olk_tree.specs.Additional.{known_at, known_or, is_matched_by, matching_from, sides_of}
-use Rattle.olk_tree.specs.declared.additional_properties.AdditionalProperties.{AdditionalProperties}
+use Rattle.olk_tree.specs.Additional.{Sides, known_at, known_or, is_matched_by, matching_from}
 use Rattle.olk_reports.specs.Evaluations.{Shown}
 use Rattle.olk_evaluate.specs.Wanted.{Wanted, ShowsMore}
 use Rattle.olk_evaluate.specs.Additional.{Found, Collects, CollectsMore, names_of, nodes_wanted, member_found}
@@ -61,12 +60,6 @@ collects_all {f} no_name no_match h shown = record {
 
 -- ---- a member
 
-pub none_is : {A : Type 0} (o : Option A) (b : Bool) → is_some o ≡ not b → b ≡ is_none o
-none_is None true e = refl
-none_is None false e = cc
-none_is (Some x) true e = cc
-none_is (Some x) false e = refl
-
 -- a member, and what speaks of it
 pub record Member (R N : Type 0) : Type 0 where
   pub answers : R → Name → Says
@@ -74,14 +67,15 @@ pub record Member (R N : Type 0) : Type 0 where
   pub means : N → Data → Question
   pub asking : Asking
   pub path : Path
-  pub keyword : AdditionalProperties R N
+  pub sides : Sides R N
+  pub named : Bool
   pub declared : Option (ℕ × N)
   pub name : Name
   pub value : Data
 
 module _ {R N : Type 0} (w : Member R N) where
   abbrev pub all_found : Found
-  all_found = member_found w.answers w.tree w.means w.asking.answer w.path w.keyword w.declared w.name w.value
+  all_found = member_found w.answers w.tree w.means w.asking.answer w.path w.sides w.named w.declared w.name w.value
 
   abbrev wanted_of : List N → List Wanted
   wanted_of = nodes_wanted w.tree w.means w.asking.answer w.path w.name w.value
@@ -92,36 +86,36 @@ module _ {R N : Type 0} (w : Member R N) where
 
   -- a pattern's node, if the pattern matches
   abbrev pub match_here : N → Bool → Found
-  match_here e b = record { wanted = wanted_of (put_if b e []); additional = []; matched = cond (is_none w.keyword.properties) (put_if b w.name []) [] }
+  match_here e b = record { wanted = wanted_of (put_if b e []); additional = []; matched = cond w.named (put_if b w.name []) [] }
 
   -- the rest, where nothing else speaks of it
   abbrev pub rest_here : Found
-  rest_here = record { wanted = wanted_of (option_to_list w.keyword.rest); additional = w.name ∷ []; matched = [] }
+  rest_here = record { wanted = wanted_of (option_to_list w.sides.rest); additional = w.name ∷ []; matched = [] }
 
   -- what is left, where these nodes are asked and something else speaks of it or nothing does
   abbrev left_with : Bool → Bool → List N → Found
   left_with shows spoken ns = record {
-    wanted = wanted_of (ns ++ cond (not spoken && is_empty ns) (option_to_list w.keyword.rest) []);
+    wanted = wanted_of (ns ++ cond (not spoken && is_empty ns) (option_to_list w.sides.rest) []);
     additional = put_if (not spoken && is_empty ns) w.name [];
     matched = cond shows (map (λ e. w.name) ns) [];
   }
 
   abbrev matching : ℕ → List (CompiledPattern R × N) → List N
-  matching i es = matching_from w.answers (sides_of w.keyword) w.declared w.name w.asking.answer i es
+  matching i es = matching_from w.answers w.sides w.declared w.name w.asking.answer i es
 
   -- what is left from a pattern on
   abbrev pub patterns_left : Bool → ℕ → List (CompiledPattern R × N) → Found
-  patterns_left spoken i es = left_with (is_none w.keyword.properties) spoken (matching i es)
+  patterns_left spoken i es = left_with w.named spoken (matching i es)
 
-  pub after_declared : both_found declared_here (patterns_left (is_some w.declared) 0 (sides_of w.keyword).patterns) ≡ all_found
-  after_declared = by w.declared (matching 0 (sides_of w.keyword).patterns)
+  pub after_declared : both_found declared_here (patterns_left (is_some w.declared) 0 w.sides.patterns) ≡ all_found
+  after_declared = by w.declared (matching 0 w.sides.patterns)
     where
       by : (d : Option (ℕ × N)) (ns : List N) → both_found (record { wanted = wanted_of (option_to_list (option_map (λ f. f.1) d)); additional = []; matched = [] })
-          (left_with (is_none w.keyword.properties) (is_some d) ns)
+          (left_with w.named (is_some d) ns)
           ≡ record {
-            wanted = wanted_of (option_to_list (option_map (λ f. f.1) d) ++ (ns ++ cond (is_none d && is_empty ns) (option_to_list w.keyword.rest) []));
+            wanted = wanted_of (option_to_list (option_map (λ f. f.1) d) ++ (ns ++ cond (is_none d && is_empty ns) (option_to_list w.sides.rest) []));
             additional = put_if (is_none d && is_empty ns) w.name [];
-            matched = cond (is_none w.keyword.properties) (map (λ e. w.name) ns) [];
+            matched = cond w.named (map (λ e. w.name) ns) [];
           }
       by None ns = refl
       by (Some f) ns = refl
@@ -147,21 +141,21 @@ module _ {R N : Type 0} (w : Member R N) where
 
   module _ (spoken : Bool) (i : ℕ) {es : List (CompiledPattern R × N)} where
     pub after_pattern : {e : CompiledPattern R × N} {more : List (CompiledPattern R × N)} {b : Bool} → es ≡ e ∷ more → b ≡ is_matched_by w.answers
-        (sides_of w.keyword) w.declared w.name w.asking.answer i e.0 → both_found (match_here e.1 b) (patterns_left (spoken || b) (i + 1) more) ≡ patterns_left spoken i es
-    after_pattern {e} {more} {b} next is = match_or_not (is_none w.keyword.properties) spoken b e.1 (matching (i + 1) more)
-        ∙ ap (λ c. left_with (is_none w.keyword.properties) spoken (put_if c e.1 (matching (i + 1) more))) is
+        w.sides w.declared w.name w.asking.answer i e.0 → both_found (match_here e.1 b) (patterns_left (spoken || b) (i + 1) more) ≡ patterns_left spoken i es
+    after_pattern {e} {more} {b} next is = match_or_not w.named spoken b e.1 (matching (i + 1) more)
+        ∙ ap (λ c. left_with w.named spoken (put_if c e.1 (matching (i + 1) more))) is
         ∙ ap (patterns_left spoken i) (sym next)
 
     pub spoken_of : es ≡ [] → spoken ≡ true → patterns_left spoken i es ≡ nothing_found
-    spoken_of none is = ap (patterns_left spoken i) none ∙ ap (λ b. left_with (is_none w.keyword.properties) b []) is ∙ left_at_end (is_none w.keyword.properties)
+    spoken_of none is = ap (patterns_left spoken i) none ∙ ap (λ b. left_with w.named b []) is ∙ left_at_end w.named
 
     pub left_to_rest : es ≡ [] → spoken ≡ false → patterns_left spoken i es ≡ rest_here
-    left_to_rest none is = ap (patterns_left spoken i) none ∙ ap (λ b. left_with (is_none w.keyword.properties) b []) is ∙ rest_at_end (is_none w.keyword.properties)
+    left_to_rest none is = ap (patterns_left spoken i) none ∙ ap (λ b. left_with w.named b []) is ∙ rest_at_end w.named
 
 -- what is declared and the patterns before i are done
 pub record OnTheWay {R N : Type 0} (w : Member R N) (spoken : Bool) (i : ℕ) (P : Path) (b : Asking) (old new : Collected) (s r : Shown) : Type 0 where
   pub kept : Kept w.path P w.asking b
-  pub grows : Grows (all_found w) (patterns_left w spoken i (drop i (sides_of w.keyword).patterns)) old new s r
+  pub grows : Grows (all_found w) (patterns_left w spoken i (drop i w.sides.patterns)) old new s r
 
 module _ {R N : Type 0} {w : Member R N} {s r : Shown} where
   pub declared_done : {spoken : Bool} {P : Path} {b : Asking} {old : Collected} → spoken ≡ is_some w.declared
@@ -169,7 +163,7 @@ module _ {R N : Type 0} {w : Member R N} {s r : Shown} where
       → Kept w.path P w.asking b → OnTheWay w spoken 0 P b old old s r
   declared_done {old = old} is shown kept = record {
     kept = kept;
-    grows = grows_more (declared_here w) (ap (λ s. both_found (declared_here w) (patterns_left w s 0 (sides_of w.keyword).patterns)) is ∙ after_declared w) (record { goes_on = λ end q k. k })
+    grows = grows_more (declared_here w) (ap (λ s. both_found (declared_here w) (patterns_left w s 0 w.sides.patterns)) is ∙ after_declared w) (record { goes_on = λ end q k. k })
         (record { additional = sym (append-nil (names_of old.additional.items)); matched = sym (append-nil (names_of old.matched.items)); shown = shown });
   }
 
@@ -180,33 +174,33 @@ module _ {R N : Type 0} {w : Member R N} {s r : Shown} where
     name_if false true = refl
     name_if false false = refl
 
-    pub pattern_done : {e : CompiledPattern R × N} {known : Says} {shows matches : Bool} {S : Path} {c : Asking} {newer : Collected} {q : Shown}
-        → drop i (sides_of w.keyword).patterns ≡ e ∷ drop (i + 1) (sides_of w.keyword).patterns → known ≡ known_at (sides_of w.keyword) w.declared i
-        → matches ≡ reads_as b.answer (known_or known (pattern_answers w.answers e.0 w.name)) → shows ≡ is_none w.keyword.properties
+    pub pattern_done : {e : CompiledPattern R × N} {known : Says} {matches : Bool} {S : Path} {c : Asking} {newer : Collected} {q : Shown}
+        → drop i w.sides.patterns ≡ e ∷ drop (i + 1) w.sides.patterns → known ≡ known_at w.sides w.declared i
+        → matches ≡ reads_as b.answer (known_or known (pattern_answers w.answers e.0 w.name))
         → ShowsMore (nodes_wanted w.tree w.means b.answer P w.name w.value (put_if matches e.1 [])) r q
-        → newer.additional.items ≡ new.additional.items → names_of newer.matched.items ≡ names_of new.matched.items ++ cond (matches && shows) (w.name ∷ []) []
+        → newer.additional.items ≡ new.additional.items → names_of newer.matched.items ≡ names_of new.matched.items ++ cond (matches && w.named) (w.name ∷ []) []
         → Kept P S b c → OnTheWay w (spoken || matches) (i + 1) S c old newer s q
-    pattern_done {e} {known} {shows} {matches} {q = q} next is verdict shown found same names kept = record {
+    pattern_done {e} {known} {matches} {q = q} next is verdict found same names kept = record {
       kept = kept_then loop.kept kept;
       grows = grows_more (match_here w e.1 matches)
           (after_pattern w spoken i next (verdict ∙ (λ j. reads_as (loop.kept.only.answer j) (known_or (is j) (pattern_answers w.answers e.0 w.name)))))
           loop.grows (record {
             additional = ap names_of same ∙ sym (append-nil (names_of new.additional.items));
-            matched = names ∙ ap (λ l. names_of new.matched.items ++ l) (name_if shows matches ∙ ap (λ b. cond b (put_if matches w.name []) []) shown);
+            matched = names ∙ ap (λ l. names_of new.matched.items ++ l) (name_if w.named matches);
             shown = as_before (λ u Q. ShowsMore (nodes_wanted w.tree w.means u Q w.name w.value (put_if matches e.1 [])) r q) loop.kept found;
           });
     }
 
-    pub patterns_done : drop i (sides_of w.keyword).patterns ≡ [] → spoken ≡ true → CollectsMore (all_found w) old new s r
+    pub patterns_done : drop i w.sides.patterns ≡ [] → spoken ≡ true → CollectsMore (all_found w) old new s r
     patterns_done none is = grows_last nothing_found (spoken_of w spoken i none is) loop.grows (collects_nothing new r)
 
-    pub rest_done : {newer : Collected} {q : Shown} → drop i (sides_of w.keyword).patterns ≡ [] → spoken ≡ false
+    pub rest_done : {newer : Collected} {q : Shown} → drop i w.sides.patterns ≡ [] → spoken ≡ false
         → names_of newer.additional.items ≡ names_of new.additional.items ++ w.name ∷ [] → newer.matched.items ≡ new.matched.items
-        → ShowsMore (nodes_wanted w.tree w.means b.answer P w.name w.value (option_to_list w.keyword.rest)) r q → CollectsMore (all_found w) old newer s q
+        → ShowsMore (nodes_wanted w.tree w.means b.answer P w.name w.value (option_to_list w.sides.rest)) r q → CollectsMore (all_found w) old newer s q
     rest_done {q = q} none is name same found = grows_last (rest_here w) (left_to_rest w spoken i none is) loop.grows (record {
       additional = name;
       matched = ap names_of same ∙ sym (append-nil (names_of new.matched.items));
-      shown = as_before (λ u Q. ShowsMore (nodes_wanted w.tree w.means u Q w.name w.value (option_to_list w.keyword.rest)) r q) loop.kept found;
+      shown = as_before (λ u Q. ShowsMore (nodes_wanted w.tree w.means u Q w.name w.value (option_to_list w.sides.rest)) r q) loop.kept found;
     })
 
 -- what stands at a name, as it is lent and as it is

@@ -1,4 +1,5 @@
 -- Errors that a keyword shows itself.
+use mathlib.Core.Path.{subst₂}
 use Rattle.std.proofs.Common.{◌≡◌, ℕ, ◌+◌, ◌==◌, ◌<◌, ◌≤◌, length, get_or, drop, String, Global, Bor, string_bytes, Bool, true, false, not, ◌&&◌, arith, List, [], ◌∷◌, ◌++◌, map, Option, Some, None, refl, sym, ap, subst, ◌∙◌, append_assoc}
 use Rattle.std.specs.List.{list_all}
 use Rattle.std.proofs.lemmas.List.{append-nil, at_drop_more, drop_all}
@@ -29,9 +30,9 @@ use Rattle.olk_evaluate.proofs.Children.{emptiness_of, trees_wanted, all_wanted,
 pub adds_none : (s : Shown) → AddsErrors [] s s
 adds_none s = record { own = []; told = tt; is = refl }
 
--- the same of another kind
-pub adds_as : {j k : Kind} {v : Data} {P Q : Path} {s r : Shown} → j ≡ k → AddsErrors (fault j v Q P ∷ []) s r → AddsErrors (fault k v Q P ∷ []) s r
-adds_as {v = v} {P} {Q} {s} {r} e h = subst (λ k. AddsErrors (fault k v Q P ∷ []) s r) e h
+-- the same kind of the same value, as both are told
+pub adds_as : {j k : Kind} {v w : Data} {P Q : Path} {s r : Shown} → j ≡ k → v ≡ w → AddsErrors (fault j v Q P ∷ []) s r → AddsErrors (fault k w Q P ∷ []) s r
+adds_as {P = P} {Q} {s} {r} kind value h = subst₂ (λ k v. AddsErrors (fault k v Q P ∷ []) s r) kind value h
 
 errored_both : (ds es : List Described) (s : Shown) → errored_by es (errored_by ds s) ≡ errored_by (ds ++ es) s
 errored_both [] es s = refl

@@ -1,12 +1,12 @@
 //! What `additionalProperties` and its neighbours meet of the members of an object.
-ghost use Rattle.std.specs.Prelude.{◌≡◌, ◌++◌, ◌∷◌, [], cond, option_map, option_to_list, OnOk};
+ghost use Rattle.std.specs.Prelude.{◌≡◌, ◌++◌, ◌∷◌, [], cond, option_copied, option_map, option_to_list, OnOk};
 ghost use Rattle.serde_json.specs.View.{view, members_view};
 ghost use Rattle.olk_base.specs.Compiled.{pattern_answers};
 ghost use Rattle.olk_spec.specs.Names.{put_if};
 ghost use Rattle.olk_spec.specs.Schemas.{listed};
 ghost use Rattle.olk_spec.specs.World.{reads_as};
 ghost use Rattle.olk_reports.specs.Evaluations.{shown_of};
-ghost use Rattle.olk_tree.specs.Additional.{known_or};
+ghost use Rattle.olk_tree.specs.Additional.{known_or, sides_seen};
 ghost use Rattle.olk_tree.specs.Tables.{known_says};
 ghost use Rattle.olk_evaluate.specs.Additional.{Collects, CollectsMore, member_found, members_found, names_of, nodes_wanted};
 ghost use Rattle.olk_evaluate.specs.Shows.{Shows};
@@ -17,7 +17,7 @@ use crate::{EvaluationContext, Located};
 use olk_base::{CompiledPattern, RegexEngine};
 use olk_check::matches_unless_known;
 use olk_reports::EvaluationResult;
-use olk_tree::additional_properties::AdditionalProperties;
+use olk_tree::additional_properties::SidesOf;
 use serde_json::{Map, Value};
 use std::alloc::AllocError;
 
@@ -42,15 +42,18 @@ fn push_if<'a>(names: &mut Vec<&'a str>, name: &'a str, is_shown: bool) -> Resul
     Ok(())
 }
 
-/// What is met of the members, in their order.
+/// What is met of the members, in their order; with a name for each match, if these are shown.
+#[inline(always)]
 pub(crate) fn collect<'a, R: RegexEngine, N: Located<'a>>(
-    keyword: &'a AdditionalProperties<R, N>,
+    sides: SidesOf<'a, R, N>,
+    shows_matches: bool,
     members: &'a Map<String, Value>,
     ctx: &mut EvaluationContext,
     outcome: &mut EvaluationResult<'a>,
 ) -> Result<Collected<'a>, AllocError>
     ensures { Shows result ctx.old ctx.new (λ c. Collects
-        (members_found R.answers N.tree N.means ctx.old.validation.answer ctx.old.path keyword.now
+        (members_found R.answers N.tree N.means ctx.old.validation.answer ctx.old.path
+        (sides_seen sides.entry) shows_matches
         (listed (members_view members.now.entries))) c
         (shown_of outcome.old) (shown_of outcome.new)) }
 {
@@ -63,10 +66,11 @@ pub(crate) fn collect<'a, R: RegexEngine, N: Located<'a>>(
     let mut hint = 0;
     for (name, value) in members {
         let name = name.as_str();
-        let (next, declared) = keyword.declared_from(hint, name);
+        let (next, declared) = sides.declared_from(hint, name);
         hint = next;
         collect_member(
-            keyword,
+            sides,
+            shows_matches,
             declared,
             (name, value),
             ctx,
@@ -79,8 +83,10 @@ pub(crate) fn collect<'a, R: RegexEngine, N: Located<'a>>(
 
 /// A member: what is declared at its name, the patterns that match it, and, where neither speaks of
 /// it, the rest.
+#[inline(always)]
 fn collect_member<'a, R: RegexEngine, N: Located<'a>>(
-    keyword: &'a AdditionalProperties<R, N>,
+    sides: SidesOf<'a, R, N>,
+    shows_matches: bool,
     declared: Option<(usize, &'a N)>,
     member: (&'a str, &'a Value),
     ctx: &mut EvaluationContext,
@@ -88,25 +94,25 @@ fn collect_member<'a, R: RegexEngine, N: Located<'a>>(
     collected: &mut Collected<'a>,
 ) -> Result<(), AllocError>
     ensures { Shows result ctx.old ctx.new (λ _. CollectsMore
-        (member_found R.answers N.tree N.means ctx.old.validation.answer ctx.old.path keyword.now
+        (member_found R.answers N.tree N.means ctx.old.validation.answer ctx.old.path
+        (sides_seen sides.entry) shows_matches
         (option_map (λ f. (f.0, f.1.now)) declared.entry)
         member.entry.0.now (view member.entry.1.now))
         collected.old collected.new (shown_of outcome.old) (shown_of outcome.new)) }
 {
     show_declared(declared, member, ctx, outcome)?;
-    let are_shown = keyword.properties.is_none();
     let mut spoken = declared.is_some();
-    for (index, entry) in keyword.patterns().iter().enumerate() {
-        let known = keyword.known(declared, index);
+    for (index, entry) in sides.patterns.iter().enumerate() {
+        let known = sides.known(declared, index);
         let is_match = show_if_matched(entry, known, member, ctx, outcome)?;
-        push_if(&mut collected.matched, member.0, is_match & are_shown)?;
+        push_if(&mut collected.matched, member.0, is_match & shows_matches)?;
         spoken |= is_match;
     }
     if spoken {
         return Ok(());
     }
     collected.additional.push(member.0)?;
-    show_rest(&keyword.rest, member, ctx, outcome)
+    show_rest(sides.rest, member, ctx, outcome)
 }
 
 /// What is declared at a member's name, if anything is.
@@ -155,14 +161,14 @@ fn show_if_matched<'a, R: RegexEngine, N: Located<'a>>(
 /// What the rest shows of a member, if there is a rest.
 #[inline(always)]
 fn show_rest<'a, N: Located<'a>>(
-    rest: &'a Option<N>,
+    rest: Option<&'a N>,
     member: (&'a str, &'a Value),
     ctx: &mut EvaluationContext,
     outcome: &mut EvaluationResult<'a>,
 ) -> Result<(), AllocError>
     ensures { Shows result ctx.old ctx.new (λ _. ShowsMore
         (nodes_wanted N.tree N.means ctx.old.validation.answer ctx.old.path
-        member.entry.0.now (view member.entry.1.now) (option_to_list rest.now))
+        member.entry.0.now (view member.entry.1.now) (option_to_list (option_copied rest.entry)))
         (shown_of outcome.old) (shown_of outcome.new)) }
 {
     match rest {

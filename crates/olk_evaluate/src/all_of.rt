@@ -1,7 +1,7 @@
 //! `allOf`: what it shows.
 use crate::walk::{show_each, show_one};
 use crate::{EvaluationContext, Located, Show};
-use olk_base::Node;
+use olk_base::Subject;
 use olk_reports::EvaluationResult;
 use olk_tree::all_of::{AllOf, SingleValueAllOf};
 use std::alloc::AllocError;
@@ -17,7 +17,7 @@ impl<'a, N: Located<'a>> Show<'a> for AllOf<N> {
     #[inline(never)]
     fn show(
         &'a self,
-        node: Node<'a>,
+        node: Subject<'_, 'a>,
         ctx: &mut EvaluationContext,
         outcome: &mut EvaluationResult<'a>,
     ) -> Result<(), AllocError> {
@@ -36,7 +36,7 @@ impl<'a, N: Located<'a>> Show<'a> for SingleValueAllOf<N> {
     #[inline(never)]
     fn show(
         &'a self,
-        node: Node<'a>,
+        node: Subject<'_, 'a>,
         ctx: &mut EvaluationContext,
         outcome: &mut EvaluationResult<'a>,
     ) -> Result<(), AllocError> {

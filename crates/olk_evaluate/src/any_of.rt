@@ -1,14 +1,14 @@
 //! `anyOf`: what it shows.
 ghost use Rattle.std.specs.Prelude.{◌≡◌};
-ghost use Rattle.olk_base.specs.Nodes.{data_of};
+ghost use Rattle.olk_base.specs.Nodes.{subject_data};
 ghost use Rattle.olk_reports.specs.Evaluations.{nothing_shown, shown_of};
 ghost use Rattle.olk_evaluate.specs.Shows.{Shows};
 ghost use Rattle.olk_evaluate.specs.Wanted.{ShowsAccepting};
 
 use crate::walk::{add_child, show_each, show_one};
 use crate::{EvaluationContext, Located, Show};
-use olk_base::Node;
-use olk_check::IsValid;
+use olk_base::Subject;
+use olk_check::accepts;
 use olk_reports::EvaluationResult;
 use olk_tree::any_of::{AnyOf, SingleAnyOf};
 use std::alloc::AllocError;
@@ -25,7 +25,7 @@ impl<'a, N: Located<'a>> Show<'a> for AnyOf<N> {
     #[inline(never)]
     fn show(
         &'a self,
-        node: Node<'a>,
+        node: Subject<'_, 'a>,
         ctx: &mut EvaluationContext,
         outcome: &mut EvaluationResult<'a>,
     ) -> Result<(), AllocError> {
@@ -45,7 +45,7 @@ impl<'a, N: Located<'a>> Show<'a> for SingleAnyOf<N> {
     #[inline(never)]
     fn show(
         &'a self,
-        node: Node<'a>,
+        node: Subject<'_, 'a>,
         ctx: &mut EvaluationContext,
         outcome: &mut EvaluationResult<'a>,
     ) -> Result<(), AllocError> {
@@ -58,17 +58,17 @@ impl<'a, N: Located<'a>> Show<'a> for SingleAnyOf<N> {
 #[inline(always)]
 pub(crate) fn show_accepting<'a, N: Located<'a>>(
     schemas: &'a Vec<N>,
-    node: Node<'a>,
+    node: Subject<'_, 'a>,
     ctx: &mut EvaluationContext,
     outcome: &mut EvaluationResult<'a>,
 ) -> Result<usize, AllocError>
     requires { shown_of outcome.old ≡ nothing_shown }
     ensures { Shows result ctx.old ctx.new (λ count. ShowsAccepting
         N.tree N.means ctx.old.validation.answer
-        schemas.now.items (data_of node.entry) ctx.old.path count (shown_of outcome.new)) }
+        schemas.now.items (subject_data node.entry) ctx.old.path count (shown_of outcome.new)) }
 {
     for schema in schemas {
-        if !schema.is_valid(node, &mut ctx.validation) {
+        if !accepts(schema, node, &mut ctx.validation) {
             continue;
         }
         add_child(schema, node, ctx, outcome)?;

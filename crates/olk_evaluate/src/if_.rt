@@ -1,14 +1,14 @@
 //! `if`, `then` and `else`: what they show.
 ghost use Rattle.std.specs.Prelude.{◌∷◌, []};
-ghost use Rattle.olk_base.specs.Nodes.{data_of};
+ghost use Rattle.olk_base.specs.Nodes.{subject_data};
 ghost use Rattle.olk_reports.specs.Evaluations.{shown_of};
 ghost use Rattle.olk_evaluate.specs.Shows.{Shows};
 ghost use Rattle.olk_evaluate.specs.Wanted.{ShowsMore, each_wanted};
 
 use crate::walk::{add_child, show_one};
 use crate::{EvaluationContext, Located, Show};
-use olk_base::Node;
-use olk_check::IsValid;
+use olk_base::Subject;
+use olk_check::accepts;
 use olk_reports::EvaluationResult;
 use olk_tree::if_::{IfElse, IfThen, IfThenElse};
 use std::alloc::AllocError;
@@ -24,11 +24,11 @@ impl<'a, N: Located<'a>> Show<'a> for IfThen<N> {
     #[inline(never)]
     fn show(
         &'a self,
-        node: Node<'a>,
+        node: Subject<'_, 'a>,
         ctx: &mut EvaluationContext,
         outcome: &mut EvaluationResult<'a>,
     ) -> Result<(), AllocError> {
-        if !self.schema.is_valid(node, &mut ctx.validation) {
+        if !accepts(&self.schema, node, &mut ctx.validation) {
             return Ok(());
         }
         show_both(&self.schema, &self.then_schema, node, ctx, outcome)
@@ -46,11 +46,11 @@ impl<'a, N: Located<'a>> Show<'a> for IfElse<N> {
     #[inline(never)]
     fn show(
         &'a self,
-        node: Node<'a>,
+        node: Subject<'_, 'a>,
         ctx: &mut EvaluationContext,
         outcome: &mut EvaluationResult<'a>,
     ) -> Result<(), AllocError> {
-        if self.schema.is_valid(node, &mut ctx.validation) {
+        if accepts(&self.schema, node, &mut ctx.validation) {
             show_one(&self.schema, node, ctx, outcome)
         } else {
             show_one(&self.else_schema, node, ctx, outcome)
@@ -70,11 +70,11 @@ impl<'a, N: Located<'a>> Show<'a> for IfThenElse<N> {
     #[inline(never)]
     fn show(
         &'a self,
-        node: Node<'a>,
+        node: Subject<'_, 'a>,
         ctx: &mut EvaluationContext,
         outcome: &mut EvaluationResult<'a>,
     ) -> Result<(), AllocError> {
-        if self.schema.is_valid(node, &mut ctx.validation) {
+        if accepts(&self.schema, node, &mut ctx.validation) {
             show_both(&self.schema, &self.then_schema, node, ctx, outcome)
         } else {
             show_one(&self.else_schema, node, ctx, outcome)
@@ -86,13 +86,13 @@ impl<'a, N: Located<'a>> Show<'a> for IfThenElse<N> {
 fn show_both<'a, N: Located<'a>>(
     first: &'a N,
     second: &'a N,
-    node: Node<'a>,
+    node: Subject<'_, 'a>,
     ctx: &mut EvaluationContext,
     outcome: &mut EvaluationResult<'a>,
 ) -> Result<(), AllocError>
     ensures { Shows result ctx.old ctx.new (λ _. ShowsMore
         (each_wanted N.tree N.means ctx.old.validation.answer
-        (first.now ∷ second.now ∷ []) (data_of node.entry) ctx.old.path)
+        (first.now ∷ second.now ∷ []) (subject_data node.entry) ctx.old.path)
         (shown_of outcome.old) (shown_of outcome.new)) }
 {
     outcome.children.reserve_exact(2)?;

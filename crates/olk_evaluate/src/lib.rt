@@ -5,8 +5,8 @@
 
 ghost use Rattle.serde_json.specs.Data.{Data};
 
-use olk_base::{Node, ValidationContext};
-use olk_check::IsValid;
+use olk_base::{Node, Subject, ValidationContext};
+use olk_check::Check;
 use olk_paths::InstancePath;
 use olk_reports::EvaluationResult;
 use std::alloc::{AllocError, Global};
@@ -21,10 +21,13 @@ pub struct EvaluationContext {
     pub validation: ValidationContext,
 }
 
-/// What writes what it shows of a value, which stands at its place.
-pub trait Show<'a>: IsValid {
+/// What writes what it shows of a value, which stands at its place, into a result that shows nothing
+/// yet.
+///
+/// Each validator implements it; callers ask by `Evaluate`.
+pub trait Show<'a>: Check {
     ghost use Rattle.std.specs.Prelude.{◌≡◌, Bool};
-    ghost use Rattle.olk_base.specs.Nodes.{data_of};
+    ghost use Rattle.olk_base.specs.Nodes.{subject_data};
     ghost use Rattle.olk_spec.specs.Names.{Path};
     ghost use Rattle.olk_spec.specs.Tree.{Tree};
     ghost use Rattle.olk_reports.specs.Evaluations.{node_at, nothing_shown, shown_of};
@@ -49,18 +52,18 @@ pub trait Show<'a>: IsValid {
     /// Out of memory. The result then shows no more than a part.
     fn show(
         &'a self,
-        node: Node<'a>,
+        node: Subject<'_, 'a>,
         ctx: &mut EvaluationContext,
         outcome: &mut EvaluationResult<'a>,
     ) -> Result<(), AllocError>
         requires { shown_of outcome.old ≡ nothing_shown }
         ensures { Shows result ctx.old ctx.new (λ _. IsShown
             (wanted tree Self.means ctx.old.validation.answer
-            self.now (data_of node.entry) ctx.old.path)
+            self.now (subject_data node.entry) ctx.old.path)
             (node_at (place self.now) ctx.old.path (shown_of outcome.new))) };
 }
 
-/// What stands at a place of a schema, and tells it.
+/// What stands at a place of a schema, and tells it: what a validator may hold as a node.
 pub trait Located<'a>: Show<'a> {
     ghost use Rattle.std.specs.Prelude.{◌≡◌};
 
@@ -69,7 +72,7 @@ pub trait Located<'a>: Show<'a> {
         ensures { result.now ≡ Self.place self.now };
 }
 
-/// What can be asked what it shows of a value: all that shows.
+/// What can be asked what it shows of a value: all that shows. Implement `Show`.
 pub trait Evaluate<'a>: Show<'a> {
     ghost use Rattle.std.specs.Prelude.{◌≡◌, IfOk};
     ghost use Rattle.olk_base.specs.Nodes.{data_of};
@@ -117,7 +120,7 @@ impl<'a, S: Show<'a>> Evaluate<'a> for S {
             path: mem::replace(path, InstancePath::new(alloc)),
             validation: mem::replace(ctx, empty),
         };
-        let shown = self.show(node, &mut inner, &mut outcome);
+        let shown = self.show(Subject::of(&node), &mut inner, &mut outcome);
         *path = inner.path;
         *ctx = inner.validation;
         shown?;
@@ -139,6 +142,7 @@ mod properties;
 mod property_dependencies;
 mod property_names;
 mod required;
+mod sides;
 mod walk;
 
 pub use node::show_body;

@@ -1,6 +1,6 @@
 //! Keywords and bodies: what they show.
 ghost use Rattle.std.specs.Prelude.{◌≡◌, OnOk};
-ghost use Rattle.olk_base.specs.Nodes.{data_of};
+ghost use Rattle.olk_base.specs.Nodes.{subject_data};
 ghost use Rattle.olk_reports.specs.Evaluations.{nothing_shown, shown_of};
 ghost use Rattle.olk_evaluate.specs.Shows.{Shows};
 ghost use Rattle.olk_evaluate.specs.Wanted.{HasTexts, ShowsBody};
@@ -8,7 +8,7 @@ ghost use Rattle.olk_evaluate.specs.Wanted.{HasTexts, ShowsBody};
 use crate::required::add_missing;
 use crate::walk::show_each;
 use crate::{EvaluationContext, Located, Show};
-use olk_base::{Leaf, Node, RegexEngine};
+use olk_base::{Leaf, RegexEngine, Subject, leaf_accepts};
 use olk_reports::{ErrorDescription, EvaluationResult, ValidationErrorKind};
 use olk_tree::node::{Body, KeywordOver};
 use std::alloc::AllocError;
@@ -24,7 +24,7 @@ impl<'a, K: Leaf, R: RegexEngine, N: Located<'a>> Show<'a> for KeywordOver<K, R,
 
     fn show(
         &'a self,
-        node: Node<'a>,
+        node: Subject<'_, 'a>,
         ctx: &mut EvaluationContext,
         outcome: &mut EvaluationResult<'a>,
     ) -> Result<(), AllocError> {
@@ -65,14 +65,15 @@ impl<'a, K: Leaf, R: RegexEngine, N: Located<'a>> Located<'a> for KeywordOver<K,
 /// The texts of a leaf as errors.
 fn show_leaf<'a, K: Leaf>(
     leaf: &'a K,
-    node: Node<'a>,
+    node: Subject<'_, 'a>,
     outcome: &mut EvaluationResult<'a>,
 ) -> Result<(), AllocError>
     requires { shown_of outcome.old ≡ nothing_shown }
     ensures { OnOk result (HasTexts
-        (K.keyword_of leaf.now) (K.finds leaf.now (data_of node.entry)) (shown_of outcome.new)) }
+        (K.keyword_of leaf.now) (K.finds leaf.now (subject_data node.entry))
+        (shown_of outcome.new)) }
 {
-    if leaf.is_valid(node) {
+    if leaf_accepts(leaf, node) {
         return Ok(());
     }
     add_texts(leaf, node, outcome)
@@ -82,14 +83,15 @@ fn show_leaf<'a, K: Leaf>(
 #[inline(never)]
 fn add_texts<'a, K: Leaf>(
     leaf: &'a K,
-    node: Node<'a>,
+    node: Subject<'_, 'a>,
     outcome: &mut EvaluationResult<'a>,
 ) -> Result<(), AllocError>
     requires { shown_of outcome.old ≡ nothing_shown }
     ensures { OnOk result (HasTexts
-        (K.keyword_of leaf.now) (K.finds leaf.now (data_of node.entry)) (shown_of outcome.new)) }
+        (K.keyword_of leaf.now) (K.finds leaf.now (subject_data node.entry))
+        (shown_of outcome.new)) }
 {
-    for text in leaf.evaluate(outcome.allocator(), node)? {
+    for text in leaf.evaluate(outcome.allocator(), node.node())? {
         outcome.mark_errored(ErrorDescription::new(leaf.keyword(), text))?;
     }
     Ok(())
@@ -104,20 +106,20 @@ fn add_texts<'a, K: Leaf>(
 /// Out of memory.
 pub fn show_body<'a, W: Located<'a>>(
     body: &'a Body<W>,
-    node: Node<'a>,
+    node: Subject<'_, 'a>,
     ctx: &mut EvaluationContext,
     outcome: &mut EvaluationResult<'a>,
 ) -> Result<(), AllocError>
     requires { shown_of outcome.old ≡ nothing_shown }
     ensures { Shows result ctx.old ctx.new (λ _. ShowsBody
         W.tree W.means ctx.old.validation.answer
-        body.now (data_of node.entry) ctx.old.path (shown_of outcome.new)) }
+        body.now (subject_data node.entry) ctx.old.path (shown_of outcome.new)) }
 {
     match body {
         Body::True => Ok(()),
         Body::False => {
             let kind: ValidationErrorKind<'a> = ValidationErrorKind::FalseSchema;
-            outcome.mark_errored_by(kind, node)
+            outcome.mark_errored_by(kind, node.node())
         }
         Body::Keywords(keywords) => show_each(keywords, node, ctx, outcome),
         Body::RequiredNames(required) => add_missing(outcome, required, node),

@@ -1,7 +1,7 @@
 //! `not`: what it shows.
 use crate::{EvaluationContext, Located, Show};
-use olk_base::Node;
-use olk_check::IsValid;
+use olk_base::Subject;
+use olk_check::accepts;
 use olk_reports::{EvaluationResult, ValidationErrorKind};
 use olk_tree::not::Not;
 use std::alloc::AllocError;
@@ -18,16 +18,16 @@ impl<'a, N: Located<'a>> Show<'a> for Not<N> {
     #[inline(never)]
     fn show(
         &'a self,
-        node: Node<'a>,
+        node: Subject<'_, 'a>,
         ctx: &mut EvaluationContext,
         outcome: &mut EvaluationResult<'a>,
     ) -> Result<(), AllocError> {
-        if !self.node.is_valid(node, &mut ctx.validation) {
+        if !accepts(&self.node, node, &mut ctx.validation) {
             return Ok(());
         }
         let kind: ValidationErrorKind<'a> = ValidationErrorKind::Not {
             schema: &self.original,
         };
-        outcome.mark_errored_by(kind, node)
+        outcome.mark_errored_by(kind, node.node())
     }
 }

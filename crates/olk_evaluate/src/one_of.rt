@@ -2,7 +2,7 @@
 use crate::any_of::show_accepting;
 use crate::walk::show_one;
 use crate::{EvaluationContext, Located, Show};
-use olk_base::Node;
+use olk_base::Subject;
 use olk_reports::{ErrorDescription, EvaluationResult};
 use olk_tree::one_of::{OneOf, SingleOneOf};
 use std::alloc::AllocError;
@@ -19,7 +19,7 @@ impl<'a, N: Located<'a>> Show<'a> for OneOf<N> {
     #[inline(never)]
     fn show(
         &'a self,
-        node: Node<'a>,
+        node: Subject<'_, 'a>,
         ctx: &mut EvaluationContext,
         outcome: &mut EvaluationResult<'a>,
     ) -> Result<(), AllocError> {
@@ -43,7 +43,7 @@ impl<'a, N: Located<'a>> Show<'a> for SingleOneOf<N> {
     #[inline(never)]
     fn show(
         &'a self,
-        node: Node<'a>,
+        node: Subject<'_, 'a>,
         ctx: &mut EvaluationContext,
         outcome: &mut EvaluationResult<'a>,
     ) -> Result<(), AllocError> {

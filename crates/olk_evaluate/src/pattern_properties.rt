@@ -7,7 +7,7 @@ ghost use Rattle.olk_evaluate.specs.Shows.{Shows};
 
 use crate::properties::{make_room, show_member};
 use crate::{EvaluationContext, Located, Show};
-use olk_base::{CompiledPattern, Node, RegexEngine};
+use olk_base::{CompiledPattern, RegexEngine, Subject};
 use olk_check::matches;
 use olk_reports::EvaluationResult;
 use olk_tree::pattern_properties::{PatternProperties, SingleValuePatternProperties};
@@ -26,7 +26,7 @@ impl<'a, R: RegexEngine, N: Located<'a>> Show<'a> for PatternProperties<R, N> {
     #[inline(never)]
     fn show(
         &'a self,
-        node: Node<'a>,
+        node: Subject<'_, 'a>,
         ctx: &mut EvaluationContext,
         outcome: &mut EvaluationResult<'a>,
     ) -> Result<(), AllocError> {
@@ -54,7 +54,7 @@ impl<'a, R: RegexEngine, N: Located<'a>> Show<'a> for SingleValuePatternProperti
     #[inline(never)]
     fn show(
         &'a self,
-        node: Node<'a>,
+        node: Subject<'_, 'a>,
         ctx: &mut EvaluationContext,
         outcome: &mut EvaluationResult<'a>,
     ) -> Result<(), AllocError> {

@@ -13,7 +13,7 @@ ghost use Rattle.olk_evaluate.specs.Wanted.{ShowsMore, wanted};
 use crate::required::add_missing_child;
 use crate::walk::add_child;
 use crate::{EvaluationContext, Located, Show};
-use olk_base::Node;
+use olk_base::Subject;
 use olk_reports::EvaluationResult;
 use olk_tree::declared::DeclaredMembers;
 use olk_tree::entries::SortedEntries;
@@ -34,7 +34,7 @@ impl<'a, N: Located<'a>> Show<'a> for Properties<N> {
     #[inline(never)]
     fn show(
         &'a self,
-        node: Node<'a>,
+        node: Subject<'_, 'a>,
         ctx: &mut EvaluationContext,
         outcome: &mut EvaluationResult<'a>,
     ) -> Result<(), AllocError> {
@@ -62,7 +62,7 @@ impl<'a, N: Located<'a>> Show<'a> for SmallPropertiesWithRequired2<N> {
     #[inline(never)]
     fn show(
         &'a self,
-        node: Node<'a>,
+        node: Subject<'_, 'a>,
         ctx: &mut EvaluationContext,
         outcome: &mut EvaluationResult<'a>,
     ) -> Result<(), AllocError> {
@@ -140,7 +140,7 @@ pub(crate) fn add_child_below<'a, N: Located<'a>>(
         (shown_of outcome.old) (shown_of outcome.new)) }
 {
     let mark = ctx.path.push(member.0)?;
-    let added = add_child(subschema, Node::Value(member.1), ctx, outcome);
+    let added = add_child(subschema, Subject::Value(member.1), ctx, outcome);
     ctx.path.pop(mark);
     added
 }

@@ -1,7 +1,7 @@
 //! `propertyDependencies`: what it shows.
 use crate::walk::add_child;
 use crate::{EvaluationContext, Located, Show};
-use olk_base::Node;
+use olk_base::Subject;
 use olk_reports::EvaluationResult;
 use olk_tree::property_dependencies::PropertyDependencies;
 use olk_tree::validators_map::PropertiesValidatorsMap;
@@ -19,7 +19,7 @@ impl<'a, N: Located<'a>> Show<'a> for PropertyDependencies<N> {
     #[inline(never)]
     fn show(
         &'a self,
-        node: Node<'a>,
+        node: Subject<'_, 'a>,
         ctx: &mut EvaluationContext,
         outcome: &mut EvaluationResult<'a>,
     ) -> Result<(), AllocError> {

@@ -1,7 +1,7 @@
 //! `propertyNames`: what it shows.
 use crate::walk::add_child;
 use crate::{EvaluationContext, Located, Show};
-use olk_base::Node;
+use olk_base::Subject;
 use olk_reports::{EvaluationResult, ValidationErrorKind};
 use olk_tree::property_names::{PropertyNames, PropertyNamesFalse};
 use std::alloc::AllocError;
@@ -17,7 +17,7 @@ impl<'a, N: Located<'a>> Show<'a> for PropertyNames<N> {
     #[inline(never)]
     fn show(
         &'a self,
-        node: Node<'a>,
+        node: Subject<'_, 'a>,
         ctx: &mut EvaluationContext,
         outcome: &mut EvaluationResult<'a>,
     ) -> Result<(), AllocError> {
@@ -26,7 +26,8 @@ impl<'a, N: Located<'a>> Show<'a> for PropertyNames<N> {
         };
         outcome.children.reserve_exact(members.len())?;
         for (name, _) in members {
-            add_child(&self.node, Node::Name(name), ctx, outcome)?;
+            let name = name.as_str();
+            add_child(&self.node, Subject::Name(&name), ctx, outcome)?;
         }
         Ok(())
     }
@@ -43,7 +44,7 @@ impl<'a> Show<'a> for PropertyNamesFalse {
     #[inline(never)]
     fn show(
         &'a self,
-        node: Node<'a>,
+        node: Subject<'_, 'a>,
         _ctx: &mut EvaluationContext,
         outcome: &mut EvaluationResult<'a>,
     ) -> Result<(), AllocError> {
@@ -53,7 +54,7 @@ impl<'a> Show<'a> for PropertyNamesFalse {
                     return Ok(());
                 }
                 let kind: ValidationErrorKind<'a> = ValidationErrorKind::FalseSchema;
-                outcome.mark_errored_by(kind, node)
+                outcome.mark_errored_by(kind, node.node())
             }
             None => Ok(()),
         }

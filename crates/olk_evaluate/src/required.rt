@@ -1,6 +1,6 @@
 //! `required`: what it shows.
 ghost use Rattle.std.specs.Prelude.{◌≡◌, ◌∷◌, [], not, map, OnOk, string_bytes};
-ghost use Rattle.olk_base.specs.Nodes.{data_of};
+ghost use Rattle.olk_base.specs.Nodes.{subject_data};
 ghost use Rattle.olk_spec.specs.Names.{Path};
 ghost use Rattle.olk_spec.specs.Faults.{fault, Required};
 ghost use Rattle.olk_spec.specs.Schemas.{has};
@@ -11,11 +11,10 @@ ghost use Rattle.olk_tree.specs.Visited.{object_of};
 ghost use Rattle.olk_evaluate.specs.Wanted.{ShowsMore, refused, lacking_trees};
 
 use crate::{EvaluationContext, Show};
-use olk_base::Node;
+use olk_base::Subject;
 use olk_meaning::has_member;
-use olk_paths::InstancePath;
+use olk_paths::{InstancePath, Location};
 use olk_reports::{EvaluationNode, EvaluationResult, ValidationErrorKind};
-use olk_tree::additional_properties::RequiredName;
 use olk_tree::properties::SmallPropertiesWithRequired2;
 use olk_tree::required::RequiredValidator;
 use serde_json::{Map, Value};
@@ -33,7 +32,7 @@ impl<'a> Show<'a> for RequiredValidator {
     #[inline(never)]
     fn show(
         &'a self,
-        node: Node<'a>,
+        node: Subject<'_, 'a>,
         _ctx: &mut EvaluationContext,
         outcome: &mut EvaluationResult<'a>,
     ) -> Result<(), AllocError> {
@@ -45,10 +44,10 @@ impl<'a> Show<'a> for RequiredValidator {
 pub(crate) fn add_missing<'a>(
     outcome: &mut EvaluationResult<'a>,
     required: &'a RequiredValidator,
-    node: Node<'a>,
+    node: Subject<'_, 'a>,
 ) -> Result<(), AllocError>
     ensures { OnOk result ((P Q : Path) → AddsErrors
-        (required_faults (texts_of required.now.required.items) (data_of node.entry) P Q)
+        (required_faults (texts_of required.now.required.items) (subject_data node.entry) P Q)
         (shown_of outcome.old) (shown_of outcome.new)) }
 {
     match node.as_object() {
@@ -67,31 +66,31 @@ fn add_error_if_missing<'a>(
     outcome: &mut EvaluationResult<'a>,
     name: &'a str,
     members: &Map<String, Value>,
-    node: Node<'a>,
+    node: Subject<'_, 'a>,
 ) -> Result<(), AllocError>
     ensures { OnOk result ((P Q : Path) → AddsErrors
         (fault_if (not (has name.now (object_of members.now.entries)))
-        (Required name.now) (data_of node.entry) P Q)
+        (Required name.now) (subject_data node.entry) P Q)
         (shown_of outcome.old) (shown_of outcome.new)) }
 {
     if has_member(members, name) {
         return Ok(());
     }
     let kind: ValidationErrorKind<'a> = ValidationErrorKind::Required { property: name };
-    outcome.mark_errored_by(kind, node)
+    outcome.mark_errored_by(kind, node.node())
 }
 
 /// A child more at the place of `required`, where one of two names is no member.
 pub(crate) fn add_missing_child<'a, N>(
     keyword: &'a SmallPropertiesWithRequired2<N>,
     members: &Map<String, Value>,
-    node: Node<'a>,
+    node: Subject<'_, 'a>,
     path: &InstancePath,
     outcome: &mut EvaluationResult<'a>,
 ) -> Result<(), AllocError>
     ensures { OnOk result (ShowsMore
         (refused (lacking_trees (two_texts keyword.now.first keyword.now.second)
-        (data_of node.entry) (object_of members.now.entries)
+        (subject_data node.entry) (object_of members.now.entries)
         keyword.now.required_location path.now))
         (shown_of outcome.old) (shown_of outcome.new)) }
 {
@@ -111,28 +110,27 @@ pub(crate) fn add_missing_child<'a, N>(
 
 /// A child more at the place of `required`, where the name is no member.
 pub(crate) fn add_missing_name<'a>(
-    required: &'a RequiredName,
+    name: &'a String,
+    location: &'a Location,
     members: &Map<String, Value>,
-    node: Node<'a>,
+    node: Subject<'_, 'a>,
     path: &InstancePath,
     outcome: &mut EvaluationResult<'a>,
 ) -> Result<(), AllocError>
     ensures { OnOk result (ShowsMore
-        (refused (lacking_trees (string_bytes required.now.name ∷ [])
-        (data_of node.entry) (object_of members.now.entries) required.now.location path.now))
+        (refused (lacking_trees (string_bytes name.now ∷ [])
+        (subject_data node.entry) (object_of members.now.entries) location.now path.now))
         (shown_of outcome.old) (shown_of outcome.new)) }
 {
-    let name = required.name.as_str();
+    let name = name.as_str();
     if has_member(members, name) {
         return Ok(());
     }
     outcome.mark_invalid();
     let last = outcome.children.len();
-    EvaluationNode::push_at(
-        &mut outcome.children,
-        required.location.as_str(),
-        path.as_str(),
-    )?;
+    EvaluationNode::push_at(&mut outcome.children, location.as_str(), path.as_str())?;
     let kind: ValidationErrorKind<'a> = ValidationErrorKind::Required { property: name };
-    outcome.children[last].result.mark_errored_by(kind, node)
+    outcome.children[last]
+        .result
+        .mark_errored_by(kind, node.node())
 }

@@ -31,7 +31,7 @@ impl Leaf for Word {
         match node {
             Node::Value(Value::String(text)) => text.as_str() == self.text.as_str(),
             Node::Value(_) => true,
-            Node::Name(name) => name.as_str() == self.text.as_str(),
+            Node::Name(name) => name == self.text.as_str(),
         }
     }
 

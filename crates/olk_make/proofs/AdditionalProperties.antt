@@ -1,5 +1,5 @@
 -- What holds `additionalProperties`, with all that it takes over.
-use Rattle.std.specs.Prelude.{◌≡◌, ◌<◌, ℕ, suc, Bool, true, false, ◌||◌, List, [], ◌∷◌, ◌++◌, map, zip, length, slice_get, slice_index_or as get_or, codes, Option, Some, None, is_some, option_map, option_to_list, unwrap_or, cond, Vec, Box, ◌&&◌}
+use Rattle.std.specs.Prelude.{◌≡◌, ◌<◌, ℕ, suc, Bool, true, false, not, ◌||◌, List, [], ◌∷◌, ◌++◌, map, zip, length, slice_get, slice_index_or as get_or, codes, Option, Some, None, is_some, option_map, option_to_list, cond, Vec, ◌&&◌}
 use Rattle.std.specs.declared.alloc.Global.{Global}
 use Rattle.std.specs.Ordering.{nat_cmp, is_eq}
 use Rattle.std.specs.Cmp.Lexicographic.{slice_cmp}
@@ -7,9 +7,8 @@ use Rattle.std.proofs.Common.{refl, sym, ◌∙◌, ap, subst, arith}
 use Rattle.std.proofs.lemmas.List.{append-nil}
 use Rattle.std.proofs.lemmas.Map.Text.{is_eq-slice_cmp}
 use mathlib.Core.Bool.{true≢false}
-use mathlib.Core.Path.{subst₂}
 use Rattle.serde_json.specs.Data.{Data, boolean, Members}
-use Rattle.olk_spec.specs.Names.{Name, Path, ◌//◌, lookup_name, is_among}
+use Rattle.olk_spec.specs.Names.{Name, Text, Path, ◌//◌, lookup_name, is_among}
 use Rattle.std.specs.declared.cmp.Ordering.TheVariants.{Less}
 use Rattle.olk_spec.specs.Schemas.{listed, members, is_object, is_truth}
 use Rattle.olk_spec.specs.Faults.{Fault, ◌∼◌}
@@ -20,7 +19,7 @@ use Rattle.olk_spec.proofs.Truth.{and_from, and_first, and_second}
 use Rattle.olk_base.specs.Kit.{Kit}
 use Rattle.olk_base.specs.Compiled.{pattern_answers}
 use Rattle.olk_base.specs.declared.pattern.CompiledPattern.{CompiledPattern}
-use Rattle.olk_meaning.specs.AdditionalProperties.{entries_in, declared_beside}
+use Rattle.olk_meaning.specs.AdditionalProperties.{entries_in, declared_beside, declares_beside, matches_beside}
 use Rattle.olk_meaning.specs.Conditions.{is_restriction, is_restricted, known_of}
 use Rattle.olk_meaning.specs.Fused.{fused_one}
 use Rattle.olk_meaning.specs.Members.{member_report}
@@ -30,16 +29,17 @@ use Rattle.olk_meaning.proofs.AdditionalPlaces.{allowing_means_nothing}
 use Rattle.olk_meaning.proofs.Claims.{claims_itself, heads_elsewhere}
 use Rattle.olk_meaning.proofs.Heads.{names_of}
 use Rattle.olk_meaning.proofs.OneFused.{clean_one_fused}
-use Rattle.olk_meaning.proofs.TakenOver.{free_takes_nothing}
-use Rattle.olk_tree.specs.Additional.{placed, mapped_places, patterns_in, required_text, required_place}
+use Rattle.olk_meaning.proofs.TakenOver.{fuses_one_name, free_takes_nothing}
+use Rattle.olk_tree.specs.Additional.{Held, placed, mapped_places, patterns_in, known_by, required_text, required_place}
+use Rattle.olk_tree.specs.Holdings.{held}
 use Rattle.olk_tree.specs.Maps.{keys_in, nodes_in, mapped}
 use Rattle.olk_tree.specs.Ascending.{Ascend}
 use Rattle.olk_tree.specs.Questions.{Question}
 use Rattle.olk_tree.specs.Sides.{AnswersAs, EntriesAnswer, PatternsAnswer, RestAnswers, RestrictionStands}
-use Rattle.olk_tree.specs.Tables.{table_says}
+use Rattle.olk_tree.specs.Tables.{Table}
 use Rattle.olk_tree.proofs.RestrictionMeans.{restriction_accepts, restriction_asks, restriction_finds, restriction_shows}
-use Rattle.olk_tree.specs.declared.additional_properties.AdditionalProperties.{AdditionalProperties}
-use Rattle.olk_tree.specs.declared.additional_properties.RequiredName.{RequiredName}
+use Rattle.olk_tree.specs.declared.additional_properties.Restriction.{Restriction}
+use Rattle.olk_tree.specs.declared.additional_properties.Restriction.TheVariants as by
 use Rattle.olk_tree.specs.declared.properties_map.PropertiesMap.{PropertiesMap}
 use Rattle.olk_tree.specs.declared.node.KeywordOver.{KeywordOver}
 use Rattle.olk_tree.specs.declared.node.KeywordOver.TheVariants as keyword
@@ -47,7 +47,7 @@ use Rattle.olk_tree.specs.Answers.{Answers}
 use Rattle.olk_tree.specs.Places.{Stands}
 use Rattle.olk_read.specs.Patterns.{ArePatterns}
 use Rattle.olk_read.specs.declared.shape.Shape.TheVariants as shape
-use Rattle.olk_make.specs.Forms.{IsMapOf, HasPatterns, IsRequiredName, HasMapFor, IsFormOfAdditionalProperties, IsAdditionalProperties}
+use Rattle.olk_make.specs.Forms.{IsMapOf, IsRestriction, HasMapFor, IsFormOfAdditionalProperties, IsAdditionalProperties}
 use Rattle.olk_make.specs.Holding.{StandEach, which}
 use Rattle.olk_make.specs.Making.{KeywordsMean, MakesRestriction, MakesPart}
 use Rattle.olk_make.specs.Standing.{Fills, DeclaredStand, PatternsStand, RestStands, BesideStands}
@@ -58,11 +58,16 @@ use Rattle.olk_make.specs.declared.part.Taken.{Taken}
 use Rattle.olk_make.proofs.Together.{MeanClaim, claim_by_name, means_nothing}
 use Rattle.olk_make.proofs.Entries.{Rows, AnswerEach, last_stands, schema_answers, schemas_answer}
 use Rattle.olk_make.proofs.Formed.{has_form, is_formed, just_one_formed, stand_formed, each_keys, each_nodes, each_long, each_held_formed, map_formed, entry_formed, case_formed}
+use Rattle.olk_tree.specs.AdditionalProperties.{additional_properties_answers}
 use Rattle.olk_tree.specs.Formed.{is_map_formed, names_beside, is_table_formed}
 use Rattle.olk_tree.specs.Validators.{answers_of}
 use Rattle.olk_tree.proofs.Formed.{table_formed}
 use Rattle.std.specs.Option.{option_map_or}
 use Rattle.std.proofs.Math.Bool.{or-true, and-true}
+
+either_way : {X : Type 0} (b : Bool) (x : X) → cond b x x ≡ x
+either_way true x = refl
+either_way false x = refl
 
 -- ---- names that ascend are distinct
 
@@ -133,20 +138,20 @@ module _ {K R N : Type 0} (o : Kit K R) (answers : N → Answers) where
 
   -- nodes for what is declared at L, held in a map
   module _ (b : DeclaredNodes N) (m : PropertiesMap N) (d : Data) (L : Path) (form : IsMapOf (Some b) (Some m)) (h : DeclaredStand o answers b L d) where
-    held : mapped m ≡ zip (keys_in (members d)) b.nodes.items
-    held = form.0 ∙ ap (λ ks. zip ks b.nodes.items) h.names
+    all_mapped : mapped m ≡ zip (keys_in (members d)) b.nodes.items
+    all_mapped = form.0 ∙ ap (λ ks. zip ks b.nodes.items) h.names
 
     each : AnswerEach o answers (schema_answers o answers) b.nodes.items (members d) L
     each = schemas_answer o answers b.nodes.items (members d) L h.nodes
 
     keys : keys_in (mapped m) ≡ keys_in (members d)
-    keys = each_keys o answers (mapped m) _ _ _ held _ each
+    keys = each_keys o answers (mapped m) _ _ _ all_mapped _ each
 
   declared_side : (b : Option (DeclaredNodes N)) (x : Option (PropertiesMap N)) (a : Option Data) (L : Path) → IsMapOf b x → Fills (λ m. DeclaredStand o answers m L) b a → DeclaredSide x a L
   declared_side None None None L form h = record { nodes = []; placed_zip = refl; declared = tt; there = refl; once = refl }
   declared_side (Some b) (Some m) (Some d) L form h = record {
     nodes = b.nodes.items;
-    placed_zip = λ i. zip (keys b m d L form h i) (placed (each_nodes o answers (mapped m) _ _ _ (held b m d L form h) _ (each b m d L form h) i));
+    placed_zip = λ i. zip (keys b m d L form h i) (placed (each_nodes o answers (mapped m) _ _ _ (all_mapped b m d L form h) _ (each b m d L form h) i));
     declared = entries_answer b.nodes.items (members d) L h.nodes;
     there = refl;
     once = ap has_repeat (sym h.names) ∙ ascend_once b.names form.2;
@@ -155,43 +160,107 @@ module _ {K R N : Type 0} (o : Kit K R) (answers : N → Answers) where
   declared_side (Some b) None a L form h = absurd form
   declared_side _ x _ L form h = absurd h
 
-  -- patterns that are there, and what they are
-  kept_patterns : (v : Option PatternNodes) {l : List (CompiledPattern R × N)} → option_map (λ (w : PatternNodes). w.items) v ≡ Some l → (w : PatternNodes) × (v ≡ Some w) × (w.items ≡ l)
-  kept_patterns None q = absurd (true≢false (sym (ap is_some q)))
-  kept_patterns (Some w) q = (w, refl, ap (λ z. unwrap_or z []) q)
+  -- ---- what is held
 
-  -- the patterns stand for what `patternProperties` holds at L, zip the names ns
-  record PatternsSide (k : AdditionalProperties R N) (ns : List Name) (a : Option Data) (L : Path) : Type 0 where
-    patterns : PatternsAnswer o means report tree (patterns_in k.patterns) (entries_in a) L
-    known : (p i : ℕ) (n : Name) (c : CompiledPattern R) → slice_get ns p ≡ Some n → slice_get (map (λ e. e.0) (patterns_in k.patterns)) i ≡ Some c
-        → table_says k.table p i ≡ pattern_answers o.answers c n
-    there : is_some k.patterns ≡ is_some a
-    place : is_some k.patterns ≡ true → k.patterns_location ≡ L
+  abbrev entries : Patterns R N → List (CompiledPattern R × N)
+  entries x = zip x.patterns.items x.nodes.items
 
-  module _ (k : AdditionalProperties R N) (ms : Members) (restricted : is_restricted ms ≡ true) where
-    patterns_side : (b : Option (Patterns R N)) (a : Option Data) (L : Path) → HasPatterns b k → Fills (λ x. PatternsStand o answers (known_of ms) x L) b a
-        → PatternsSide k (keys_in (declared_beside ms)) a L
-    patterns_side None None L form h = record {
-      patterns = subst (λ v. PatternsAnswer o means report tree (patterns_in v) [] L) (sym form) tt;
-      known = λ p i n c at_name at_pattern. absurd (true≢false (sym (ap is_some at_pattern) ∙ ap (λ v. is_some (slice_get (map (λ (e : CompiledPattern R × N). e.0) (patterns_in v)) i)) form));
-      there = ap is_some form;
-      place = λ e. absurd (true≢false (sym e ∙ ap is_some form));
+  -- a table stands where names are declared
+  abbrev table_beside : Option (PropertiesMap N) → Option (Patterns R N) → Option Table
+  table_beside None x = None
+  table_beside (Some m) x = option_map (λ (x : Patterns R N). x.table) x
+
+  abbrev place_alone : Option (PropertiesMap N) → Option (Patterns R N) → Path
+  place_alone None (Some x) = x.location
+  place_alone m x = []
+
+  abbrev fused_alone : Option N → Option (PropertiesMap N) → Option (Patterns R N) → Option Name → Option Name
+  fused_alone rest m x n = cond (not (is_some rest) && is_some m && not (is_some x)) n None
+
+  abbrev required_at : Path → Option Name → Option (Text × Path)
+  required_at P n = option_map (λ t. (t, P // codes "required")) n
+
+  module _ (P L : Path) where
+    abbrev holding : Option N → Option (PropertiesMap N) → Option (Patterns R N) → Option Name → Held R N
+    holding rest m x n = record {
+      properties = m;
+      patterns = option_map entries x;
+      table = table_beside m x;
+      rest = rest;
+      required = required_at P (fused_alone rest m x n);
+      location = L;
+      patterns_location = place_alone m x;
     }
-    patterns_side (Some x) (Some d) L form h = record {
-      patterns = subst (λ l. PatternsAnswer o means report tree l (members d) L) (sym same) (patterns_answer x.patterns.items x.nodes.items (members d) L h.patterns h.nodes);
-      known = λ p i n c at_name at_pattern. ap (λ t. table_says t p i) form.1
-          ∙ h.table.says p i n c (ap (λ ns. slice_get ns p) names ∙ at_name)
-          (ap (λ ps. slice_get ps i) (sym (ap (map (λ e. e.0)) same ∙ patterns_kept x.patterns.items x.nodes.items (members d) L h.patterns h.nodes)) ∙ at_pattern);
-      there = ap is_some (kept_patterns k.patterns form.0).1;
-      place = λ e. form.2 ∙ h.place;
-    }
-      where
-        same : patterns_in k.patterns ≡ zip x.patterns.items x.nodes.items
-        same = let kept = kept_patterns k.patterns form.0 in ap patterns_in kept.1 ∙ kept.2
 
-        names : x.table.names ≡ keys_in (declared_beside ms)
-        names = h.names ∙ ap (λ b. keys_in (cond b (declared_beside ms) [])) restricted
-    patterns_side _ _ L form h = absurd h
+    held_as : (rest : Option N) (m : Option (PropertiesMap N)) (x : Option (Patterns R N)) (n : Option Name) (k : Restriction R N) → IsRestriction P L rest m x n k → held k ≡ holding rest m x n
+    held_as (Some r) None None n (by.Schema k) h =
+        λ i. record { properties = None; patterns = None; table = None; rest = Some (h.0 i); required = None; location = h.1 i; patterns_location = [] }
+    held_as None None None n (by.False k) h =
+        λ i. record { properties = None; patterns = None; table = None; rest = None; required = None; location = h i; patterns_location = [] }
+    held_as (Some r) (Some m) None n (by.NotEmpty k) h =
+        λ i. record { properties = Some (h.0 i); patterns = None; table = None; rest = Some (h.1 i); required = None; location = h.2 i; patterns_location = [] }
+    held_as None (Some m) None None (by.NotEmptyFalse k) h =
+        λ i. record { properties = Some (h.0 i); patterns = None; table = None; rest = None; required = None; location = h.1 i; patterns_location = [] }
+    held_as None (Some m) None (Some n) (by.NotEmptyFalseWithRequired1 k) h =
+        λ i. record { properties = Some (h.0 i); patterns = None; table = None; rest = None; required = Some (h.1 i, h.3 i); location = h.2 i; patterns_location = [] }
+    held_as (Some r) None (Some x) n (by.WithPatterns k) h =
+        λ i. record { properties = None; patterns = Some (h.0 i); table = None; rest = Some (h.1 i); required = None; location = h.2 i; patterns_location = h.3 i }
+    held_as None None (Some x) n (by.WithPatternsFalse k) h =
+        λ i. record { properties = None; patterns = Some (h.0 i); table = None; rest = None; required = None; location = h.1 i; patterns_location = h.2 i }
+    held_as (Some r) (Some m) (Some x) n (by.WithPatternsNotEmpty k) h =
+        λ i. record { properties = Some (h.0 i); patterns = Some (h.1 i); table = Some (h.2 i); rest = Some (h.3 i); required = None; location = h.4 i; patterns_location = [] }
+    held_as None (Some m) (Some x) n (by.WithPatternsNotEmptyFalse k) h =
+        λ i. record { properties = Some (h.0 i); patterns = Some (h.1 i); table = Some (h.2 i); rest = None; required = None; location = h.3 i; patterns_location = [] }
+    held_as rest m x n k h = absurd h
+
+  -- ---- the patterns beside it
+
+  -- they stand for what `patternProperties` holds at L, beside the declared names ns
+  record PatternsSide (m : Option (PropertiesMap N)) (x : Option (Patterns R N)) (ns : List Name) (a : Option Data) (L : Path) : Type 0 where
+    patterns : PatternsAnswer o means report tree (patterns_in (option_map entries x)) (entries_in a) L
+    known : (p i : ℕ) (n : Name) (c : CompiledPattern R) → slice_get ns p ≡ Some n → slice_get (map (λ e. e.0) (patterns_in (option_map entries x))) i ≡ Some c
+        → known_by (table_beside m x) p i ≡ pattern_answers o.answers c n
+    there : is_some (option_map entries x) ≡ is_some a
+    place : is_some (option_map entries x) ≡ true → is_some m ≡ false → place_alone m x ≡ L
+
+  none_there : (a : Option Data) → false ≡ is_some a → entries_in a ≡ []
+  none_there None e = refl
+  none_there (Some d) e = absurd (true≢false (sym e))
+
+  module _ (ms : Members) (restricted : is_restricted ms ≡ true) where
+    module _ (x : Patterns R N) (d : Data) (L : Path) (h : PatternsStand o answers (known_of ms) x L d) where
+      names_kept : x.table.names ≡ keys_in (declared_beside ms)
+      names_kept = h.names ∙ ap (λ b. keys_in (cond b (declared_beside ms) [])) restricted
+
+      all_kept : map (λ e. e.0) (entries x) ≡ x.patterns.items
+      all_kept = patterns_kept x.patterns.items x.nodes.items (members d) L h.patterns h.nodes
+
+      -- what is known of a pattern and a declared name
+      all_known : (m : Option (PropertiesMap N)) → is_some m ≡ declares_beside ms → (p i : ℕ) (n : Name) (c : CompiledPattern R) → slice_get (keys_in (declared_beside ms)) p ≡ Some n
+          → slice_get (map (λ e. e.0) (entries x)) i ≡ Some c → known_by (table_beside m (Some x)) p i ≡ pattern_answers o.answers c n
+      all_known (Some m) e p i n c at_name at_pattern =
+          h.table.says p i n c (ap (λ ns. slice_get ns p) names_kept ∙ at_name) (ap (λ ps. slice_get ps i) (sym all_kept) ∙ at_pattern)
+      all_known None e p i n c at_name at_pattern = absurd (true≢false (sym (ap is_some at_name) ∙ ap (λ es. is_some (slice_get (keys_in es) p)) (none_there _ e)))
+
+      all_placed : (m : Option (PropertiesMap N)) → is_some m ≡ false → place_alone m (Some x) ≡ L
+      all_placed None e = h.place
+      all_placed (Some m) e = absurd (true≢false e)
+
+    patterns_side : (m : Option (PropertiesMap N)) → is_some m ≡ declares_beside ms → (x : Option (Patterns R N)) (a : Option Data) (L : Path)
+        → Fills (λ x. PatternsStand o answers (known_of ms) x L) x a → PatternsSide m x (keys_in (declared_beside ms)) a L
+    patterns_side m declares None None L h = record {
+      patterns = tt;
+      known = λ p i n c at_name at_pattern. absurd (true≢false (sym (ap is_some at_pattern)));
+      there = refl;
+      place = λ e. absurd (true≢false (sym e));
+    }
+    patterns_side m declares (Some x) (Some d) L h = record {
+      patterns = patterns_answer x.patterns.items x.nodes.items (members d) L h.patterns h.nodes;
+      known = all_known x d L h m declares;
+      there = refl;
+      place = λ e. all_placed x d L h m;
+    }
+    patterns_side m declares _ _ L h = absurd h
 
   -- ---- the form of what stands zip it
 
@@ -207,8 +276,8 @@ module _ {K R N : Type 0} (o : Kit K R) (answers : N → Answers) where
       → option_map_or (λ m. is_map_formed m && list_all (has_form o answers) (nodes_in (mapped m))) x true ≡ true
   declared_formed None None None L form h = refl
   declared_formed (Some b) (Some m) (Some d) L form h =
-      and_from _ _ (map_formed m (length b.names) (each_long o answers (mapped m) _ _ _ (held b m d L form h) _ (each b m d L form h) ∙ ap length (sym h.names)) form.1)
-      (each_held_formed o answers (mapped m) _ _ _ (held b m d L form h) _ (each b m d L form h))
+      and_from _ _ (map_formed m (length b.names) (each_long o answers (mapped m) _ _ _ (all_mapped b m d L form h) _ (each b m d L form h) ∙ ap length (sym h.names)) form.1)
+      (each_held_formed o answers (mapped m) _ _ _ (all_mapped b m d L form h) _ (each b m d L form h))
   declared_formed None (Some m) a L form h = absurd form
   declared_formed (Some b) None a L form h = absurd form
   declared_formed _ x _ L form h = absurd h
@@ -219,70 +288,100 @@ module _ {K R N : Type 0} (o : Kit K R) (answers : N → Answers) where
       (zipped_formed ps ns (and_second (has_form o answers n) (list_all (has_form o answers) ns) h))
   zipped_formed _ _ h = refl
 
-  module _ (k : AdditionalProperties R N) (ms : Members) (restricted : is_restricted ms ≡ true) (names : List Name) (declared : names ≡ keys_in (declared_beside ms)) where
-    abbrev are_formed_beside : PatternNodes → Bool
-    are_formed_beside es = is_table_formed o.answers names (map (λ e. e.0) es.items) k.table && list_all (entry_formed o answers) es.items
+  module _ (ms : Members) (restricted : is_restricted ms ≡ true) where
+    table_beside_formed : (m : Option (PropertiesMap N)) (x : Option (Patterns R N)) (a : Option Data) (L : Path) → names_beside m ≡ keys_in (declared_beside ms)
+        → Fills (λ x. PatternsStand o answers (known_of ms) x L) x a
+        → option_map_or (is_table_formed o.answers (names_beside m) (map (λ e. e.0) (patterns_in (option_map entries x)))) (table_beside m x) true ≡ true
+    table_beside_formed None x a L declared h = refl
+    table_beside_formed (Some m) None a L declared h = refl
+    table_beside_formed (Some m) (Some x) (Some d) L declared h =
+        ap (λ ps. is_table_formed o.answers (names_beside (Some m)) ps x.table) (all_kept ms restricted x d L h)
+        ∙ table_formed o.answers (names_beside (Some m)) x.patterns.items x.table (names_kept ms restricted x d L h ∙ sym declared) h.table
+    table_beside_formed (Some m) (Some x) None L declared h = absurd h
 
-    beside_formed : (b : Option (Patterns R N)) (a : Option Data) (L : Path) → HasPatterns b k → Fills (λ x. PatternsStand o answers (known_of ms) x L) b a
-        → option_map_or are_formed_beside k.patterns true ≡ true
-    beside_formed None None L form h = ap (λ v. option_map_or are_formed_beside v true) form
-    beside_formed (Some x) (Some d) L form h =
-        let kept = kept_patterns k.patterns form.0 in
-        let patterns : map (λ e. e.0) kept.0.items ≡ x.patterns.items = ap (map (λ e. e.0)) kept.2 ∙ patterns_kept x.patterns.items x.nodes.items (members d) L h.patterns h.nodes in
-        let same_names : x.table.names ≡ names = h.names ∙ ap (λ b. keys_in (cond b (declared_beside ms) [])) restricted ∙ sym declared in
-        ap (λ v. option_map_or are_formed_beside v true) kept.1 ∙ and_from _ _
-        ((λ i. is_table_formed o.answers names (patterns i) (form.1 i)) ∙ table_formed o.answers names x.patterns.items x.table same_names h.table)
-        (ap (list_all (entry_formed o answers)) kept.2 ∙ zipped_formed x.patterns.items x.nodes.items (stand_formed o answers x.nodes.items (members d) L h.nodes))
-    beside_formed _ _ L form h = absurd h
+    entries_formed : (x : Option (Patterns R N)) (a : Option Data) (L : Path) → Fills (λ x. PatternsStand o answers (known_of ms) x L) x a
+        → list_all (entry_formed o answers) (patterns_in (option_map entries x)) ≡ true
+    entries_formed None a L h = refl
+    entries_formed (Some x) (Some d) L h = zipped_formed x.patterns.items x.nodes.items (stand_formed o answers x.nodes.items (members d) L h.nodes)
+    entries_formed (Some x) None L h = absurd h
 
   rest_formed : (x : Option N) (d : Data) (L : Path) → RestStands o answers x d L → case_formed o answers x ≡ true
   rest_formed None d L h = refl
   rest_formed (Some n) d L h = h.1.formed
 
-  required_there : (P : Path) (n : Option Name) (r : Option RequiredName) → IsRequiredName P n r → (required_text r ≡ option_to_list n) × (is_some r ≡ true → required_place r ≡ P // codes "required")
-  required_there P None None h = (refl, λ e. absurd (true≢false (sym e)))
-  required_there P (Some n) (Some r) h = (ap (λ t. t ∷ []) h.0, λ e. h.1)
-  required_there P _ _ h = absurd h
+  -- ---- the name that is fused
+
+  -- it is fused where names are declared alone, and nothing else is expected
+  alone_fused : (rest : Option N) (m : Option (PropertiesMap N)) (x : Option (Patterns R N)) (n : Option Name)
+      → ((t : Name) → n ≡ Some t → (is_some rest ≡ false) × (is_some m ≡ true) × (is_some x ≡ false)) → fused_alone rest m x n ≡ n
+  alone_fused rest m x None h = either_way (not (is_some rest) && is_some m && not (is_some x)) None
+  alone_fused rest m x (Some t) h = λ i. cond (not ((h t refl).0 i) && (h t refl).1 i && not ((h t refl).2 i)) (Some t) None
+
+  required_there : (P : Path) (n : Option Name) → (required_text (required_at P n) ≡ option_to_list n) × (is_some (required_at P n) ≡ true → required_place (required_at P n) ≡ P // codes "required")
+  required_there P None = (refl, λ e. absurd (true≢false (sym e)))
+  required_there P (Some n) = (refl, λ e. refl)
+
+  rest_refused : (rest : Option N) (d : Data) (L : Path) → RestStands o answers rest d L → Some d ≡ Some (boolean false) → is_some rest ≡ false
+  rest_refused None d L h e = refl
+  rest_refused (Some r) d L h e = absurd (true≢false (sym h.0 ∙ ap (λ a. option_map_or is_object a false) e))
 
   -- ---- the validator
 
-  module _ (k : Box (AdditionalProperties R N) Global) (L P : Path) (rest : Option N) (b : Beside R N) (ms : Members)
-      (form : IsFormOfAdditionalProperties {K = K} P L rest b (fused_one ms) (keyword.AdditionalProperties k)) (d : Data) (place : L ≡ P // codes "additionalProperties")
-      (rest_stands : RestStands o answers rest d L) (stands : BesideStands o answers (known_of ms) b ms P) (restricted : is_restricted ms ≡ true) where
-    restriction_stands : RestrictionStands o means report tree k.value ms d P
-    restriction_stands =
-        let declared = declared_side b.properties k.value.properties _ _ form.1 stands.0 in
-        let patterns = patterns_side k.value ms restricted b.patterns _ _ form.2 stands.1 in
-        let required = required_there P (fused_one ms) k.value.required form.3 in
-        record {
-          sides = record {
-            nodes = declared.nodes;
-            placed_zip = declared.placed_zip;
-            declared = declared.declared;
-            patterns = patterns.patterns;
-            known = patterns.known;
-            rest = subst₂ (λ x M. RestAnswers o means report tree x d M) (sym form.0) place (rest_answers rest d L rest_stands);
-          };
-          declares = declared.there;
-          has_patterns = patterns.there;
-          requires = required.0;
-          place = form.4 ∙ place;
-          patterns_place = patterns.place;
-          required_place = required.1;
-          declared_once = declared.once;
-        }
+  module _ (k : Restriction R N) (L P : Path) (rest : Option N) (b : Beside R N) (ms : Members) (form : IsFormOfAdditionalProperties P L rest b (fused_one ms) k)
+      (d : Data) (place : L ≡ P // codes "additionalProperties") (rest_stands : RestStands o answers rest d L) (stands : BesideStands o answers (known_of ms) b ms P)
+      (there : lookup_name (codes "additionalProperties") (listed ms) ≡ Some d) (restricted : is_restricted ms ≡ true) where
+    map_side : DeclaredSide form.0 (lookup_name (codes "properties") (listed ms)) (P // codes "properties")
+    map_side = declared_side b.properties form.0 _ _ form.1 stands.0
+
+    matched_side : PatternsSide form.0 b.patterns (keys_in (declared_beside ms)) (lookup_name (codes "patternProperties") (listed ms)) (P // codes "patternProperties")
+    matched_side = patterns_side ms restricted form.0 map_side.there b.patterns _ _ stands.1
+
+    patterns_there : is_some b.patterns ≡ matches_beside ms
+    patterns_there = filled_there b.patterns _ stands.1
+      where
+        filled_there : (x : Option (Patterns R N)) (a : Option Data) → Fills (λ x. PatternsStand o answers (known_of ms) x (P // codes "patternProperties")) x a → is_some x ≡ is_some a
+        filled_there None None h = refl
+        filled_there (Some x) (Some d) h = refl
+        filled_there _ _ h = absurd h
+
+    all_fused : fused_alone rest form.0 b.patterns (fused_one ms) ≡ fused_one ms
+    all_fused = alone_fused rest form.0 b.patterns (fused_one ms) (λ t e.
+        let fuses = fuses_one_name ms t e in
+        (rest_refused rest d L rest_stands (sym there ∙ fuses.closed), map_side.there ∙ fuses.declared, patterns_there ∙ ap is_some fuses.unpatterned))
+
+    all_held : held k ≡ holding P L rest form.0 b.patterns (fused_one ms)
+    all_held = held_as P L rest form.0 b.patterns (fused_one ms) k form.2
+
+    restriction_stands : RestrictionStands o means report tree (held k) ms d P
+    restriction_stands = subst (λ h. RestrictionStands o means report tree h ms d P) (sym all_held) record {
+      sides = record {
+        nodes = map_side.nodes;
+        placed_zip = map_side.placed_zip;
+        declared = map_side.declared;
+        patterns = matched_side.patterns;
+        known = matched_side.known;
+        rest = subst (λ M. RestAnswers o means report tree rest d M) place (rest_answers rest d L rest_stands);
+      };
+      declares = map_side.there;
+      has_patterns = matched_side.there;
+      requires = ap (λ n. required_text (required_at P n)) all_fused ∙ (required_there P (fused_one ms)).0;
+      place = place;
+      patterns_place = matched_side.place;
+      required_place = (required_there P (fused_alone rest form.0 b.patterns (fused_one ms))).1;
+      declared_once = map_side.once;
+    }
 
     restriction_formed : is_formed o answers (keyword.AdditionalProperties k) ≡ true
     unfolding answers_of
-    restriction_formed =
-        and_from _ _ (and_from _ _
-        (declared_formed b.properties k.value.properties _ _ form.1 stands.0)
-        (beside_formed k.value ms restricted (names_beside k.value.properties) (declared_names b.properties k.value.properties _ _ form.1 stands.0) b.patterns _ _ form.2 stands.1))
-        (ap (case_formed o answers) form.0 ∙ rest_formed rest d L rest_stands)
+    restriction_formed = ap (λ h. (additional_properties_answers o.answers o.costs h).formed (has_form o answers)) all_held
+        ∙ and_from _ _ (and_from _ _ (and_from _ _
+        (declared_formed b.properties form.0 _ _ form.1 stands.0)
+        (table_beside_formed ms restricted form.0 b.patterns _ _ (declared_names b.properties form.0 _ _ form.1 stands.0) stands.1))
+        (entries_formed ms restricted b.patterns _ _ stands.1))
+        (rest_formed rest d L rest_stands)
 
-    restriction_means : has_repeat (names_of (listed ms)) ≡ false → lookup_name (codes "additionalProperties") (listed ms) ≡ Some d
-        → MeanClaim o answers ms (plan_of ms) (keyword.AdditionalProperties k ∷ []) (codes "additionalProperties", d) P
-    restriction_means distinct there = record {
+    restriction_means : has_repeat (names_of (listed ms)) ≡ false → MeanClaim o answers ms (plan_of ms) (keyword.AdditionalProperties k ∷ []) (codes "additionalProperties", d) P
+    restriction_means distinct = record {
       covers = record {
         verdict = λ u v. and-true _ ∙ restriction_accepts o means report tree k restriction_stands distinct there restricted u v;
         asks_within = λ u v. let h = restriction_asks o means report tree k restriction_stands distinct there restricted u v in omega (arith, h);
@@ -299,13 +398,12 @@ module _ {K R N : Type 0} (o : Kit K R) (answers : N → Answers) where
   restricted_there None d L h = ap (λ b. b || is_object d) h
   restricted_there (Some n) d L h = ap (λ b. is_truth false d || b) h.0 ∙ or-true (is_truth false d)
 
-  pub makes_restriction : (k : KeywordOver K R N) (L P : Path) (rest : Option N) (b : Beside R N) (p : Planned) → IsFormOfAdditionalProperties P L rest b p.fused_one k
-      → MakesRestriction o answers L rest b P p (k ∷ [])
-  makes_restriction (keyword.AdditionalProperties k) L P rest b p form ms d place rest_stands stands distinct there chosen =
+  pub makes_restriction : (k : Restriction R N) (L P : Path) (rest : Option N) (b : Beside R N) (p : Planned) → IsFormOfAdditionalProperties P L rest b p.fused_one k
+      → MakesRestriction o answers L rest b P p (keyword.AdditionalProperties k ∷ [])
+  makes_restriction k L P rest b p form ms d place rest_stands stands distinct there chosen =
       subst (λ q. MeanClaim o answers ms q (keyword.AdditionalProperties k ∷ []) (codes "additionalProperties", d) P) (sym chosen)
-      (restriction_means k L P rest b ms (subst (λ n. IsFormOfAdditionalProperties {K = K} P L rest b n (keyword.AdditionalProperties k))
-      (ap (λ q. q.fused_one) chosen) form) d place rest_stands stands (ap is_restriction there ∙ restricted_there rest d L rest_stands) distinct there)
-  makes_restriction k L P rest b p form ms d place rest_stands stands distinct there chosen = absurd form
+      (restriction_means k L P rest b ms (subst (λ n. IsFormOfAdditionalProperties P L rest b n k) (ap (λ q. q.fused_one) chosen) form)
+      d place rest_stands stands there (ap is_restriction there ∙ restricted_there rest d L rest_stands) distinct)
 
   -- ---- the form, by what there is
 
@@ -314,18 +412,10 @@ module _ {K R N : Type 0} (o : Kit K R) (answers : N → Answers) where
   map_for (Some b) (Some m) h = h.1
   map_for _ _ h = absurd h
 
-  many_patterns : (b : Option (Patterns R N)) (k : AdditionalProperties R N) → HasPatterns b k
-      → option_map (λ (v : PatternNodes). length v.items) k.patterns ≡ option_map (λ (x : Patterns R N). length (zip x.patterns.items x.nodes.items)) b
-  many_patterns None k h = ap (option_map (λ (v : PatternNodes). length v.items)) h
-  many_patterns (Some x) k h =
-      let kept = kept_patterns k.patterns h.0 in ap (option_map (λ (v : PatternNodes). length v.items)) kept.1 ∙ ap (λ l. Some (length l)) kept.2
-
-  pub is_additional_properties : (k : KeywordOver K R N) (P L : Path) (rest : Option N) (b : Beside R N) (n : Option Name) → IsFormOfAdditionalProperties P L rest b n k
-      → IsAdditionalProperties P L (is_some rest) (option_map (λ (m : DeclaredNodes N). length m.names) b.properties)
-      (option_map (λ (x : Patterns R N). length (zip x.patterns.items x.nodes.items)) b.patterns) n k
-  is_additional_properties (keyword.AdditionalProperties k) P L rest b n form =
-      (ap is_some form.0, map_for b.properties k.value.properties form.1, many_patterns b.patterns k.value form.2, form.3, form.4)
-  is_additional_properties k P L rest b n form = absurd form
+  pub is_additional_properties : (k : Restriction R N) (P L : Path) (rest : Option N) (b : Beside R N) (n : Option Name) → IsFormOfAdditionalProperties P L rest b n k
+      → IsAdditionalProperties {K = K} P L (is_some rest) (option_map (λ (m : DeclaredNodes N). length m.names) b.properties)
+      (option_map (λ (x : Patterns R N). length (zip x.patterns.items x.nodes.items)) b.patterns) n (keyword.AdditionalProperties k)
+  is_additional_properties k P L rest b n form = (rest, form.0, b.patterns, refl, map_for b.properties form.0 form.1, refl, form.2)
 
   -- ---- the parts
 

@@ -15,8 +15,8 @@ use Rattle.olk_tree.specs.Ascending.{Ascend}
 use Rattle.olk_tree.specs.declared.map.SmallMap.{SmallMap}
 use Rattle.olk_tree.specs.declared.properties_map.PropertiesMap.{PropertiesMap}
 use Rattle.olk_tree.specs.declared.properties_map.PropertiesMap.TheVariants.{Small, Big}
-use Rattle.olk_tree.specs.declared.additional_properties.AdditionalProperties.{AdditionalProperties}
-use Rattle.olk_tree.specs.declared.additional_properties.RequiredName.{RequiredName}
+use Rattle.olk_tree.specs.declared.additional_properties.Restriction.{Restriction}
+use Rattle.olk_tree.specs.declared.additional_properties.Restriction.TheVariants as by
 use Rattle.olk_tree.specs.declared.node.KeywordOver.{KeywordOver}
 use Rattle.olk_tree.specs.declared.node.KeywordOver.TheVariants as keyword
 use Rattle.olk_tree.specs.declared.node.Body.TheVariants.{RequiredNames}
@@ -69,27 +69,26 @@ IsMapOf None (Some m) = ⊥
 IsMapOf (Some d) None = ⊥
 IsMapOf (Some d) (Some m) = (mapped m ≡ zip d.names d.nodes.items) × IsMapFor (length d.names) m × Ascend d.names
 
--- the one name of `required` in the object at P, or none
-abbrev pub IsRequiredName : Path → Option Name → Option RequiredName → Type 0
-IsRequiredName P None None = ⊤
-IsRequiredName P None (Some r) = ⊥
-IsRequiredName P (Some n) None = ⊥
-IsRequiredName P (Some n) (Some r) = (string_bytes r.name ≡ n) × (r.location ≡ P // codes "required")
+-- patterns that are held, each with its node
+abbrev pub HoldsPatterns : {R N : Type 0} → Patterns R N → Vec (CompiledPattern R × N) Global → Type 0
+HoldsPatterns x v = v.items ≡ zip x.patterns.items x.nodes.items
 
--- patterns, each with its node, and their table, or none
-abbrev pub HasPatterns : {R N : Type 0} → Option (Patterns R N) → AdditionalProperties R N → Type 0
-HasPatterns None k = k.patterns ≡ None
-HasPatterns (Some x) k = (option_map (λ v. v.items) k.patterns ≡ Some (zip x.patterns.items x.nodes.items)) × (k.table ≡ x.table) × (k.patterns_location ≡ x.location)
+-- which validator of `additionalProperties` stands at L in the object at P, and what it holds: by whether there are a node for the rest, a map beside it and patterns beside it; a name is fused where the map alone stands beside it and nothing else is expected
+abbrev pub IsRestriction : {R N : Type 0} → Path → Path → Option N → Option (PropertiesMap N) → Option (Patterns R N) → Option Name → Restriction R N → Type 0
+IsRestriction P L (Some r) None None n (by.Schema k) = (k.value.node ≡ r) × (k.value.location ≡ L)
+IsRestriction P L None None None n (by.False k) = k.location ≡ L
+IsRestriction P L (Some r) (Some m) None n (by.NotEmpty k) = (k.value.properties ≡ m) × (k.value.node ≡ r) × (k.value.location ≡ L)
+IsRestriction P L None (Some m) None None (by.NotEmptyFalse k) = (k.value.properties ≡ m) × (k.value.location ≡ L)
+IsRestriction P L None (Some m) None (Some n) (by.NotEmptyFalseWithRequired1 k) = (k.value.properties ≡ m) × (string_bytes k.value.required ≡ n) × (k.value.location ≡ L) × (k.value.required_location ≡ P // codes "required")
+IsRestriction P L (Some r) None (Some x) n (by.WithPatterns k) = HoldsPatterns x k.value.patterns × (k.value.node ≡ r) × (k.value.location ≡ L) × (k.value.pattern_keyword_path ≡ x.location)
+IsRestriction P L None None (Some x) n (by.WithPatternsFalse k) = HoldsPatterns x k.value.patterns × (k.value.location ≡ L) × (k.value.pattern_keyword_path ≡ x.location)
+IsRestriction P L (Some r) (Some m) (Some x) n (by.WithPatternsNotEmpty k) = (k.value.properties ≡ m) × HoldsPatterns x k.value.patterns × (k.value.property_pattern_indices ≡ x.table) × (k.value.node ≡ r) × (k.value.location ≡ L)
+IsRestriction P L None (Some m) (Some x) n (by.WithPatternsNotEmptyFalse k) = (k.value.properties ≡ m) × HoldsPatterns x k.value.patterns × (k.value.property_pattern_indices ≡ x.table) × (k.value.location ≡ L)
+IsRestriction P L r m x n k = ⊥
 
--- this validator as a keyword
-abbrev pub IsBoxed : {K R N : Type 0} → AdditionalProperties R N → KeywordOver K R N → Type 0
-IsBoxed v (keyword.AdditionalProperties k) = k.value ≡ v
-IsBoxed v k = ⊥
-
--- `additionalProperties` at L in the object at P, over the node for the rest, what stands beside it and the name that it fuses
-abbrev pub IsFormOfAdditionalProperties : {K R N : Type 0} → Path → Path → Option N → Beside R N → Option Name → KeywordOver K R N → Type 0
-IsFormOfAdditionalProperties P L rest b n (keyword.AdditionalProperties k) = (k.value.rest ≡ rest) × IsMapOf b.properties k.value.properties × HasPatterns b.patterns k.value × IsRequiredName P n k.value.required × (k.value.location ≡ L)
-IsFormOfAdditionalProperties P L rest b n k = ⊥
+-- the validator at L in the object at P, over the node for the rest, what stands beside it and the name that it fuses
+abbrev pub IsFormOfAdditionalProperties : {R N : Type 0} → Path → Path → Option N → Beside R N → Option Name → Restriction R N → Type 0
+IsFormOfAdditionalProperties {R} {N} P L rest b n k = (m : Option (PropertiesMap N)) × IsMapOf b.properties m × IsRestriction P L rest m b.patterns n k
 
 -- `dependentRequired`, `dependentSchemas` or `dependencies` at L over these keys and nodes
 abbrev pub IsFormOfDependencies : {K R N : Type 0} → Path → List (Name × N) → KeywordOver K R N → Type 0
@@ -192,9 +191,10 @@ HasMapFor None (Some m) = ⊥
 HasMapFor (Some n) None = ⊥
 HasMapFor (Some n) (Some m) = IsMapFor n m
 
--- `additionalProperties` at L in the object at P, with a schema for the rest or without, with so many declared names and so many patterns, if they stand there, and with the name that it fuses
+-- `additionalProperties` at L in the object at P, over a node for the rest or without, over a map for so many declared names and so many patterns, if they stand there, and with the name that it fuses
 abbrev pub IsAdditionalProperties : {K R N : Type 0} → Path → Path → Bool → Option ℕ → Option ℕ → Option Name → KeywordOver K R N → Type 0
-IsAdditionalProperties P L rest names patterns n (keyword.AdditionalProperties k) = (is_some k.value.rest ≡ rest) × HasMapFor names k.value.properties × (option_map (λ v. length v.items) k.value.patterns ≡ patterns) × IsRequiredName P n k.value.required × (k.value.location ≡ L)
+IsAdditionalProperties {K} {R} {N} P L rest names patterns n (keyword.AdditionalProperties k) = (r : Option N) × (m : Option (PropertiesMap N)) × (x : Option (Patterns R N))
+    × (is_some r ≡ rest) × HasMapFor names m × (option_map (λ x. length (zip x.patterns.items x.nodes.items)) x ≡ patterns) × IsRestriction P L r m x n k
 IsAdditionalProperties P L rest names patterns n k = ⊥
 
 -- `dependentRequired`, `dependentSchemas` or `dependencies` with these keys

@@ -1,20 +1,26 @@
 //! `additionalProperties`: making its validator.
-ghost use Rattle.std.specs.Prelude.{◌∷◌, [], IfOk, is_some, length, zip, option_map};
+ghost use Rattle.std.specs.Prelude.{◌∷◌, [], IfOk, Option, None, Some, is_some, length, zip, option_map};
+ghost use Rattle.olk_spec.specs.Names.{Name, Path};
 ghost use Rattle.olk_base.specs.Kit.{kit};
-ghost use Rattle.olk_make.specs.Forms.{IsBoxed, IsMapOf, IsRequiredName, IsFormOfAdditionalProperties, IsAdditionalProperties};
+ghost use Rattle.olk_make.specs.Forms.{IsMapOf, IsRestriction, IsFormOfAdditionalProperties, IsAdditionalProperties};
 ghost use Rattle.olk_meaning.specs.Plans.{planned};
 ghost use Rattle.olk_make.specs.Making.{MakesRestriction};
 
-use crate::part::{Beside, DeclaredNodes};
+use crate::part::{Beside, DeclaredNodes, Patterns};
 use crate::pattern_properties::with_nodes;
 use crate::properties::map_of;
 use olk_base::{Leaf, RegexEngine};
 use olk_meaning::Plan;
 use olk_paths::Location;
-use olk_tree::additional_properties::{AdditionalProperties, RequiredName};
+use olk_tree::additional_properties::{
+    AdditionalProperties, AdditionalPropertiesFalse, AdditionalPropertiesNotEmpty,
+    AdditionalPropertiesNotEmptyFalse, AdditionalPropertiesNotEmptyFalseWithRequired1,
+    AdditionalPropertiesWithPatterns, AdditionalPropertiesWithPatternsFalse,
+    AdditionalPropertiesWithPatternsNotEmpty, AdditionalPropertiesWithPatternsNotEmptyFalse,
+    Restriction,
+};
 use olk_tree::built_node::BuiltNode;
 use olk_tree::node::KeywordOver;
-use olk_tree::pattern_table::PatternTable;
 use olk_tree::properties_map::PropertiesMap;
 use std::alloc::{AllocError, Global};
 
@@ -35,40 +41,145 @@ fn declared<N: Drop>(
     }
 }
 
-/// The name that the plan fuses in the object at the place, if any.
+/// The validator where neither `properties` nor `patternProperties` stands beside it.
 ///
 /// # Errors
 ///
 /// Out of memory.
-fn required(
+fn alone<R, N: Drop>(
     alloc: Global,
-    plan: Plan<'_>,
-    place: &Location,
-) -> Result<Option<RequiredName>, AllocError>
-    ensures { IfOk result (IsRequiredName place.now (planned plan.entry).fused_one) }
+    location: Location,
+    rest: Option<N>,
+) -> Result<Restriction<R, N>, AllocError>
+    ensures { (P : Path) (n : Option Name)
+        → IfOk result (IsRestriction P location rest None None n) }
 {
-    match plan.fused_one() {
-        Some(name) => Ok(Some(RequiredName {
-            name: String::from_str(alloc, name)?,
-            location: place.join(alloc, "required")?,
-        })),
-        None => Ok(None),
+    match rest {
+        Some(node) => {
+            let keyword = AdditionalProperties { node, location };
+            Ok(Restriction::Schema(Box::new(alloc, keyword)?))
+        }
+        None => Ok(Restriction::False(AdditionalPropertiesFalse { location })),
     }
 }
 
-/// The validator as a keyword.
+/// The validator beside `properties`, with the name that the plan fuses.
 ///
 /// # Errors
 ///
 /// Out of memory.
-fn boxed<K, R: Drop, N: Drop>(
+fn with_properties<R, N: Drop>(
     alloc: Global,
-    keyword: AdditionalProperties<R, N>,
-) -> Result<KeywordOver<K, R, N>, AllocError>
-    ensures { IfOk result (IsBoxed keyword) }
+    plan: Plan<'_>,
+    place: &Location,
+    location: Location,
+    rest: Option<N>,
+    properties: PropertiesMap<N>,
+) -> Result<Restriction<R, N>, AllocError>
+    ensures { IfOk result (IsRestriction place.now location rest (Some properties) None
+        (planned plan.entry).fused_one) }
 {
-    let keyword = Box::new(alloc, keyword)?;
-    Ok(KeywordOver::AdditionalProperties(keyword))
+    if let Some(node) = rest {
+        let keyword = AdditionalPropertiesNotEmpty {
+            properties,
+            node,
+            location,
+        };
+        return Ok(Restriction::NotEmpty(Box::new(alloc, keyword)?));
+    }
+    let Some(name) = plan.fused_one() else {
+        let keyword = AdditionalPropertiesNotEmptyFalse {
+            properties,
+            location,
+        };
+        return Ok(Restriction::NotEmptyFalse(Box::new(alloc, keyword)?));
+    };
+    let required = String::from_str(alloc, name)?;
+    let required_location = place.join(alloc, "required")?;
+    let keyword = AdditionalPropertiesNotEmptyFalseWithRequired1 {
+        properties,
+        required,
+        location,
+        required_location,
+    };
+    Ok(Restriction::NotEmptyFalseWithRequired1(Box::new(alloc, keyword)?))
+}
+
+/// The validator beside `patternProperties`.
+///
+/// # Errors
+///
+/// Out of memory.
+fn with_patterns<R: Drop, N: Drop>(
+    alloc: Global,
+    location: Location,
+    rest: Option<N>,
+    held: Patterns<R, N>,
+) -> Result<Restriction<R, N>, AllocError>
+    ensures { (P : Path) (n : Option Name)
+        → IfOk result (IsRestriction P location rest None (Some held) n) }
+{
+    let pattern_keyword_path = held.location;
+    let patterns = with_nodes(alloc, held.patterns, held.nodes)?;
+    match rest {
+        Some(node) => {
+            let keyword = AdditionalPropertiesWithPatterns {
+                patterns,
+                node,
+                location,
+                pattern_keyword_path,
+            };
+            Ok(Restriction::WithPatterns(Box::new(alloc, keyword)?))
+        }
+        None => {
+            let keyword = AdditionalPropertiesWithPatternsFalse {
+                patterns,
+                location,
+                pattern_keyword_path,
+            };
+            Ok(Restriction::WithPatternsFalse(Box::new(alloc, keyword)?))
+        }
+    }
+}
+
+/// The validator beside both.
+///
+/// # Errors
+///
+/// Out of memory.
+fn with_both<R: Drop, N: Drop>(
+    alloc: Global,
+    location: Location,
+    rest: Option<N>,
+    properties: PropertiesMap<N>,
+    held: Patterns<R, N>,
+) -> Result<Restriction<R, N>, AllocError>
+    ensures { (P : Path) (n : Option Name)
+        → IfOk result (IsRestriction P location rest (Some properties) (Some held) n) }
+{
+    let property_pattern_indices = held.table;
+    let patterns = with_nodes(alloc, held.patterns, held.nodes)?;
+    match rest {
+        Some(node) => {
+            let keyword = AdditionalPropertiesWithPatternsNotEmpty {
+                properties,
+                patterns,
+                property_pattern_indices,
+                node,
+                location,
+            };
+            Ok(Restriction::WithPatternsNotEmpty(Box::new(alloc, keyword)?))
+        }
+        None => {
+            let keyword = AdditionalPropertiesWithPatternsNotEmptyFalse {
+                properties,
+                patterns,
+                property_pattern_indices,
+                location,
+            };
+            Ok(Restriction::WithPatternsNotEmptyFalse(Box::new(alloc, keyword)?))
+        }
+    }
 }
 
 /// The form over the node for the rest and what stands beside it, with the name that the plan
@@ -77,41 +188,24 @@ fn boxed<K, R: Drop, N: Drop>(
 /// # Errors
 ///
 /// Out of memory.
-fn form<K, R: Drop, N: Drop>(
+fn form<R: Drop, N: Drop>(
     alloc: Global,
     plan: Plan<'_>,
     place: &Location,
     location: Location,
     rest: Option<N>,
     beside: Beside<R, N>,
-) -> Result<KeywordOver<K, R, N>, AllocError>
+) -> Result<Restriction<R, N>, AllocError>
     ensures { IfOk result (IsFormOfAdditionalProperties place.now location rest beside
         (planned plan.entry).fused_one) }
 {
-    let Beside {
-        properties,
-        patterns,
-    } = beside;
-    let properties = declared(alloc, properties)?;
-    let required = required(alloc, plan, place)?;
-    let (patterns, table, patterns_location) = match patterns {
-        Some(held) => (
-            Some(with_nodes(alloc, held.patterns, held.nodes)?),
-            held.table,
-            held.location,
-        ),
-        None => (None, PatternTable::none(alloc), location.try_clone(alloc)?),
-    };
-    let keyword = AdditionalProperties {
-        properties,
-        patterns,
-        table,
-        rest,
-        required,
-        location,
-        patterns_location,
-    };
-    boxed(alloc, keyword)
+    let properties = declared(alloc, beside.properties)?;
+    match (properties, beside.patterns) {
+        (None, None) => alone(alloc, location, rest),
+        (Some(map), None) => with_properties(alloc, plan, place, location, rest, map),
+        (None, Some(patterns)) => with_patterns(alloc, location, rest, patterns),
+        (Some(map), Some(patterns)) => with_both(alloc, location, rest, map, patterns),
+    }
 }
 
 /// The validator of `additionalProperties` in the object at the place, over the node for the rest,
@@ -138,5 +232,6 @@ pub fn make<K: Leaf, R: RegexEngine, N: BuiltNode<K, R>>(
     ensures makes { IfOk result (λ k. MakesRestriction (kit K.Leaf R.RegexEngine)
         N.answers location rest beside place.now (planned plan.entry) (k ∷ [])) }
 {
-    form(alloc, plan, place, location, rest, beside)
+    let restriction = form(alloc, plan, place, location, rest, beside)?;
+    Ok(KeywordOver::AdditionalProperties(restriction))
 }

@@ -1,5 +1,5 @@
 -- One level of a node: its answers, over those of the nodes below it.
-use Rattle.std.specs.Prelude.{◌≡◌, ◌==◌, nat_lt, length, [], ◌∷◌, Bool, true, not, ◌++◌, ◌||◌, ◌&&◌, map, Option, Some, None, is_some, List, Vec, Box, bytes_eq, string_bytes}
+use Rattle.std.specs.Prelude.{◌≡◌, ◌==◌, nat_lt, length, [], ◌∷◌, Bool, true, not, ◌++◌, ◌||◌, ◌&&◌, map, Option, Some, None, is_some, option_map, List, Vec, bytes_eq, string_bytes}
 use Rattle.std.specs.declared.alloc.Global.{Global}
 use Rattle.std.specs.List.{flat_map, list_all}
 use Rattle.std.specs.Option.{option_map_or}
@@ -23,7 +23,7 @@ use Rattle.olk_tree.specs.Maps.{named, nodes_in, mapped, two_texts}
 use Rattle.olk_tree.specs.Dependencies.{due_nodes}
 use Rattle.olk_tree.specs.PropertyDependencies.{chosen_nodes}
 use Rattle.olk_tree.specs.OneOf.{one_of_report}
-use Rattle.olk_tree.specs.Additional.{sides_of, required_text, required_place, lacks, has_neighbours, additional_report, additional_first, additional_tree}
+use Rattle.olk_tree.specs.Additional.{Held, sides_of, patterns_in, required_text, required_place, lacks, has_neighbours, additional_means, additional_report, additional_first, additional_tree}
 use Rattle.olk_tree.specs.Firsts.{or_else, head_of, first_of}
 use Rattle.olk_tree.specs.Validators.{answers_of, validator_means, validator_report, validator_first, validator_tree, validator_formed}
 use Rattle.olk_tree.specs.Bodies.{body_means, body_report, body_first, body_tree, body_formed}
@@ -32,8 +32,9 @@ use Rattle.olk_tree.specs.Answers.{Answers}
 use Rattle.olk_tree.specs.Places.{AnswersBy}
 use Rattle.olk_node.specs.Nodes.{node_step, answers}
 use Rattle.olk_tree.specs.declared.big_map.BigMap.{BigMap}
-use Rattle.olk_tree.specs.Tables.{no_table}
-use Rattle.olk_tree.specs.declared.additional_properties.AdditionalProperties.{AdditionalProperties}
+use Rattle.olk_tree.specs.Holdings.{held}
+use Rattle.olk_tree.specs.declared.additional_properties.Restriction.{Restriction}
+use Rattle.olk_tree.specs.declared.additional_properties.Restriction.TheVariants as by
 use Rattle.olk_tree.specs.declared.properties_map.PropertiesMap.{PropertiesMap}
 use Rattle.olk_tree.specs.declared.map.SmallMap.{SmallMap}
 use Rattle.olk_tree.specs.declared.properties_map.PropertiesMap.TheVariants.{Small, Big}
@@ -95,39 +96,73 @@ module _ {K R : Type 0} (o : Kit K R) where
   opened n b = map-SchemaNode K R Node Answers (answers o) record n { body = b }
 
   -- the keyword that the answers of nodes make of one that holds nodes
-  abbrev restriction_of : KeywordOver K R Answers → AdditionalProperties R Answers
-  restriction_of (keyword.AdditionalProperties k) = k.value
-  restriction_of k = record { properties = None; patterns = None; table = no_table; rest = None; required = None; location = []; patterns_location = [] }
+  abbrev restriction_of : KeywordOver K R Answers → Restriction R Answers
+  restriction_of (keyword.AdditionalProperties k) = k
+  restriction_of k = by.False record { location = [] }
 
-  abbrev first_in : List (KeywordOver K R Answers) → AdditionalProperties R Answers
-  first_in [] = restriction_of (keyword.PropertyNamesFalse record { location = [] })
+  abbrev first_in : List (KeywordOver K R Answers) → Restriction R Answers
+  first_in [] = by.False record { location = [] }
   first_in (k ∷ ks) = restriction_of k
 
-  abbrev first_restriction : Body (KeywordOver K R Answers) → AdditionalProperties R Answers
+  abbrev first_restriction : Body (KeywordOver K R Answers) → Restriction R Answers
   first_restriction (Keywords ks) = first_in ks.items
-  first_restriction b = restriction_of (keyword.PropertyNamesFalse record { location = [] })
+  first_restriction b = by.False record { location = [] }
 
-  module _ (n : OpenNode) (ks : Vec NodeKeyword Global) (k : Box (AdditionalProperties R Node) Global) where
-    abbrev answered : AdditionalProperties R Answers
-    answered = first_restriction (opened n (Keywords record ks { len = 1; cap = 1; items = keyword.AdditionalProperties k ∷ []; ok = (refl, omega arith); small = omega arith })).body
+  abbrev entry_answers : CompiledPattern R × Node → CompiledPattern R × Answers
+  entry_answers e = (e.0, answers o e.1)
 
-    sides_answer : Mapped (answers o) (sides_of answered) (sides_of k.value)
+  abbrev map_answered : SmallMap Node → SmallMap Answers
+  map_answered m = record { entries = map (with_name (answers o)) m.entries }
+
+  abbrev properties_answered : PropertiesMap Node → PropertiesMap Answers
+  properties_answered (Small m) = Small (map_answered m)
+  properties_answered (Big m) = Big record { entries = map (with_name (answers o)) m.entries }
+
+  -- what a validator holds, with the answers of its nodes in their place
+  abbrev held_answered : Held R Node → Held R Answers
+  held_answered h = record {
+    properties = option_map properties_answered h.properties;
+    patterns = option_map (map entry_answers) h.patterns;
+    table = h.table;
+    rest = option_map (answers o) h.rest;
+    required = h.required;
+    location = h.location;
+    patterns_location = h.patterns_location;
+  }
+
+  module _ (h : Held R Node) where
+    sides_answer : Mapped (answers o) (sides_of (held_answered h)) (sides_of h)
     sides_answer = record {
-      declared = none_few_or_many k.value.properties (λ e. rw e refl) (λ m e. rw e (placed_entries-map (answers o) m.entries)) (λ m e. rw e (placed_entries-map (answers o) m.entries));
-      at = λ x. none_few_or_many k.value.properties (λ e. rw e refl) (λ m e. rw e (lookup_placed-map (answers o) m.entries x)) (λ m e. rw e (lookup_placed-map (answers o) m.entries x));
-      patterns = none_or_one k.value.patterns (λ e. rw e refl) (λ ps e. rw e refl);
+      declared = none_few_or_many h.properties (λ e. rw e refl) (λ m e. rw e (placed_entries-map (answers o) m.entries)) (λ m e. rw e (placed_entries-map (answers o) m.entries));
+      at = λ x. none_few_or_many h.properties (λ e. rw e refl) (λ m e. rw e (lookup_placed-map (answers o) m.entries x)) (λ m e. rw e (lookup_placed-map (answers o) m.entries x));
+      patterns = none_or_one h.patterns (λ e. rw e refl) (λ ps e. rw e refl);
       known = refl;
-      rest = none_or_one k.value.rest (λ e. rw e refl) (λ r e. rw e refl);
+      rest = none_or_one h.rest (λ e. rw e refl) (λ r e. rw e refl);
     }
 
-    declares_alike : is_some answered.properties ≡ is_some k.value.properties
-    declares_alike = none_few_or_many k.value.properties (λ e. rw e refl) (λ m e. rw e refl) (λ m e. rw e refl)
+    declares_alike : is_some (held_answered h).properties ≡ is_some h.properties
+    declares_alike = none_or_one h.properties (λ e. rw e refl) (λ m e. rw e refl)
 
-    matches_alike : is_some answered.patterns ≡ is_some k.value.patterns
-    matches_alike = none_or_one k.value.patterns (λ e. rw e refl) (λ ps e. rw e refl)
+    matches_alike : is_some (held_answered h).patterns ≡ is_some h.patterns
+    matches_alike = none_or_one h.patterns (λ e. rw e refl) (λ ps e. rw e refl)
 
-    neighbours_alike : has_neighbours answered ≡ has_neighbours k.value
+    neighbours_alike : has_neighbours (held_answered h) ≡ has_neighbours h
     neighbours_alike = λ i. declares_alike i || matches_alike i
+
+  module _ (n : OpenNode) (ks : Vec NodeKeyword Global) where
+    abbrev answered : Restriction R Node → Restriction R Answers
+    answered k = first_restriction (opened n (Keywords record ks { len = 1; cap = 1; items = keyword.AdditionalProperties k ∷ []; ok = (refl, omega arith); small = omega arith })).body
+
+    is_answered : (k : Restriction R Node) → held (answered k) ≡ held_answered (held k)
+    is_answered (by.Schema k) = refl
+    is_answered (by.False k) = refl
+    is_answered (by.NotEmpty k) = few_or_many k.value.properties (λ m e. rw e refl) (λ m e. rw e refl)
+    is_answered (by.NotEmptyFalse k) = few_or_many k.value.properties (λ m e. rw e refl) (λ m e. rw e refl)
+    is_answered (by.NotEmptyFalseWithRequired1 k) = few_or_many k.value.properties (λ m e. rw e refl) (λ m e. rw e refl)
+    is_answered (by.WithPatterns k) = refl
+    is_answered (by.WithPatternsFalse k) = refl
+    is_answered (by.WithPatternsNotEmpty k) = few_or_many k.value.properties (λ m e. rw e refl) (λ m e. rw e refl)
+    is_answered (by.WithPatternsNotEmptyFalse k) = few_or_many k.value.properties (λ m e. rw e refl) (λ m e. rw e refl)
 
   -- nodes, and nodes by names
   nodes_mean : (v : Data) (ns : List Node) → every (λ a. a.means v) (map (answers o) ns) ≡ every (λ n. means n v) ns
@@ -175,8 +210,9 @@ module _ {K R : Type 0} (o : Kit K R) where
     | keyword.PropertyDependencies k ↦ ap (every (λ a. a.means v)) (chosen_nodes-map (answers o) v _ (λ m. refl) k.dependencies.entries)
         ∙ nodes_mean v (chosen_nodes (named k.dependencies) v)
     | keyword.PatternProperties k ↦ patterns_mean-map o.answers (answers o) v o.costs (λ a. a.means) means (λ n w. refl) k.patterns.items
-    | keyword.AdditionalProperties k ↦ ap (λ q. both q (always (is_empty (missing (required_text k.value.required) v))))
-        (additional_means-map (answers o) o.answers (sides_answer n ks k) o.costs (λ a. a.means) means (λ y w. refl) v)
+    | keyword.AdditionalProperties k ↦ ap (λ h. both (additional_means o.answers o.costs (λ a. a.means) (sides_of h) v) (always (is_empty (missing (required_text h.required) v))))
+        (is_answered n ks k) ∙ ap (λ q. both q (always (is_empty (missing (required_text (held k).required) v))))
+        (additional_means-map (answers o) o.answers (sides_answer (held k)) o.costs (λ a. a.means) means (λ y w. refl) v)
     | _ ↦ refl
   ]) ks.items
   means_layer n b v = refl
@@ -200,9 +236,10 @@ module _ {K R : Type 0} (o : Kit K R) where
         | keyword.PropertyDependencies k ↦ ap (flat_map (λ a. a.report u v Q)) (chosen_nodes-map (answers o) v _ (λ m. refl) k.dependencies.entries)
             ∙ nodes_find u v Q (chosen_nodes (named k.dependencies) v)
         | keyword.PatternProperties k ↦ patterns_report-map o.answers (answers o) u v (λ a. a.report) finds (λ n w R. refl) Q k.patterns.items
-        | keyword.AdditionalProperties k ↦ ap (λ b. additional_report o.answers (sides_of (answered n ks k)) u v Q b k.value.location (λ a. a.report) ++ lacks k.value.required v Q)
-            (neighbours_alike n ks k) ∙ ap (λ fs. fs ++ lacks k.value.required v Q)
-            (additional_report-map (answers o) o.answers (sides_answer n ks k) u v Q (λ a. a.report) finds (λ y w R. refl) (has_neighbours k.value) k.value.location)
+        | keyword.AdditionalProperties k ↦ ap (λ h. additional_report o.answers (sides_of h) u v Q (has_neighbours h) h.location (λ a. a.report) ++ lacks h.required v Q)
+            (is_answered n ks k) ∙ ap (λ b. additional_report o.answers (sides_of (held_answered (held k))) u v Q b (held k).location (λ a. a.report) ++ lacks (held k).required v Q)
+            (neighbours_alike (held k)) ∙ ap (λ fs. fs ++ lacks (held k).required v Q)
+            (additional_report-map (answers o) o.answers (sides_answer (held k)) u v Q (λ a. a.report) finds (λ y w R. refl) (has_neighbours (held k)) (held k).location)
         | _ ↦ refl
       ]) ks.items
   finds_layer n b u v Q = refl
@@ -226,9 +263,10 @@ module _ {K R : Type 0} (o : Kit K R) where
         | keyword.PropertyDependencies k ↦ ap (first_of (λ a. a.first u v Q)) (chosen_nodes-map (answers o) v _ (λ m. refl) k.dependencies.entries)
             ∙ nodes_first u v Q (chosen_nodes (named k.dependencies) v)
         | keyword.PatternProperties k ↦ patterns_first-map o.answers (answers o) u v (λ a. a.first) finds_first (λ n w R. refl) Q k.patterns.items
-        | keyword.AdditionalProperties k ↦ ap (λ b. or_else (additional_first o.answers (sides_of (answered n ks k)) u v Q b k.value.location (λ a. a.first)) (lacks k.value.required v Q))
-            (neighbours_alike n ks k) ∙ ap (λ fs. or_else fs (lacks k.value.required v Q))
-            (additional_first-map (answers o) o.answers (sides_answer n ks k) u v Q (λ a. a.first) finds_first (λ y w R. refl) (has_neighbours k.value) k.value.location)
+        | keyword.AdditionalProperties k ↦ ap (λ h. or_else (additional_first o.answers (sides_of h) u v Q (has_neighbours h) h.location (λ a. a.first)) (lacks h.required v Q))
+            (is_answered n ks k) ∙ ap (λ b. or_else (additional_first o.answers (sides_of (held_answered (held k))) u v Q b (held k).location (λ a. a.first)) (lacks (held k).required v Q))
+            (neighbours_alike (held k)) ∙ ap (λ fs. or_else fs (lacks (held k).required v Q))
+            (additional_first-map (answers o) o.answers (sides_answer (held k)) u v Q (λ a. a.first) finds_first (λ y w R. refl) (has_neighbours (held k)) (held k).location)
         | _ ↦ refl
       ]) ks.items
   first_layer n b u v Q = refl
@@ -256,16 +294,15 @@ module _ {K R : Type 0} (o : Kit K R) where
             (chosen_nodes-map (answers o) v _ (λ m. refl) k.dependencies.entries) ∙ ap (plain k.location Q)
             (branches (chosen_nodes (named k.dependencies) v))
         | keyword.PatternProperties k ↦ patterns_tree-map o.answers (answers o) u v (λ a. a.tree u) (λ n. shows n u) (λ n w R. refl) k.location Q k.patterns.items
-        | keyword.AdditionalProperties k ↦ (λ i. additional_tree o.answers (sides_of (answered n ks k)) u v Q (declares_alike n ks k i)
-            (matches_alike n ks k i) k.value.location k.value.patterns_location (λ a. a.tree u) (missing_trees (required_text k.value.required) v (required_place k.value.required) Q))
-            ∙ additional_tree-map (answers o) o.answers (sides_answer n ks k) u v Q (λ a. a.tree u) (λ n. shows n u) (λ y w R. refl)
-            (is_some k.value.properties) (is_some k.value.patterns) k.value.location k.value.patterns_location (missing_trees (required_text k.value.required) v (required_place k.value.required) Q)
+        | keyword.AdditionalProperties k ↦ ap (λ h. additional_tree o.answers (sides_of h) u v Q (is_some h.properties) (is_some h.patterns) h.location h.patterns_location (λ a. a.tree u)
+            (missing_trees (required_text h.required) v (required_place h.required) Q)) (is_answered n ks k)
+            ∙ (λ i. additional_tree o.answers (sides_of (held_answered (held k))) u v Q (declares_alike (held k) i)
+            (matches_alike (held k) i) (held k).location (held k).patterns_location (λ a. a.tree u) (missing_trees (required_text (held k).required) v (required_place (held k).required) Q))
+            ∙ additional_tree-map (answers o) o.answers (sides_answer (held k)) u v Q (λ a. a.tree u) (λ n. shows n u) (λ y w R. refl)
+            (is_some (held k).properties) (is_some (held k).patterns) (held k).location (held k).patterns_location (missing_trees (required_text (held k).required) v (required_place (held k).required) Q)
         | _ ↦ refl
       ]) ks.items)
   shows_layer n b u v Q = refl
-
-  abbrev entry_answers : CompiledPattern R × Node → CompiledPattern R × Answers
-  entry_answers e = (e.0, answers o e.1)
 
   nodes_formed : (ns : List Node) → list_all (λ a. a.formed) (map (answers o) ns) ≡ list_all is_formed ns
   nodes_formed ns = list_all-map (λ a. a.formed) (answers o) ns
@@ -273,30 +310,36 @@ module _ {K R : Type 0} (o : Kit K R) where
   entries_formed : (es : List (Name × Node)) → list_all (λ a. a.formed) (nodes_in (map (with_name (answers o)) es)) ≡ list_all is_formed (nodes_in es)
   entries_formed es = ap (list_all (λ a. a.formed)) (nodes_in-map (answers o) es) ∙ nodes_formed (nodes_in es)
 
-  abbrev map_answered : SmallMap Node → SmallMap Answers
-  map_answered m = record { entries = map (with_name (answers o)) m.entries }
-
   small_alike : (es : List (Name × Node)) → nat_lt (length (map (with_name (answers o)) es)) HASHMAP_THRESHOLD ≡ nat_lt (length es) HASHMAP_THRESHOLD
   small_alike es = ap (λ l. nat_lt l HASHMAP_THRESHOLD) (length-map es _)
 
-  module _ (n : OpenNode) (ks : Vec NodeKeyword Global) (k : Box (AdditionalProperties R Node) Global) where
-    names_alike : names_beside (answered n ks k).properties ≡ names_beside k.value.properties
-    names_alike = none_few_or_many k.value.properties (λ e. rw e refl) (λ m e. rw e (keys_in-map (answers o) m.entries)) (λ m e. rw e (keys_in-map (answers o) m.entries))
+  -- all that a validator holds has its form
+  abbrev all_formed : {N : Type 0} → (N → Bool) → Held R N → Bool
+  all_formed f k = option_map_or (λ m. is_map_formed m && list_all f (nodes_in (mapped m))) k.properties true
+      && option_map_or (is_table_formed o.answers (names_beside k.properties) (map (λ e. e.0) (patterns_in k.patterns))) k.table true
+      && list_all (λ e. f e.1) (patterns_in k.patterns)
+      && option_map_or f k.rest true
 
-    maps_alike : option_map_or (λ m. is_map_formed m && list_all (λ a. a.formed) (nodes_in (mapped m))) (answered n ks k).properties true ≡ option_map_or
-        (λ m. is_map_formed m && list_all is_formed (nodes_in (mapped m))) k.value.properties true
+  module _ (h : Held R Node) where
+    names_alike : names_beside (held_answered h).properties ≡ names_beside h.properties
+    names_alike = none_few_or_many h.properties (λ e. rw e refl) (λ m e. rw e (keys_in-map (answers o) m.entries)) (λ m e. rw e (keys_in-map (answers o) m.entries))
+
+    maps_alike : option_map_or (λ m. is_map_formed m && list_all (λ a. a.formed) (nodes_in (mapped m))) (held_answered h).properties true ≡ option_map_or
+        (λ m. is_map_formed m && list_all is_formed (nodes_in (mapped m))) h.properties true
     maps_alike =
-        none_few_or_many k.value.properties (λ e. rw e refl) (λ m e. rw e λ i. small_alike m.entries i && entries_formed m.entries i) (λ m e. rw e λ i. not (small_alike m.entries i) && entries_formed m.entries i)
+        none_few_or_many h.properties (λ e. rw e refl) (λ m e. rw e λ i. small_alike m.entries i && entries_formed m.entries i) (λ m e. rw e λ i. not (small_alike m.entries i) && entries_formed m.entries i)
 
-    tables_alike : (names : List Name) → option_map_or (λ es. is_table_formed o.answers names (map (λ e. e.0) es.items) k.value.table && list_all (λ e. e.1.formed) es.items)
-        (answered n ks k).patterns true ≡ option_map_or (λ es. is_table_formed o.answers names (map (λ e. e.0) es.items) k.value.table
-        && list_all (λ e. (answers o e.1).formed) es.items) k.value.patterns true
-    tables_alike names =
-        none_or_one k.value.patterns (λ e. rw e refl) (λ es e. rw e (λ i. is_table_formed o.answers names
-        (map-map (λ e. e.0) (λ e. e.0) entry_answers (λ e. refl) es.items i) k.value.table && list_all-map (λ e. e.1.formed) entry_answers es.items i))
+    patterns_alike : map (λ e. e.0) (patterns_in (held_answered h).patterns) ≡ map (λ e. e.0) (patterns_in h.patterns)
+    patterns_alike = none_or_one h.patterns (λ e. rw e refl) (λ es e. rw e (map-map (λ e. e.0) (λ e. e.0) entry_answers (λ e. refl) es))
 
-    rest_alike : option_map_or (λ a. a.formed) (answered n ks k).rest true ≡ option_map_or is_formed k.value.rest true
-    rest_alike = none_or_one k.value.rest (λ e. rw e refl) (λ r e. rw e refl)
+    matched_formed : list_all (λ e. e.1.formed) (patterns_in (held_answered h).patterns) ≡ list_all (λ e. is_formed e.1) (patterns_in h.patterns)
+    matched_formed = none_or_one h.patterns (λ e. rw e refl) (λ es e. rw e (list_all-map (λ e. e.1.formed) entry_answers es))
+
+    rest_alike : option_map_or (λ a. a.formed) (held_answered h).rest true ≡ option_map_or is_formed h.rest true
+    rest_alike = none_or_one h.rest (λ e. rw e refl) (λ r e. rw e refl)
+
+    held_formed : all_formed (λ a. a.formed) (held_answered h) ≡ all_formed is_formed h
+    held_formed = λ i. maps_alike i && option_map_or (is_table_formed o.answers (names_alike i) (patterns_alike i)) h.table true && matched_formed i && rest_alike i
 
   formed_layer : (n : OpenNode) (b : Body NodeKeyword) → (node_step o (opened n b)).formed ≡ body_formed
       (validator_formed o is_formed) b
@@ -313,7 +356,7 @@ module _ {K R : Type 0} (o : Kit K R) where
         ∙ all-map (λ m. list_all (λ a. a.formed) (nodes_in m.entries)) (λ m. list_all is_formed (nodes_in m.entries)) map_answered
         (λ m. entries_formed m.entries) (nodes_in k.dependencies.entries)
     | keyword.PatternProperties k ↦ λ i. not (length-map k.patterns.items entry_answers i == 1) && list_all-map (λ e. e.1.formed) entry_answers k.patterns.items i
-    | keyword.AdditionalProperties k ↦ (λ i. maps_alike n ks k i && tables_alike n ks k (names_alike n ks k i) i && rest_alike n ks k i)
+    | keyword.AdditionalProperties k ↦ ap (all_formed (λ a. a.formed)) (is_answered n ks k) ∙ held_formed (held k)
     | _ ↦ refl
   ]) ks.items
   formed_layer n b = refl

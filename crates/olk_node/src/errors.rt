@@ -1,6 +1,6 @@
 //! What is wrong with a value at a place.
 use crate::node::SchemaNode;
-use olk_base::{Leaf, Node, RegexEngine, ValidationContext};
+use olk_base::{Leaf, RegexEngine, Subject, ValidationContext};
 use olk_errors::{ErrorSink, Stop, Walk, walk_body};
 use olk_paths::Trail;
 
@@ -10,7 +10,7 @@ impl<'a, K: Leaf, R: RegexEngine> Walk<'a> for SchemaNode<K, R> {
     #[tactic(auto, using(crate::proofs::Layers::layers))]
     fn walk(
         &'a self,
-        node: Node<'a>,
+        node: Subject<'_, 'a>,
         trail: &Trail<'_, 'a>,
         ctx: &mut ValidationContext,
         sink: &mut ErrorSink<'a>,

@@ -1,6 +1,6 @@
 //! What a place shows of a value.
 use crate::node::SchemaNode;
-use olk_base::{Leaf, Node, RegexEngine};
+use olk_base::{Leaf, RegexEngine, Subject};
 use olk_evaluate::{EvaluationContext, Located, Show, show_body};
 use olk_reports::EvaluationResult;
 use std::alloc::AllocError;
@@ -17,7 +17,7 @@ impl<'a, K: Leaf, R: RegexEngine> Show<'a> for SchemaNode<K, R> {
     #[tactic(auto, using(crate::proofs::Layers::layers))]
     fn show(
         &'a self,
-        node: Node<'a>,
+        node: Subject<'_, 'a>,
         ctx: &mut EvaluationContext,
         outcome: &mut EvaluationResult<'a>,
     ) -> Result<(), AllocError> {

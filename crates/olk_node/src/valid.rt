@@ -1,12 +1,12 @@
 //! Whether a place accepts a value.
 use crate::node::SchemaNode;
-use olk_base::{Leaf, Node, RegexEngine, ValidationContext};
-use olk_check::IsValid;
+use olk_base::{Asked, Leaf, RegexEngine, ValidationContext};
+use olk_check::Check;
 
-impl<K: Leaf, R: RegexEngine> IsValid for SchemaNode<K, R> {
+impl<K: Leaf, R: RegexEngine> Check for SchemaNode<K, R> {
     #[inline(always)]
     #[tactic(auto, using(crate::proofs::Layers::layers))]
-    fn is_valid(&self, node: Node<'_>, ctx: &mut ValidationContext) -> bool {
-        self.body.is_valid(node, ctx)
+    fn check<A: Asked>(&self, asked: A, ctx: &mut ValidationContext) -> bool {
+        self.body.check(asked, ctx)
     }
 }

@@ -364,7 +364,7 @@ fn declared_names_beside_no_object(rt: HostRuntime) -> Result<(), Fail> {
 fn leaf_answers<N: IsValid>(node: &N, text: &Value, name: &String) -> (bool, bool, bool, u64) {
     let mut ctx = ValidationContext::new(true);
     let is_text = node.is_valid(Node::Value(text), &mut ctx);
-    let is_name = node.is_valid(Node::Name(name), &mut ctx);
+    let is_name = node.is_valid(Node::Name(name.as_str()), &mut ctx);
     let is_null = node.is_valid(Node::Value(&Value::Null), &mut ctx);
     (is_text, is_name, is_null, ctx.meter().asked())
 }

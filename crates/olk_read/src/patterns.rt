@@ -37,7 +37,7 @@ fn refuse_pattern<'a>(alloc: Global, location: &Location, pattern: &'a String) -
         Ok(place) => {
             let error = ValidationError::refusing(
                 ValidationErrorKind::Regex,
-                Node::Name(pattern),
+                Node::Name(pattern.as_str()),
                 String::new(alloc),
                 place,
             );

@@ -233,6 +233,20 @@ impl<'a> ValidationError<'a> {
     pub fn wrapping(
         error: Box<ValidationError<'a>>,
         instance: Node<'a>,
+        instance_path: String,
+    ) -> Self
+        ensures value { value_of result ≡ instance.entry }
+        ensures fault { fault_of result
+            ≡ wrapped (data_of instance.entry) (string_bytes instance_path)
+            (fault_of error.entry.value) }
+    {
+        ValidationError::wrapping_at(error, instance, PathText::from(instance_path))
+    }
+
+    /// The same, with the text of its path as it is kept.
+    pub fn wrapping_at(
+        error: Box<ValidationError<'a>>,
+        instance: Node<'a>,
         instance_path: PathText,
     ) -> Self
         ensures value { value_of result ≡ instance.entry }

@@ -1,9 +1,11 @@
 //! What a validator shows of a value: results, and nodes that have their places.
 ghost use Rattle.std.specs.Prelude.{◌≡◌, ◌∷◌, [], IfOk, OnOk, OnErr, Some, None, true, false, string_bytes, map, option_map};
+ghost use Rattle.std.specs.List.{list_all};
 ghost use Rattle.olk_base.specs.Nodes.{data_of};
 ghost use Rattle.olk_spec.specs.Faults.{fault};
 ghost use Rattle.olk_spec.specs.Names.{Path};
 ghost use Rattle.olk_spec.specs.Tree.{errors, is_valid};
+ghost use Rattle.olk_reports.specs.Evaluations.{tree_of};
 
 use crate::error::{ValidationError, ValidationErrorKind};
 use olk_base::Node;
@@ -94,7 +96,7 @@ impl Drop for EvaluationNode<'_> {
 
 impl<'a> EvaluationResult<'a> {
     ghost use Rattle.olk_reports.specs.Errors.{kind_of};
-    ghost use Rattle.olk_reports.specs.Evaluations.{AddsErrors, shown_of, tree_of, described_of, nothing_shown, annotated, errored, with_names, called_invalid, valid_if};
+    ghost use Rattle.olk_reports.specs.Evaluations.{AddsErrors, shown, shown_of, tree_of, described_of, nothing_shown, annotated, errored, with_names, called_invalid, valid_if};
 
     /// Valid, with nothing to show.
     pub fn valid_empty(alloc: Global) -> Self
@@ -106,6 +108,47 @@ impl<'a> EvaluationResult<'a> {
             errors: Vec::new(alloc),
             children: Vec::new(alloc),
         }
+    }
+
+    /// Valid exactly if all nodes below are.
+    pub fn from_children(alloc: Global, children: Vec<EvaluationNode<'a>>) -> Self
+        ensures { shown_of result
+            ≡ shown (list_all is_valid (map tree_of children.entry.items)) None []
+            (map tree_of children.entry.items) }
+    {
+        let valid = all_valid(children.as_slice());
+        EvaluationResult {
+            valid,
+            annotation: None,
+            errors: Vec::new(alloc),
+            children,
+        }
+    }
+
+    /// Invalid whatever the nodes below are, with no error of its own.
+    pub fn invalid_with(alloc: Global, children: Vec<EvaluationNode<'a>>) -> Self
+        ensures { shown_of result ≡ shown false None [] (map tree_of children.entry.items) }
+    {
+        EvaluationResult {
+            valid: false,
+            annotation: None,
+            errors: Vec::new(alloc),
+            children,
+        }
+    }
+
+    /// What `from_children` gives of one.
+    ///
+    /// # Errors
+    ///
+    /// Out of memory.
+    pub fn from_node(alloc: Global, node: EvaluationNode<'a>) -> Result<Self, AllocError>
+        ensures { IfOk result (λ r. shown_of r
+            ≡ shown (is_valid (tree_of node.entry)) None [] (tree_of node.entry ∷ [])) }
+    {
+        let mut children = Vec::with_capacity(alloc, 1)?;
+        children.push(node)?;
+        Ok(EvaluationResult::from_children(alloc, children))
     }
 
     /// Where its memory comes from.
@@ -275,4 +318,10 @@ impl<'a> EvaluationNode<'a> {
     {
         self.result.children.as_slice()
     }
+}
+
+fn all_valid(children: &[EvaluationNode<'_>]) -> bool
+    ensures { result ≡ list_all (λ n. is_valid (tree_of n)) children.now }
+{
+    children.iter().all(|child| child.valid())
 }

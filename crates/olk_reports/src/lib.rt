@@ -11,3 +11,4 @@ mod message;
 pub use entry::{AnnotationEntry, ErrorEntry, Evaluation, EvaluationFlag};
 pub use error::{BuildError, ValidateError, ValidationError, ValidationErrorKind};
 pub use evaluation::{ErrorDescription, EvaluationNode, EvaluationResult};
+pub use olk_paths::{InstancePath, Location, Mark};

@@ -19,7 +19,7 @@ pub(crate) fn node_text(alloc: Global, node: Node<'_>) -> Result<String, AllocEr
     match node {
         Node::Value(Value::String(text)) => quoted_text(alloc, text.as_str()),
         Node::Value(value) => value.to_string(alloc),
-        Node::Name(name) => quoted_text(alloc, name.as_str()),
+        Node::Name(name) => quoted_text(alloc, name),
     }
 }
 

@@ -4,7 +4,7 @@ use Rattle.std.specs.declared.alloc.Global.{Global}
 use Rattle.std.specs.List.{list_all, flat_map}
 use Rattle.std.proofs.Common.{refl, sym, ap, ◌∙◌, arith}
 use Rattle.serde_json.specs.Data.{Data, Members}
-use Rattle.olk_spec.specs.Names.{Name, Path, ◌//◌, lookup_name, is_empty}
+use Rattle.olk_spec.specs.Names.{Name, Text, Path, ◌//◌, lookup_name, is_empty}
 use Rattle.olk_spec.specs.World.{Says}
 use Rattle.olk_spec.specs.Vocabulary.{additional_properties, keyword_named}
 use Rattle.olk_spec.specs.Faults.{Fault, ◌∼◌, like_through}
@@ -27,38 +27,39 @@ use Rattle.olk_meaning.proofs.RestrictionShown.{additional_shows}
 use Rattle.olk_tree.specs.Questions.{Question}
 use Rattle.olk_tree.specs.Additional.{Sides, repeats, means_in_turn, named_means, report_in_turn, named_report, additional_tree, sides_of, has_neighbours, required_text, required_place, lacks}
 use Rattle.olk_tree.specs.Validators.{answers_of, validator_means, validator_report, validator_tree}
+use Rattle.olk_tree.specs.Holdings.{held}
 use Rattle.olk_tree.specs.Shown.{missing_trees}
 use Rattle.olk_tree.specs.Sides.{RestrictionStands}
-use Rattle.olk_tree.specs.declared.additional_properties.AdditionalProperties.{AdditionalProperties}
-use Rattle.olk_tree.specs.declared.additional_properties.RequiredName.{RequiredName}
+use Rattle.olk_tree.specs.declared.additional_properties.Restriction.{Restriction}
 use Rattle.olk_tree.specs.declared.node.KeywordOver.TheVariants as keyword
 use Rattle.olk_tree.proofs.Restricted.{restricted_accepts, restricted_finds, restricted_shows}
 use Rattle.olk_tree.proofs.RestrictedAsks.{restricted_asks}
 use Rattle.olk_tree.proofs.RestrictedNames.{named_accepts, named_finds, named_asks}
 
--- the place of patterns counts where there are some
+-- the place of patterns counts where they alone stand beside it
 patterns_placed : {R N : Type 0} (answers : R → Name → Says) (S : Sides R N) (u : Bool) (v : Data) (Q : Path) (declares has_patterns : Bool)
-    (A : Path) {L M : Path} (t : N → Data → Path → Tree) (more : List Tree) → (has_patterns ≡ true → L ≡ M)
+    (A : Path) {L M : Path} (t : N → Data → Path → Tree) (more : List Tree) → (has_patterns ≡ true → declares ≡ false → L ≡ M)
     → additional_tree answers S u v Q declares has_patterns A L t more ≡ additional_tree answers S u v Q declares has_patterns A M t more
-patterns_placed answers S u v Q declares true A t more e = ap (λ L. additional_tree answers S u v Q declares true A L t more) (e refl)
+patterns_placed answers S u v Q false true A t more e = ap (λ L. additional_tree answers S u v Q false true A L t more) (e refl refl)
+patterns_placed answers S u v Q true true A t more e = refl
 patterns_placed answers S u v Q declares false A t more e = refl
 
 module _ {K R N : Type 0} (o : Kit K R) (m : N → Data → Question) (r : N → Bool → Data → Path → List Fault) (t : N → Bool → Data → Path → Tree)
-    (k : Box (AdditionalProperties R N) Global) {ms : Members} {d : Data} {P : Path} (h : RestrictionStands o m r t k.value ms d P) where
+    (k : Restriction R N) {ms : Members} {d : Data} {P : Path} (h : RestrictionStands o m r t (held k) ms d P) where
   -- ---- the name that is required
 
-  required_found : (v : Data) (Q : Path) → lacks k.value.required v Q ≡ required_faults (required_beside ms) v (P // codes "required") Q
-  required_found v Q = by k.value.required h.requires h.required_place
+  required_found : (v : Data) (Q : Path) → lacks (held k).required v Q ≡ required_faults (required_beside ms) v (P // codes "required") Q
+  required_found v Q = by (held k).required h.requires h.required_place
     where
-      by : (q : Option RequiredName) → required_text q ≡ required_beside ms → (is_some q ≡ true → required_place q ≡ P // codes "required")
+      by : (q : Option (Text × Path)) → required_text q ≡ required_beside ms → (is_some q ≡ true → required_place q ≡ P // codes "required")
           → lacks q v Q ≡ required_faults (required_beside ms) v (P // codes "required") Q
       by None e p = ap (λ ns. required_faults ns v (P // codes "required") Q) e
       by (Some n) e p = λ i. required_faults (e i) v (p refl i) Q
 
-  required_shown : (v : Data) (Q : Path) → missing_trees (required_text k.value.required) v (required_place k.value.required) Q ≡ required_child ms v P Q
-  required_shown v Q = by k.value.required h.requires h.required_place
+  required_shown : (v : Data) (Q : Path) → missing_trees (required_text (held k).required) v (required_place (held k).required) Q ≡ required_child ms v P Q
+  required_shown v Q = by (held k).required h.requires h.required_place
     where
-      by : (q : Option RequiredName) → required_text q ≡ required_beside ms → (is_some q ≡ true → required_place q ≡ P // codes "required")
+      by : (q : Option (Text × Path)) → required_text q ≡ required_beside ms → (is_some q ≡ true → required_place q ≡ P // codes "required")
           → missing_trees (required_text q) v (required_place q) Q ≡ required_child ms v P Q
       by None e p = ap (λ ns. missing_trees ns v (P // codes "required") Q) e
       by (Some n) e p = λ i. missing_trees (e i) v (p refl i) Q
@@ -67,7 +68,7 @@ module _ {K R N : Type 0} (o : Kit K R) (m : N → Data → Question) (r : N →
 
   -- what it finds but for that name
   abbrev reported : Bool → Data → Path → Bool → Bool → Path → List Fault
-  reported u v Q b named A = cond b (named_report o.answers (sides_of k.value) u v Q named A r) (report_in_turn o.answers (sides_of k.value) u v Q named A r)
+  reported u v Q b named A = cond b (named_report o.answers (sides_of (held k)) u v Q named A r) (report_in_turn o.answers (sides_of (held k)) u v Q named A r)
 
   module _ (distinct : has_repeat (map (λ x. x.0) (listed ms)) ≡ false) (there : lookup_name (codes "additionalProperties") (listed ms) ≡ Some d) (restricted : is_restricted ms ≡ true) where
     -- what the validator stands for
@@ -80,8 +81,8 @@ module _ {K R N : Type 0} (o : Kit K R) (m : N → Data → Question) (r : N →
     unfolding answers_of
     restriction_accepts u v = by (repeats v) refl
       where
-        by : (b : Bool) → repeats v ≡ b → ((cond b (named_means o.answers o.costs m (sides_of k.value) v) (means_in_turn o.answers o.costs m (sides_of k.value) v)).accepts u
-            && is_empty (missing (required_text k.value.required) v)) ≡ list_all (λ x. member_accepts o.world ms x (keyword_named o.world x.0) u v) claimed
+        by : (b : Bool) → repeats v ≡ b → ((cond b (named_means o.answers o.costs m (sides_of (held k)) v) (means_in_turn o.answers o.costs m (sides_of (held k)) v)).accepts u
+            && is_empty (missing (required_text (held k).required) v)) ≡ list_all (λ x. member_accepts o.world ms x (keyword_named o.world x.0) u v) claimed
         by true q = (λ i. named_accepts h.sides u v i && is_empty (missing (h.requires i) v)) ∙ sym (claims_accept o.world ms d distinct there restricted u v)
         by false q = (λ i. restricted_accepts h.sides u v i && is_empty (missing (h.requires i) v)) ∙ sym (claims_accept_each o.world ms d distinct there restricted u v h.declared_once q)
 
@@ -90,7 +91,7 @@ module _ {K R N : Type 0} (o : Kit K R) (m : N → Data → Question) (r : N →
     unfolding answers_of
     restriction_asks u v = by (repeats v) refl
       where
-        by : (b : Bool) → repeats v ≡ b → (cond b (named_means o.answers o.costs m (sides_of k.value) v) (means_in_turn o.answers o.costs m (sides_of k.value) v)).asks u + 0 ≤ sum_by
+        by : (b : Bool) → repeats v ≡ b → (cond b (named_means o.answers o.costs m (sides_of (held k)) v) (means_in_turn o.answers o.costs m (sides_of (held k)) v)).asks u + 0 ≤ sum_by
             (λ x. member_asks o.world ms x (keyword_named o.world x.0) u v) claimed
         by true q =
             let within = named_asks h.sides u v in
@@ -107,7 +108,7 @@ module _ {K R N : Type 0} (o : Kit K R) (m : N → Data → Question) (r : N →
     unfolding answers_of
     restriction_finds u v Q = like_through (∼_append (∼_same placed) (∼_same (required_found v Q))) (by (repeats v) refl)
       where
-        placed : reported u v Q (repeats v) (has_neighbours k.value) k.value.location ≡ reported u v Q (repeats v) (has_beside ms) (P // codes "additionalProperties")
+        placed : reported u v Q (repeats v) (has_neighbours (held k)) (held k).location ≡ reported u v Q (repeats v) (has_beside ms) (P // codes "additionalProperties")
         placed = λ i. reported u v Q (repeats v) (h.declares i || h.has_patterns i) (h.place i)
 
         by : (b : Bool) → repeats v ≡ b → reported u v Q b (has_beside ms) (P // codes "additionalProperties") ++ required_faults (required_beside ms) v
@@ -122,7 +123,7 @@ module _ {K R N : Type 0} (o : Kit K R) (m : N → Data → Question) (r : N →
         → validator_tree o m t u (keyword.AdditionalProperties k) v Q ∷ [] ≡ member_child o.world ms (codes "additionalProperties", d) additional_properties u v P Q
     unfolding answers_of
     restriction_shows u v Q fused = ap (λ x. x ∷ [])
-        (patterns_placed o.answers (sides_of k.value) u v Q (is_some k.value.properties) (is_some k.value.patterns) k.value.location (λ n. t n u)
+        (patterns_placed o.answers (sides_of (held k)) u v Q (is_some (held k).properties) (is_some (held k).patterns) (held k).location (λ n. t n u)
         (missing_trees _ v _ Q) h.patterns_place
-        ∙ restricted_shows ms h.sides u v Q _ _ k.value.location _ (missing_trees _ v _ Q) h.declares h.has_patterns h.place refl (required_shown v Q))
+        ∙ restricted_shows ms h.sides u v Q _ _ (held k).location _ (missing_trees _ v _ Q) h.declares h.has_patterns h.place refl (required_shown v Q))
         ∙ sym (additional_shows o.world ms u v P Q d restricted fused)

@@ -1,6 +1,5 @@
 -- What is asked of a member beside `additionalProperties`: what is declared at its name, what stands at the patterns that match it, and where there is neither the rest.
-use Rattle.std.specs.Prelude.{ℕ, ◌+◌, Bool, true, false, not, ◌&&◌, ◌||◌, cond, List, [], ◌∷◌, ◌++◌, map, Option, Some, None, is_none, is_some, option_map, option_to_list, string_bytes, Vec}
-use Rattle.std.specs.declared.alloc.Global.{Global}
+use Rattle.std.specs.Prelude.{ℕ, ◌+◌, Bool, true, false, not, ◌&&◌, ◌||◌, cond, List, [], ◌∷◌, ◌++◌, map, Option, Some, None, is_none, is_some, option_map, option_to_list, option_copied}
 use Rattle.std.specs.List.{flat_map, enumerate_from}
 use Rattle.serde_json.specs.Data.{Data}
 use Rattle.olk_spec.specs.Names.{Name, Text, Path, ◌//◌, lookup_name, filter_once, put_if, is_empty}
@@ -15,9 +14,8 @@ use Rattle.olk_base.specs.declared.pattern.CompiledPattern.{CompiledPattern}
 use Rattle.olk_tree.specs.Questions.{Question, always, said_to, both, conditional, every}
 use Rattle.olk_tree.specs.Firsts.{or_else, first_of}
 use Rattle.olk_tree.specs.Maps.{mapped, placed_entries}
-use Rattle.olk_tree.specs.Tables.{table_says}
-use Rattle.olk_tree.specs.declared.additional_properties.AdditionalProperties.{AdditionalProperties}
-use Rattle.olk_tree.specs.declared.additional_properties.RequiredName.{RequiredName}
+use Rattle.olk_tree.specs.Tables.{Table, table_says}
+use Rattle.olk_tree.specs.declared.additional_properties.SidesOf.{SidesOf}
 use Rattle.olk_tree.specs.declared.properties_map.PropertiesMap.{PropertiesMap}
 
 -- names with their places and nodes, patterns with their nodes, what is known of these at the places, and the node for the rest; with none the rest is not expected
@@ -31,34 +29,53 @@ pub record Sides (R N : Type 0) : Type 0 where
 abbrev pub placed : {N : Type 0} → List N → List (ℕ × N)
 placed ns = enumerate_from 0 ns
 
--- ---- what the validator holds
+-- ---- what the validators hold
+
+-- what a validator of `additionalProperties` holds of it, of `properties`, of `patternProperties`, and of `required` of one name, with their places
+pub record Held (R N : Type 0) : Type 0 where
+  pub properties : Option (PropertiesMap N)
+  pub patterns : Option (List (CompiledPattern R × N))
+  pub table : Option Table
+  pub rest : Option N
+  pub required : Option (Text × Path)
+  pub location : Path
+  pub patterns_location : Path
 
 -- each declared name with its place and its node, where there is a map
 abbrev pub mapped_places : {N : Type 0} → Option (PropertiesMap N) → List (Name × (ℕ × N))
 mapped_places None = []
 mapped_places (Some m) = placed_entries (mapped m)
 
-abbrev pub patterns_in : {R N : Type 0} → Option (Vec (CompiledPattern R × N) Global) → List (CompiledPattern R × N)
+abbrev pub patterns_in : {R N : Type 0} → Option (List (CompiledPattern R × N)) → List (CompiledPattern R × N)
 patterns_in None = []
-patterns_in (Some v) = v.items
+patterns_in (Some es) = es
 
-abbrev pub sides_of : {R N : Type 0} → AdditionalProperties R N → Sides R N
-sides_of k = record { declared = mapped_places k.properties; patterns = patterns_in k.patterns; known = table_says k.table; rest = k.rest }
+-- what is known by a table; without one, nothing
+abbrev pub known_by : Option Table → ℕ → ℕ → Says
+known_by None p i = unfinished
+known_by (Some t) p i = table_says t p i
+
+abbrev pub sides_of : {R N : Type 0} → Held R N → Sides R N
+sides_of k = record { declared = mapped_places k.properties; patterns = patterns_in k.patterns; known = known_by k.table; rest = k.rest }
+
+-- the same, of what a walk is given
+abbrev pub sides_seen : {R N : Type 0} → SidesOf R N → Sides R N
+sides_seen s = record { declared = mapped_places (option_copied s.properties); patterns = s.patterns.now; known = known_by (option_copied s.table); rest = option_copied s.rest }
 
 -- `properties` or `patternProperties` is present beside it
-abbrev pub has_neighbours : {R N : Type 0} → AdditionalProperties R N → Bool
+abbrev pub has_neighbours : {R N : Type 0} → Held R N → Bool
 has_neighbours k = is_some k.properties || is_some k.patterns
 
 -- the name that `required` wants beside `additionalProperties`, if it is held there
-abbrev pub required_text : Option RequiredName → List Text
+abbrev pub required_text : Option (Text × Path) → List Text
 required_text None = []
-required_text (Some r) = string_bytes r.name ∷ []
+required_text (Some r) = r.0 ∷ []
 
-abbrev pub required_place : Option RequiredName → Path
+abbrev pub required_place : Option (Text × Path) → Path
 required_place None = []
-required_place (Some r) = r.location
+required_place (Some r) = r.1
 
-abbrev pub lacks : Option RequiredName → Data → Path → List Fault
+abbrev pub lacks : Option (Text × Path) → Data → Path → List Fault
 lacks r v Q = required_faults (required_text r) v (required_place r) Q
 
 -- what is known, and where nothing is, what is said

@@ -17,9 +17,8 @@ use Rattle.olk_base.specs.Compiled.{pattern_answers, pattern_costs}
 use Rattle.olk_base.specs.declared.pattern.CompiledPattern.{CompiledPattern}
 use Rattle.olk_tree.specs.Questions.{Question, always, said_to, both, every}
 use Rattle.olk_tree.specs.Firsts.{or_else, first_of}
-use Rattle.olk_tree.specs.Additional.{Sides, known_at, known_or, known_or_asked, matching_from, at_name, others_asked, nodes_asked, is_unexpected, unexpected, repeats, rest_means, patterns_mean_from, member_means_at, member_means, means_in_turn, others_mean, named_means, additional_means, member_report, others_report, report_in_turn, named_report, additional_report, member_first, others_first, first_in_turn, named_first, additional_first, sides_of, has_neighbours, required_text, required_place, lacks}
+use Rattle.olk_tree.specs.Additional.{Held, Sides, known_at, known_or, known_or_asked, matching_from, at_name, others_asked, nodes_asked, is_unexpected, unexpected, repeats, rest_means, patterns_mean_from, member_means_at, member_means, means_in_turn, others_mean, named_means, additional_means, member_report, others_report, report_in_turn, named_report, additional_report, member_first, others_first, first_in_turn, named_first, additional_first, sides_of, has_neighbours, required_text, required_place, lacks}
 use Rattle.olk_tree.specs.Emptiness.{each_agrees, both_agree, or_else_agrees, first_of_agrees}
-use Rattle.olk_tree.specs.declared.additional_properties.AdditionalProperties.{AdditionalProperties}
 
 and_true : (a : Bool) → a ≡ ((a && true) && true)
 and_true true = refl
@@ -160,7 +159,7 @@ module _ {R N : Type 0} (answers : R → Name → Says) (costs : R → Bool) (m 
           by true = named_first_agrees
           by false = first_in_turn_agrees
 
-  module _ (r : N → Bool → Data → Path → List Fault) (h : (n : N) (v : Data) (Q : Path) → is_empty (r n u v Q) ≡ (m n v).accepts u) (k : AdditionalProperties R N) (v : Data) (Q : Path) where
+  module _ (r : N → Bool → Data → Path → List Fault) (h : (n : N) (v : Data) (Q : Path) → is_empty (r n u v Q) ≡ (m n v).accepts u) (k : Held R N) (v : Data) (Q : Path) where
     pub additional_agrees : is_empty (additional_report answers (sides_of k) u v Q (has_neighbours k) k.location r ++ lacks k.required v Q) ≡ (both (additional_means answers costs m (sides_of k) v) (always (is_empty (missing (required_text k.required) v)))).accepts u
     additional_agrees = both_agree (additional_report answers (sides_of k) u v Q _ _ r) _ (members_agree r h (sides_of k) v Q (has_neighbours k) k.location) (none_missing (required_text k.required) v (required_place k.required) Q)
 

@@ -1,22 +1,23 @@
 -- `additionalProperties`, with what it takes over: what its validator answers.
-use Rattle.std.specs.Prelude.{Bool, true, ◌&&◌, ◌++◌, map, is_some}
+use Rattle.std.specs.Prelude.{⊤, [], None, Bool, true, false, ◌&&◌, ◌++◌, map, is_some}
 use Rattle.std.specs.List.{list_all}
+use Rattle.std.proofs.Common.{refl}
 use Rattle.std.specs.Option.{option_map_or}
 use Rattle.olk_spec.specs.Names.{Name, is_empty}
-use Rattle.olk_spec.specs.World.{Says}
+use Rattle.olk_spec.specs.World.{Says, unmatched}
+use Rattle.olk_spec.specs.Tree.{node, no_tree}
 use Rattle.olk_spec.specs.Accepts.{missing}
-use Rattle.olk_tree.specs.Additional.{sides_of, has_neighbours, required_text, required_place, lacks, additional_means, additional_report, additional_first, additional_tree}
+use Rattle.olk_tree.specs.Additional.{Held, sides_of, patterns_in, has_neighbours, required_text, required_place, lacks, additional_means, additional_report, additional_first, additional_tree}
 use Rattle.olk_tree.specs.AdditionalAgreement.{additional_agrees, additional_first_agrees}
-use Rattle.olk_tree.specs.Answers.{AnswersOver}
+use Rattle.olk_tree.specs.Answers.{Answers, AnswersOver, answered}
 use Rattle.olk_tree.specs.Firsts.{or_else}
 use Rattle.olk_tree.specs.Formed.{is_map_formed, names_beside, is_table_formed}
 use Rattle.olk_tree.specs.Maps.{mapped, nodes_in}
 use Rattle.olk_tree.specs.Questions.{always, both}
 use Rattle.olk_tree.specs.Shown.{missing_trees}
-use Rattle.olk_tree.specs.declared.additional_properties.AdditionalProperties.{AdditionalProperties}
 
 module _ {R N : Type 0} (answers : R → Name → Says) (costs : R → Bool) where
-  abbrev pub additional_properties_answers : AdditionalProperties R N → AnswersOver N
+  abbrev pub additional_properties_answers : Held R N → AnswersOver N
   additional_properties_answers k = record {
     means = λ m v. both (additional_means answers costs m (sides_of k) v) (always (is_empty (missing (required_text k.required) v)));
     report = λ m r u v Q. additional_report answers (sides_of k) u v Q (has_neighbours k) k.location r ++ lacks k.required v Q;
@@ -27,6 +28,27 @@ module _ {R N : Type 0} (answers : R → Name → Says) (costs : R → Bool) whe
         (missing_trees (required_text k.required) v (required_place k.required) Q);
     location = k.location;
     formed = λ f. option_map_or (λ m. is_map_formed m && list_all f (nodes_in (mapped m))) k.properties true
-        && option_map_or (λ es. is_table_formed answers (names_beside k.properties) (map (λ e. e.0) es.items) k.table && list_all (λ e. f e.1) es.items) k.patterns true
+        && option_map_or (is_table_formed answers (names_beside k.properties) (map (λ e. e.0) (patterns_in k.patterns))) k.table true
+        && list_all (λ e. f e.1) (patterns_in k.patterns)
         && option_map_or f k.rest true;
   }
+
+-- where no patterns stand, so that none is asked
+abbrev pub unpatterned_answers : {N : Type 0} → Held ⊤ N → AnswersOver N
+unpatterned_answers = additional_properties_answers (λ r n. unmatched) (λ r. false)
+
+-- where no nodes stand
+abbrev no_answers : ⊤ → Answers
+no_answers n = record {
+  means = λ v. always true;
+  report = λ u v Q. [];
+  agrees = λ u v Q. refl;
+  first = λ u v Q. [];
+  first_agrees = λ u v Q. refl;
+  tree = λ u v Q. node [] Q true None [] no_tree;
+  location = [];
+  formed = true;
+}
+
+abbrev pub false_answers : Held ⊤ ⊤ → Answers
+false_answers k = answered no_answers (unpatterned_answers k)

@@ -13,6 +13,7 @@ pub mod Entries
 pub mod Firsts
 pub mod Formed
 pub mod formers
+pub mod Holdings
 pub mod If
 pub mod Leaf
 pub mod Maps

@@ -13,9 +13,8 @@ use Rattle.olk_base.specs.Compiled.{pattern_answers, pattern_costs}
 use Rattle.olk_base.specs.declared.pattern.CompiledPattern.{CompiledPattern}
 use Rattle.olk_meaning.specs.AdditionalProperties.{declared_beside, patterns_beside, required_beside, declares_beside, matches_beside}
 use Rattle.olk_tree.specs.Questions.{Question}
-use Rattle.olk_tree.specs.Additional.{Sides, placed, sides_of, required_text, required_place}
+use Rattle.olk_tree.specs.Additional.{Held, Sides, placed, sides_of, required_text, required_place}
 use Rattle.std.specs.List.{zip}
-use Rattle.olk_tree.specs.declared.additional_properties.AdditionalProperties.{AdditionalProperties}
 
 -- m, r and t are what nodes mean, report and show
 module _ {K R N : Type 0} (o : Kit K R) (m : N → Data → Question) (r : N → Bool → Data → Path → List Fault) (t : N → Bool → Data → Path → Tree) where
@@ -61,12 +60,12 @@ module _ {K R N : Type 0} (o : Kit K R) (m : N → Data → Question) (r : N →
     pub rest : RestAnswers S.rest d (P // codes "additionalProperties")
 
   -- in the schema object with the members ms at P the validator stands for `additionalProperties` of the value d and all that it takes over
-  pub record RestrictionStands (k : AdditionalProperties R N) (ms : Members) (d : Data) (P : Path) : Type 0 where
+  pub record RestrictionStands (k : Held R N) (ms : Members) (d : Data) (P : Path) : Type 0 where
     pub sides : SidesStand (sides_of k) (declared_beside ms) (patterns_beside ms) d P
     pub declares : is_some k.properties ≡ declares_beside ms
     pub has_patterns : is_some k.patterns ≡ matches_beside ms
     pub requires : required_text k.required ≡ required_beside ms
     pub place : k.location ≡ P // codes "additionalProperties"
-    pub patterns_place : is_some k.patterns ≡ true → k.patterns_location ≡ P // codes "patternProperties"
+    pub patterns_place : is_some k.patterns ≡ true → is_some k.properties ≡ false → k.patterns_location ≡ P // codes "patternProperties"
     pub required_place : is_some k.required ≡ true → required_place k.required ≡ P // codes "required"
     pub declared_once : has_repeat (map (λ e. e.0) (declared_beside ms)) ≡ false

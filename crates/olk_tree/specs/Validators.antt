@@ -10,6 +10,7 @@ use Rattle.olk_tree.specs.AllOf.{all_of_answers, single_all_of_answers}
 use Rattle.olk_tree.specs.Answers.{AnswersOver, Meanings, Findings, Showings, alone}
 use Rattle.olk_tree.specs.AnyOf.{any_of_answers, single_any_of_answers}
 use Rattle.olk_tree.specs.Dependencies.{dependencies_answers}
+use Rattle.olk_tree.specs.Holdings.{held}
 use Rattle.olk_tree.specs.If.{if_then_answers, if_else_answers, if_then_else_answers}
 use Rattle.olk_tree.specs.Leaf.{leaf_answers}
 use Rattle.olk_tree.specs.Not.{not_answers}
@@ -44,7 +45,7 @@ module _ {K R N : Type 0} (o : Kit K R) where
   answers_of (keyword.PropertyDependencies k) = property_dependencies_answers k
   answers_of (keyword.PatternProperties k) = pattern_properties_answers o.answers o.costs k
   answers_of (keyword.SingleValuePatternProperties k) = single_pattern_properties_answers o.answers o.costs k.value
-  answers_of (keyword.AdditionalProperties k) = additional_properties_answers o.answers o.costs k.value
+  answers_of (keyword.AdditionalProperties k) = additional_properties_answers o.answers o.costs (held k)
   answers_of (keyword.Leaf P l) = alone (leaf_answers o P l)
 
   abbrev pub validator_means : Meanings N → KeywordOver K R N → Data → Question

@@ -1,11 +1,12 @@
 //! What each validator means and reports, over what its nodes mean and report: by the words of its
 //! keyword in `specs`.
 ghost use Rattle.olk_base.specs.Kit.{kit};
-ghost use Rattle.olk_tree.specs.AdditionalProperties.{additional_properties_answers};
+ghost use Rattle.olk_tree.specs.AdditionalProperties.{additional_properties_answers, unpatterned_answers, false_answers};
 ghost use Rattle.olk_tree.specs.AllOf.{all_of_answers, single_all_of_answers};
 ghost use Rattle.olk_tree.specs.AnyOf.{any_of_answers, single_any_of_answers};
 ghost use Rattle.olk_tree.specs.Bodies.{body_means};
 ghost use Rattle.olk_tree.specs.Dependencies.{dependencies_answers};
+ghost use Rattle.olk_tree.specs.Holdings.{held, false_holds, schema_holds, not_empty_holds, not_empty_false_holds, with_required1_holds, with_patterns_holds, with_patterns_false_holds, with_both_holds, with_both_false_holds};
 ghost use Rattle.olk_tree.specs.If.{if_then_answers, if_else_answers, if_then_else_answers};
 ghost use Rattle.olk_tree.specs.Not.{not_answers, not_report, not_agrees};
 ghost use Rattle.olk_tree.specs.OneOf.{one_of_answers, single_one_of_answers};
@@ -16,7 +17,13 @@ ghost use Rattle.olk_tree.specs.PropertyNames.{property_names_answers, property_
 ghost use Rattle.olk_tree.specs.Required.{required_answers};
 ghost use Rattle.olk_tree.specs.Validators.{answers_of};
 
-use crate::additional_properties::AdditionalProperties;
+use crate::additional_properties::{
+    AdditionalProperties, AdditionalPropertiesFalse, AdditionalPropertiesNotEmpty,
+    AdditionalPropertiesNotEmptyFalse, AdditionalPropertiesNotEmptyFalseWithRequired1,
+    AdditionalPropertiesWithPatterns, AdditionalPropertiesWithPatternsFalse,
+    AdditionalPropertiesWithPatternsNotEmpty, AdditionalPropertiesWithPatternsNotEmptyFalse,
+    Restriction,
+};
 use crate::all_of::{AllOf, SingleValueAllOf};
 use crate::any_of::{AnyOf, SingleAnyOf};
 use crate::dependencies::Dependencies;
@@ -337,24 +344,189 @@ impl<R: RegexEngine, N: Reports> Reports for SingleValuePatternProperties<R, N> 
         N.means N.report N.first u (λ n. N.first_agrees n u) };
 }
 
-impl<R: RegexEngine, N: Means> Means for AdditionalProperties<R, N> {
-    ghost means = { λ k. (additional_properties_answers R.answers R.costs k).means N.means };
+impl<N: Means> Means for AdditionalProperties<N> {
+    ghost means = { λ k. (unpatterned_answers (schema_holds k)).means N.means };
 }
 
-impl<R: RegexEngine, N: Reports> Reports for AdditionalProperties<R, N> {
-    ghost report = { λ k. (additional_properties_answers R.answers R.costs k).report
-        N.means N.report };
+impl<N: Reports> Reports for AdditionalProperties<N> {
+    ghost report = { λ k. (unpatterned_answers (schema_holds k)).report N.means N.report };
 
-    ghost first = { λ k. (additional_properties_answers R.answers R.costs k).first
-        N.means N.report N.first };
+    ghost first = { λ k. (unpatterned_answers (schema_holds k)).first N.means N.report N.first };
 
-    ghost agrees = { λ k u. (additional_properties_answers R.answers R.costs k).agrees
-        N.means N.report u
+    ghost agrees = { λ k u. (unpatterned_answers (schema_holds k)).agrees N.means N.report u
         (λ n. N.agrees n u) };
 
-    ghost first_agrees = { λ k u. (additional_properties_answers R.answers R.costs k).first_agrees
-        N.means N.report N.first u
-        (λ n. N.first_agrees n u) };
+    ghost first_agrees = { λ k u. (unpatterned_answers (schema_holds k)).first_agrees
+        N.means N.report N.first u (λ n. N.first_agrees n u) };
+}
+
+impl Means for AdditionalPropertiesFalse {
+    ghost means = { λ k. (false_answers (false_holds k)).means };
+}
+
+impl Reports for AdditionalPropertiesFalse {
+    ghost report = { λ k. (false_answers (false_holds k)).report };
+
+    ghost first = { λ k. (false_answers (false_holds k)).first };
+
+    ghost agrees = { λ k. (false_answers (false_holds k)).agrees };
+
+    ghost first_agrees = { λ k. (false_answers (false_holds k)).first_agrees };
+}
+
+impl<N: Means> Means for AdditionalPropertiesNotEmpty<N> {
+    ghost means = { λ k. (unpatterned_answers (not_empty_holds k)).means N.means };
+}
+
+impl<N: Reports> Reports for AdditionalPropertiesNotEmpty<N> {
+    ghost report = { λ k. (unpatterned_answers (not_empty_holds k)).report N.means N.report };
+
+    ghost first = { λ k. (unpatterned_answers (not_empty_holds k)).first N.means N.report N.first };
+
+    ghost agrees = { λ k u. (unpatterned_answers (not_empty_holds k)).agrees N.means N.report u
+        (λ n. N.agrees n u) };
+
+    ghost first_agrees = { λ k u. (unpatterned_answers (not_empty_holds k)).first_agrees
+        N.means N.report N.first u (λ n. N.first_agrees n u) };
+}
+
+impl<N: Means> Means for AdditionalPropertiesNotEmptyFalse<N> {
+    ghost means = { λ k. (unpatterned_answers (not_empty_false_holds k)).means N.means };
+}
+
+impl<N: Reports> Reports for AdditionalPropertiesNotEmptyFalse<N> {
+    ghost report = { λ k. (unpatterned_answers (not_empty_false_holds k)).report N.means N.report };
+
+    ghost first = { λ k. (unpatterned_answers
+        (not_empty_false_holds k)).first N.means N.report N.first };
+
+    ghost agrees = { λ k u. (unpatterned_answers
+        (not_empty_false_holds k)).agrees N.means N.report u
+        (λ n. N.agrees n u) };
+
+    ghost first_agrees = { λ k u. (unpatterned_answers (not_empty_false_holds k)).first_agrees
+        N.means N.report N.first u (λ n. N.first_agrees n u) };
+}
+
+impl<N: Means> Means for AdditionalPropertiesNotEmptyFalseWithRequired1<N> {
+    ghost means = { λ k. (unpatterned_answers (with_required1_holds k)).means N.means };
+}
+
+impl<N: Reports> Reports for AdditionalPropertiesNotEmptyFalseWithRequired1<N> {
+    ghost report = { λ k. (unpatterned_answers (with_required1_holds k)).report N.means N.report };
+
+    ghost first = { λ k. (unpatterned_answers
+        (with_required1_holds k)).first N.means N.report N.first };
+
+    ghost agrees = { λ k u. (unpatterned_answers (with_required1_holds k)).agrees N.means N.report u
+        (λ n. N.agrees n u) };
+
+    ghost first_agrees = { λ k u. (unpatterned_answers (with_required1_holds k)).first_agrees
+        N.means N.report N.first u (λ n. N.first_agrees n u) };
+}
+
+impl<R: RegexEngine, N: Means> Means for AdditionalPropertiesWithPatterns<R, N> {
+    ghost means = { λ k. (additional_properties_answers R.answers R.costs
+        (with_patterns_holds k)).means N.means };
+}
+
+impl<R: RegexEngine, N: Reports> Reports for AdditionalPropertiesWithPatterns<R, N> {
+    ghost report = { λ k. (additional_properties_answers R.answers R.costs
+        (with_patterns_holds k)).report N.means N.report };
+
+    ghost first = { λ k. (additional_properties_answers R.answers R.costs
+        (with_patterns_holds k)).first N.means N.report N.first };
+
+    ghost agrees = { λ k u. (additional_properties_answers R.answers R.costs
+        (with_patterns_holds k)).agrees N.means N.report u
+        (λ n. N.agrees n u) };
+
+    ghost first_agrees = { λ k u. (additional_properties_answers R.answers R.costs
+        (with_patterns_holds k)).first_agrees
+        N.means N.report N.first u (λ n. N.first_agrees n u) };
+}
+
+impl<R: RegexEngine, N: Means> Means for AdditionalPropertiesWithPatternsFalse<R, N> {
+    ghost means = { λ k. (additional_properties_answers R.answers R.costs
+        (with_patterns_false_holds k)).means N.means };
+}
+
+impl<R: RegexEngine, N: Reports> Reports for AdditionalPropertiesWithPatternsFalse<R, N> {
+    ghost report = { λ k. (additional_properties_answers R.answers R.costs
+        (with_patterns_false_holds k)).report N.means N.report };
+
+    ghost first = { λ k. (additional_properties_answers R.answers R.costs
+        (with_patterns_false_holds k)).first N.means N.report N.first };
+
+    ghost agrees = { λ k u. (additional_properties_answers R.answers R.costs
+        (with_patterns_false_holds k)).agrees N.means N.report u
+        (λ n. N.agrees n u) };
+
+    ghost first_agrees = { λ k u. (additional_properties_answers R.answers R.costs
+        (with_patterns_false_holds k)).first_agrees
+        N.means N.report N.first u (λ n. N.first_agrees n u) };
+}
+
+impl<R: RegexEngine, N: Means> Means for AdditionalPropertiesWithPatternsNotEmpty<R, N> {
+    ghost means = { λ k. (additional_properties_answers R.answers R.costs
+        (with_both_holds k)).means N.means };
+}
+
+impl<R: RegexEngine, N: Reports> Reports for AdditionalPropertiesWithPatternsNotEmpty<R, N> {
+    ghost report = { λ k. (additional_properties_answers R.answers R.costs
+        (with_both_holds k)).report N.means N.report };
+
+    ghost first = { λ k. (additional_properties_answers R.answers R.costs
+        (with_both_holds k)).first N.means N.report N.first };
+
+    ghost agrees = { λ k u. (additional_properties_answers R.answers R.costs
+        (with_both_holds k)).agrees N.means N.report u
+        (λ n. N.agrees n u) };
+
+    ghost first_agrees = { λ k u. (additional_properties_answers R.answers R.costs
+        (with_both_holds k)).first_agrees
+        N.means N.report N.first u (λ n. N.first_agrees n u) };
+}
+
+impl<R: RegexEngine, N: Means> Means for AdditionalPropertiesWithPatternsNotEmptyFalse<R, N> {
+    ghost means = { λ k. (additional_properties_answers R.answers R.costs
+        (with_both_false_holds k)).means N.means };
+}
+
+impl<R: RegexEngine, N: Reports> Reports for AdditionalPropertiesWithPatternsNotEmptyFalse<R, N> {
+    ghost report = { λ k. (additional_properties_answers R.answers R.costs
+        (with_both_false_holds k)).report N.means N.report };
+
+    ghost first = { λ k. (additional_properties_answers R.answers R.costs
+        (with_both_false_holds k)).first N.means N.report N.first };
+
+    ghost agrees = { λ k u. (additional_properties_answers R.answers R.costs
+        (with_both_false_holds k)).agrees N.means N.report u
+        (λ n. N.agrees n u) };
+
+    ghost first_agrees = { λ k u. (additional_properties_answers R.answers R.costs
+        (with_both_false_holds k)).first_agrees
+        N.means N.report N.first u (λ n. N.first_agrees n u) };
+}
+
+impl<R: RegexEngine, N: Means> Means for Restriction<R, N> {
+    ghost means = { λ k. (additional_properties_answers R.answers R.costs (held k)).means N.means };
+}
+
+impl<R: RegexEngine, N: Reports> Reports for Restriction<R, N> {
+    ghost report = { λ k. (additional_properties_answers R.answers R.costs
+        (held k)).report N.means N.report };
+
+    ghost first = { λ k. (additional_properties_answers R.answers R.costs
+        (held k)).first N.means N.report N.first };
+
+    ghost agrees = { λ k u. (additional_properties_answers R.answers R.costs
+        (held k)).agrees N.means N.report u
+        (λ n. N.agrees n u) };
+
+    ghost first_agrees = { λ k u. (additional_properties_answers R.answers R.costs
+        (held k)).first_agrees
+        N.means N.report N.first u (λ n. N.first_agrees n u) };
 }
 
 impl<K: Leaf, R: RegexEngine, N: Means> Means for KeywordOver<K, R, N> {

@@ -3,7 +3,8 @@ use crate::node::{Body, KeywordOver};
 use olk_base::{Leaf, RegexEngine};
 use olk_paths::Location;
 
-/// A type of nodes that building makes: each answers as what it is made with does.
+/// A type of nodes that building makes: each answers as what it is made with does. Building knows no
+/// more of a node; `SchemaNode` implements it.
 pub trait BuiltNode<K: Leaf, R: RegexEngine>: Drop {
     ghost use Rattle.olk_base.specs.Kit.{kit};
     ghost use Rattle.olk_tree.specs.Answers.{Answers};

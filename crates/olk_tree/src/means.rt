@@ -3,7 +3,8 @@ ghost use Rattle.serde_json.specs.Data.{Data};
 
 /// What accepts values, or refuses them.
 ///
-/// All ways of asking go by this one meaning.
+/// All ways of asking go by this one meaning. Each validator has it, and so have keywords, bodies and
+/// nodes; there is nothing to call.
 pub trait Means {
     ghost use Rattle.olk_tree.specs.Questions.{Question};
 
@@ -12,7 +13,7 @@ pub trait Means {
 }
 
 /// What reports faults in values: none exactly in those that it accepts, and none first exactly in
-/// those.
+/// those. Each validator has it; there is nothing to call.
 pub trait Reports: Means {
     ghost use Rattle.std.specs.Prelude.{◌≡◌, Bool, List};
     ghost use Rattle.olk_spec.specs.Names.{Path, is_empty};

@@ -1,5 +1,5 @@
 //! Keywords, over the nodes that they hold.
-use crate::additional_properties::AdditionalProperties;
+use crate::additional_properties::Restriction;
 use crate::all_of::{AllOf, SingleValueAllOf};
 use crate::any_of::{AnyOf, SingleAnyOf};
 use crate::dependencies::Dependencies;
@@ -56,7 +56,7 @@ pub enum KeywordOver<K, R, N> {
     /// `patternProperties` of one pattern.
     SingleValuePatternProperties(Box<SingleValuePatternProperties<R, N>>),
     /// `additionalProperties` that is `false` or a schema, with what it takes over.
-    AdditionalProperties(Box<AdditionalProperties<R, N>>),
+    AdditionalProperties(Restriction<R, N>),
     /// A leaf, and its place.
     Leaf(Location, K),
 }
@@ -91,7 +91,7 @@ impl<K: Leaf, R: RegexEngine, N> KeywordOver<K, R, N> {
             KeywordOver::PropertyDependencies(keyword) => keyword.location.as_str(),
             KeywordOver::PatternProperties(keyword) => keyword.location.as_str(),
             KeywordOver::SingleValuePatternProperties(keyword) => keyword.location.as_str(),
-            KeywordOver::AdditionalProperties(keyword) => keyword.location.as_str(),
+            KeywordOver::AdditionalProperties(keyword) => keyword.location().as_str(),
             KeywordOver::Leaf(location, _) => location.as_str(),
         }
     }

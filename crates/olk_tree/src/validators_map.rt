@@ -11,7 +11,8 @@ use serde_json::{Map, Value};
 
 /// A finite map from names to what stands at them.
 ///
-/// Two maps of the same entries answer alike. No look-up takes memory.
+/// Two maps of the same entries answer alike. No look-up takes memory. `SmallMap`, `BigMap` and
+/// `PropertiesMap` write `entries`, by which the look-ups go.
 pub trait PropertiesValidatorsMap<N> {
     ghost use Rattle.std.specs.Prelude.{List};
     ghost use Rattle.olk_spec.specs.Names.{Name};

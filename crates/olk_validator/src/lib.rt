@@ -15,12 +15,13 @@ mod validators;
 
 pub use numbers::holds_whole_numbers;
 pub use olk_base::{
-    CompiledPattern, JsonType, KeyHead, Leaf, MakeError, MakeLeaf, MakeRegex, Meter, NoRegex,
-    NoRegexes, Node, PatternOptimization, PropertyName, PropertyPattern, RegexEngine, Unfinished,
-    ValidationContext, analyze_pattern, compile_pattern, contains_ecma_whitespace,
+    Asked, CompiledPattern, JsonType, KeyHead, Leaf, MakeError, MakeLeaf, MakeRegex, Meter,
+    NoRegex, NoRegexes, Node, PatternOptimization, PropertyName, PropertyPattern, RegexEngine,
+    Subject, Unfinished, ValidationContext, analyze_pattern, compile_pattern,
+    contains_ecma_whitespace,
 };
 pub use olk_build::{Context, compile};
-pub use olk_check::{DEFERRED_MEMBERS, IsValid, are_properties_valid};
+pub use olk_check::{Check, DEFERRED_MEMBERS, IsValid, are_properties_valid};
 pub use olk_errors::{ErrorSink, Errors, Stop, Walk};
 pub use olk_evaluate::{Evaluate, EvaluationContext, Located, Show};
 pub use olk_node::{
@@ -50,7 +51,13 @@ pub use validators::{
 };
 
 // Validators over nodes of any type, and what they hold.
-pub use olk_tree::additional_properties::{AdditionalProperties, RequiredName};
+pub use olk_tree::additional_properties::{
+    AdditionalProperties, AdditionalPropertiesFalse, AdditionalPropertiesNotEmpty,
+    AdditionalPropertiesNotEmptyFalse, AdditionalPropertiesNotEmptyFalseWithRequired1,
+    AdditionalPropertiesWithPatterns, AdditionalPropertiesWithPatternsFalse,
+    AdditionalPropertiesWithPatternsNotEmpty, AdditionalPropertiesWithPatternsNotEmptyFalse,
+    Restriction,
+};
 pub use olk_tree::all_of::{AllOf, SingleValueAllOf};
 pub use olk_tree::any_of::{AnyOf, SingleAnyOf};
 pub use olk_tree::declared::DeclaredMembers;

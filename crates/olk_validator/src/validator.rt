@@ -16,7 +16,7 @@ ghost use Rattle.olk_validator.specs.Validators.{IsValidatorOf, first_faults};
 
 use olk_base::{Leaf, MakeLeaf, MakeRegex, Meter, Node, RegexEngine, ValidationContext};
 use olk_build::{Context, compile};
-use olk_check::IsValid;
+use olk_check::Check;
 use olk_errors::Errors;
 use olk_evaluate::Evaluate;
 use olk_node::SchemaNode;
@@ -98,7 +98,7 @@ impl<K: Leaf, R: RegexEngine> Validator<K, R> {
             → accepts (world K.Leaf R.RegexEngine) true S (view instance.now)
             ≡ accepts (world K.Leaf R.RegexEngine) false S (view instance.now) }
     {
-        self.root.is_valid(Node::Value(instance), ctx)
+        self.root.check(instance, ctx)
     }
 
     /// The first error of the walk over the instance; none where the schema accepts it (JSON Schema

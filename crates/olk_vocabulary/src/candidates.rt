@@ -68,7 +68,7 @@ impl Kept {
         match node {
             Node::Value(Value::Number(number)) => self.numbers.contains(&RankedNumber::of(number)),
             Node::Value(Value::String(text)) => self.texts.contains(text.as_str()),
-            Node::Name(name) => self.texts.contains(name.as_str()),
+            Node::Name(name) => self.texts.contains(name),
             Node::Value(_) => is_candidate(&self.others, node),
         }
     }

@@ -17,7 +17,7 @@ pub(crate) fn is_value(value: &Value, node: Node<'_>) -> bool
 {
     match node {
         Node::Value(other) => is_same_value(value, other),
-        Node::Name(name) => is_spelled(value, name.as_str()),
+        Node::Name(name) => is_spelled(value, name),
     }
 }
 

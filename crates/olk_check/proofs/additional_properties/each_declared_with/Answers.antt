@@ -23,15 +23,15 @@ loop-name-preserved-then-not-is_full g c =
       sought_on _ c.loop-name.invariant.1 next c.is_met-met.ensures,
     )
 
-pub returns-then-not-is_valid : goal.returns-then-not-is_valid
-returns-then-not-is_valid g c =
+pub returns-then-not-check : goal.returns-then-not-check
+returns-then-not-check g c =
     held_stop c.loop-name.invariant.0 (name_next c.in-Some.ensures.steps c.as_str-name.ensures.value) (always (is_empty (missing (c.args.required.now ∷ []) (object_of c.args.members.now.entries))))
-    (rw (← c.as_slice-entries.ensures.entries, ← c.node_among-next.ensures, c.in-Some-declared.is) c.if-not-is_valid.ensures)
+    (rw (← c.as_slice-entries.ensures.entries, ← c.node_among-next.ensures, c.in-Some-declared.is) c.if-not-check.ensures)
 
 pub loop-name-preserved : goal.loop-name-preserved
 loop-name-preserved g c =
     let next = name_next c.in-Some.ensures.steps c.as_str-name.ensures.value in (
-      held_go_on c.loop-name.invariant.0 next (rw (← c.as_slice-entries.ensures.entries, ← c.node_among-next.ensures, c.in-Some-declared.is) c.if-not-is_valid.ensures),
+      held_go_on c.loop-name.invariant.0 next (rw (← c.as_slice-entries.ensures.entries, ← c.node_among-next.ensures, c.in-Some-declared.is) c.if-not-check.ensures),
       sought_on _ c.loop-name.invariant.1 next c.is_met-met.ensures,
     )
 

@@ -1,6 +1,6 @@
 use Rattle.std.proofs.Common.{ℕ, option_map, is_some}
 use Rattle.serde_json.specs.View.{view}
-use Rattle.olk_tree.specs.Additional.{sides_of}
+use Rattle.olk_tree.specs.Additional.{sides_seen}
 use Rattle.olk_check.proofs.Choices.{Leaves, Spoken, patterns_from}
 use Rattle.olk_check.proofs.additional_properties.patterns_accept.Given as goal
 
@@ -10,7 +10,7 @@ invariant-loop-index g l =
       answers = g.R.RegexEngine.answers;
       costs = g.R.RegexEngine.costs;
       means = g.N.Means.means;
-      sides = sides_of l.keyword;
+      sides = sides_seen l.sides;
       declared = option_map {U = ℕ × g.row.N.Denot} (λ f. (f.0, f.1.now)) l.declared;
       name = l.name;
       value = view l.value;

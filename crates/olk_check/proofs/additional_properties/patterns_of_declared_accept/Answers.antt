@@ -1,6 +1,6 @@
 use Rattle.std.proofs.Common.{ℕ, option_map}
 use Rattle.serde_json.specs.View.{view}
-use Rattle.olk_tree.specs.Additional.{sides_of}
+use Rattle.olk_tree.specs.Additional.{sides_seen}
 use Rattle.olk_check.proofs.Choices.{Spoken, nothing_matches}
 use Rattle.olk_check.proofs.additional_properties.patterns_of_declared_accept.Goals as goal
 
@@ -10,7 +10,7 @@ returns-then-matches_nothing g c =
       answers = g.R.RegexEngine.answers;
       costs = g.R.RegexEngine.costs;
       means = g.N.Means.means;
-      sides = sides_of c.args.keyword.now;
+      sides = sides_seen c.args.sides;
       declared = option_map {U = ℕ × g.row.N.Denot} (λ f. (f.0, f.1.now)) c.args.declared;
       name = c.args.name.now;
       value = view c.args.value.now;

@@ -1,6 +1,5 @@
 use Rattle.std.proofs.Common.{refl, sym, ap, subst, ◌∙◌}
 use Rattle.olk_base.specs.Kit.{kit}
-use Rattle.olk_base.specs.Nodes.{data_of}
 use Rattle.olk_tree.specs.Validators.{answers_of, validator_means}
 use Rattle.olk_tree.specs.Questions.{Question}
 use Rattle.olk_tree.specs.declared.node.KeywordOver.TheVariants as keyword
@@ -24,21 +23,20 @@ returns-in-PropertiesWithRequired2 g c =
 pub returns-in-AdditionalProperties : goal.returns-in-AdditionalProperties
 unfolding answers_of
 returns-in-AdditionalProperties g c =
-    first_one _ _ _ _ (by_first c.index-keywords-0.is c.requires) (c.in-AdditionalProperties.is ∙ ap
-    (λ a. keyword.AdditionalProperties record c.in-AdditionalProperties.additional { value = a }) (sym c.deref-in-AdditionalProperties.ensures))
-    c.additional_properties_accept.ensures
+    first_one _ _ _ _ (by_first c.index-keywords-0.is c.requires) c.in-AdditionalProperties.is
+    (answered_one c.one_if.ensures c.check.ensures)
 
 pub returns-in-Required : goal.returns-in-Required
 unfolding answers_of
 returns-in-Required g c =
     first_one _ _ _ _ (by_first c.index-keywords-0.is c.requires) c.in-Required.is
-    (answered_one c.one_if.ensures c.is_valid.ensures)
+    (answered_one c.one_if-in-Required.ensures c.check-in-Required.ensures)
 
 pub returns-in-AnyOf : goal.returns-in-AnyOf
 unfolding answers_of
 returns-in-AnyOf g c =
     first_one _ _ _ _ (by_first c.index-keywords-0.is c.requires) c.in-AnyOf.is
-    (answered_one c.one_if-in-AnyOf.ensures c.is_valid-in-AnyOf.ensures)
+    (answered_one c.one_if-in-AnyOf.ensures c.check-in-AnyOf.ensures)
 
 pub returns-in_default : goal.returns-in_default
 unfolding answers_of
@@ -50,7 +48,7 @@ pub returns-in-Properties : goal.returns-in-Properties
 unfolding answers_of
 returns-in-Properties g c =
     first_two (λ k. validator_means (kit g.K.Leaf g.R.RegexEngine) g.N.Means.means k
-    (data_of c.args.node)) c.args.ctx.now c.properties_with_required_accept.new.ctx c.properties_with_required_accept.result
+    (g.A.Asked.stands_for c.args.asked)) c.args.ctx.now c.properties_with_required_accept.new.ctx c.properties_with_required_accept.result
     (by_first_two c.index-keywords-0.is c.index-keywords-1.is c.if-keywords-gt1.true)
     (subst {A = Question × Question} (λ q. AsksTwo c.args.ctx.now c.properties_with_required_accept.new.ctx q.0 q.1 c.properties_with_required_accept.result)
-    (λ i. (validator_means (kit g.K.Leaf g.R.RegexEngine) g.N.Means.means (sym c.in-Properties.is i) (data_of c.args.node), sym (c.in-Some.ensures (data_of c.args.node)) i)) c.properties_with_required_accept.ensures)
+    (λ i. (validator_means (kit g.K.Leaf g.R.RegexEngine) g.N.Means.means (sym c.in-Properties.is i) (g.A.Asked.stands_for c.args.asked), sym (c.in-Some.ensures (g.A.Asked.stands_for c.args.asked)) i)) c.properties_with_required_accept.ensures)

@@ -1,6 +1,5 @@
 use Rattle.std.proofs.Common.{length, drop, refl, ap, ◌∙◌, length-drop, arith}
 use Rattle.olk_base.specs.Kit.{kit}
-use Rattle.olk_base.specs.Nodes.{data_of}
 use Rattle.olk_tree.specs.Validators.{validator_means}
 use Rattle.olk_tree.proofs.Lists.{past_end}
 use Rattle.olk_check.proofs.Answered.{refused_left, go_on_behind_one, go_on_behind_two, two_are_left}
@@ -17,7 +16,7 @@ behind_first-left-requires-in-loop-left g c = elim c.match-first_accept.branch [
   | in-Two w ↦
       let same = ap (λ r. length r.now) w.left-is in
       let fewer = ap length w.behind_first-left.ensures in
-      let two = two_are_left (λ k. validator_means (kit g.K.Leaf g.R.RegexEngine) g.N.Means.means k (data_of c.args.node)) c.loop-left.ctx c.first_accept.new.ctx c.loop-left.left.now w.in-Two.is c.first_accept.ensures in
+      let two = two_are_left (λ k. validator_means (kit g.K.Leaf g.R.RegexEngine) g.N.Means.means k (g.A.Asked.stands_for c.args.asked)) c.loop-left.ctx c.first_accept.new.ctx c.loop-left.left.now w.in-Two.is c.first_accept.ensures in
       let dropped = length-drop 1 c.loop-left.left.now in
       omega arith
 ]

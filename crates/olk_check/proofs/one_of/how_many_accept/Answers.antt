@@ -6,17 +6,17 @@ pub loop-schema-init : goal.loop-schema-init
 loop-schema-init g c = one_start
 
 pub returns-then-found-clause-asks : goal.returns-then-found-clause-asks
-returns-then-found-clause-asks g c = second_found c.loop-schema.invariant (next_at c.deref-schema-items.ensures.value c.schema-item.is c.loop-schema-test.true) c.if-found.true c.if-is_valid.ensures
+returns-then-found-clause-asks g c = second_found c.loop-schema.invariant (next_at c.deref-schema-items.ensures.value c.schema-item.is c.loop-schema-test.true) c.if-found.true c.if-check.ensures
 
 pub returns-then-found-clause-count : goal.returns-then-found-clause-count
-returns-then-found-clause-count g c = count_several c.loop-schema.invariant (next_at c.deref-schema-items.ensures.value c.schema-item.is c.loop-schema-test.true) c.if-found.true c.if-is_valid.ensures
+returns-then-found-clause-count g c = count_several c.loop-schema.invariant (next_at c.deref-schema-items.ensures.value c.schema-item.is c.loop-schema-test.true) c.if-found.true c.if-check.ensures
 
 pub loop-schema-preserved : goal.loop-schema-preserved
-loop-schema-preserved g c = elim c.if-is_valid.branch [
-  | goal.then-is_valid+else-found w ↦ rw w.found-is
-      (one_found c.loop-schema.invariant (next_at c.deref-schema-items.ensures.value c.schema-item.is c.loop-schema-test.true) w.if-found.false w.if-is_valid.ensures)
-  | goal.else-is_valid w ↦ rw w.found-is
-      (one_refused c.loop-schema.invariant (next_at c.deref-schema-items.ensures.value c.schema-item.is c.loop-schema-test.true) w.if-is_valid.ensures)
+loop-schema-preserved g c = elim c.if-check.branch [
+  | goal.then-check+else-found w ↦ rw w.found-is
+      (one_found c.loop-schema.invariant (next_at c.deref-schema-items.ensures.value c.schema-item.is c.loop-schema-test.true) w.if-found.false w.if-check.ensures)
+  | goal.else-check w ↦ rw w.found-is
+      (one_refused c.loop-schema.invariant (next_at c.deref-schema-items.ensures.value c.schema-item.is c.loop-schema-test.true) w.if-check.ensures)
 ]
 
 pub returns-then-found-2-clause-asks : goal.returns-then-found-2-clause-asks

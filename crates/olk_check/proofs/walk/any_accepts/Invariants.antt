@@ -1,7 +1,6 @@
 use Rattle.std.proofs.Common.{drop}
-use Rattle.olk_base.specs.Nodes.{data_of}
 use Rattle.olk_check.proofs.Walks.{AnyLeft}
 use Rattle.olk_check.proofs.walk.any_accepts.Given as goal
 
 abbrev pub invariant-loop-n : goal.invariant-loop-n
-invariant-loop-n g l = AnyLeft (λ n. g.N.Means.means n (data_of l.node)) l.nodes.items (drop l.n-index l.nodes.items) l.initial.ctx l.ctx
+invariant-loop-n g l = AnyLeft (λ n. g.N.Means.means n (g.A.Asked.stands_for l.asked)) l.nodes.items (drop l.n-index l.nodes.items) l.initial.ctx l.ctx

@@ -3,7 +3,7 @@ use Rattle.olk_errors.proofs.Sinks.{list_of_all, stopping_list}
 use Rattle.olk_errors.proofs.AnyErrors.collect_errors.Goals as goal
 
 pub returns-in-Ok-clause-report : goal.returns-in-Ok-clause-report
-returns-in-Ok-clause-report g c = rw (← c.as_str.ensures) (list_of_all c.in-Ok.ensures.ends.so c.all-sink.ensures.all
+returns-in-Ok-clause-report g c = rw (← c.as_str.ensures, ← c.of.ensures) (list_of_all c.in-Ok.ensures.ends.so c.all-sink.ensures.all
     (c.all-sink.ensures.held ∙ ap (λ v. v.items) c.replace-so_far.ensures.value) c.into_errors.ensures)
 
 pub returns-in-Ok-clause-context : goal.returns-in-Ok-clause-context

@@ -2,13 +2,13 @@ use Rattle.olk_errors.proofs.Sinks.{goes_passing, stopping_error}
 use Rattle.olk_errors.proofs.AnyErrors.validate.Goals as goal
 
 pub returns-in-Ok-clause-ok : goal.returns-in-Ok-clause-ok
-returns-in-Ok-clause-ok g c = rw (← c.as_str.ensures) (goes_passing c.first-sink.ensures.one c.in-Ok.ensures.ends.so)
+returns-in-Ok-clause-ok g c = rw (← c.as_str.ensures, ← c.of.ensures) (goes_passing c.first-sink.ensures.one c.in-Ok.ensures.ends.so)
 
 pub returns-in-Ok-clause-context : goal.returns-in-Ok-clause-context
 returns-in-Ok-clause-context g c = c.walk.ensures.only
 
 pub returns-in-Some-clause-invalid : goal.returns-in-Some-clause-invalid
-returns-in-Some-clause-invalid g c = rw (← c.as_str.ensures) (stopping_error c.in-Err.ensures.ends c.first-sink.ensures.one c.first-sink.ensures.held c.in-Some.ensures)
+returns-in-Some-clause-invalid g c = rw (← c.as_str.ensures, ← c.of.ensures) (stopping_error c.in-Err.ensures.ends c.first-sink.ensures.one c.first-sink.ensures.held c.in-Some.ensures)
 
 pub returns-in-Some-clause-context : goal.returns-in-Some-clause-context
 returns-in-Some-clause-context g c = c.walk.ensures.only

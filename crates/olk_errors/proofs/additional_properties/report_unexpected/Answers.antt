@@ -1,7 +1,8 @@
-use Rattle.std.proofs.Common.{map, ap}
-use Rattle.serde_json.specs.View.{view}
-use Rattle.olk_errors.proofs.Unexpected.{none_aside, none_unexpected}
+use Rattle.olk_errors.proofs.Unexpected.{emptiness_of, none_unexpected, told_alone}
 use Rattle.olk_errors.proofs.additional_properties.report_unexpected.Goals as goal
 
-pub returns-in-None : goal.returns-in-None
-returns-in-None g c = none_unexpected c.args.keyword.now _ _ (ap (map (λ x. (x.0.now, view x.1.now))) (none_aside c.args.unexpected.now.items c.deref.ensures.value c.in-None.ensures.value))
+pub returns-then-is_empty : goal.returns-then-is_empty
+returns-then-is_empty c = none_unexpected _ _ _ _ (emptiness_of (λ n. n.now) c.args.unexpected.items c.args.unexpected.ok.0 c.if-is_empty.ensures)
+
+pub returns : goal.returns
+returns c = told_alone _ _ _ _ (emptiness_of (λ n. n.now) c.args.unexpected.items c.args.unexpected.ok.0 c.if-is_empty.ensures) c.report_names.ensures

@@ -83,7 +83,7 @@ returns-in-SingleValuePatternProperties g c = rw c.in-SingleValuePatternProperti
 
 pub returns-in-AdditionalProperties : goal.returns-in-AdditionalProperties
 unfolding answers_of
-returns-in-AdditionalProperties g c = rw c.in-AdditionalProperties.is (rw (sym c.deref-in-AdditionalProperties.ensures) c.walk-in-AdditionalProperties.ensures)
+returns-in-AdditionalProperties g c = rw c.in-AdditionalProperties.is c.walk-in-AdditionalProperties.ensures
 
 pub returns-in-Leaf : goal.returns-in-Leaf
 unfolding answers_of

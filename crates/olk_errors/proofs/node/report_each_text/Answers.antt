@@ -1,7 +1,7 @@
 use Rattle.std.proofs.Common.{◌≡◌, [], ◌∷◌, map, length, sym, ap, subst, arith, ◌∙◌, string_bytes, rules}
 use Rattle.std.proofs.lemmas.Simd.{map-map}
 use Rattle.std.specs.Vec.Iter.{into_iter_items}
-use Rattle.olk_base.specs.Nodes.{data_of}
+use Rattle.olk_base.specs.Nodes.{subject_data}
 use Rattle.olk_spec.specs.Faults.{fault}
 use Rattle.olk_paths.specs.Trails.{path_at}
 use Rattle.olk_reports.proofs.Errors.{kind_of_leaf}
@@ -24,7 +24,7 @@ loop-text-preserved g c =
     record {
       told = telling_more c.loop-text.invariant.told next
           (subst (Takes _ c.loop-text.sink c.report.new.self)
-          (λ i. fault (kind_of_leaf c.keyword-keyword.result c.in-Some.text i) (data_of c.args.node) (path_at c.args.trail.now) (c.as_str.ensures i)) c.in_ok-report.ensures);
+          (λ i. fault (kind_of_leaf c.keyword-keyword.result c.in-Some.text i) (subject_data c.args.node) (path_at c.args.trail.now) (c.as_str.ensures i)) c.in_ok-report.ensures);
       left = (let was = c.loop-text.invariant.left in
           let gone = c.in-Some.ensures.steps.1 in
           let short = ap length next in
@@ -35,15 +35,15 @@ pub returns-in_err-report : goal.returns-in_err-report
 returns-in_err-report g c = ends_left c.from_residual-in_err-report.ensures.0
     (telling_stopped c.loop-text.invariant.told c.in-Some.ensures.steps.0
     (subst (Takes _ c.loop-text.sink c.report.new.self)
-    (λ i. fault (kind_of_leaf c.keyword-keyword.result c.in-Some.text i) (data_of c.args.node) (path_at c.args.trail.now) (c.as_str.ensures i)) c.in_err-report.ensures))
+    (λ i. fault (kind_of_leaf c.keyword-keyword.result c.in-Some.text i) (subject_data c.args.node) (path_at c.args.trail.now) (c.as_str.ensures i)) c.in_err-report.ensures))
 
 pub returns : goal.returns
 returns g c =
     let none : into_iter_items c.loop-text.text-iterator ≡ [] = nothing_left (into_iter_items c.loop-text.text-iterator)
     (sym c.loop-text.invariant.left ∙ c.in-None.ensures.steps.0) in
     let all : into_iter_items c.into_iter-text-iterator.result ≡ c.collect_errors.new.texts.items = search rules in
-    let texts : texts_of c.collect_errors.new.texts.items ≡ g.K.Leaf.finds c.args.leaf.now (data_of c.args.node) = search rules in
+    let texts : texts_of c.collect_errors.new.texts.items ≡ g.K.Leaf.finds c.args.leaf.now (subject_data c.args.node) = search rules in
     telling_end c.loop-text.invariant.told
-    (ap (map (λ t. leaf_fault c.keyword-keyword.result.now (data_of c.args.node) c.args.location.now (path_at c.args.trail.now) (string_bytes t))) all
-    ∙ sym (map-map (leaf_fault c.keyword-keyword.result.now (data_of c.args.node) c.args.location.now (path_at c.args.trail.now)) string_bytes c.collect_errors.new.texts.items)
-    ∙ (λ i. map (leaf_fault (c.keyword-keyword.ensures i) (data_of c.args.node) c.args.location.now (path_at c.args.trail.now)) (texts i))) none
+    (ap (map (λ t. leaf_fault c.keyword-keyword.result.now (subject_data c.args.node) c.args.location.now (path_at c.args.trail.now) (string_bytes t))) all
+    ∙ sym (map-map (leaf_fault c.keyword-keyword.result.now (subject_data c.args.node) c.args.location.now (path_at c.args.trail.now)) string_bytes c.collect_errors.new.texts.items)
+    ∙ (λ i. map (leaf_fault (c.keyword-keyword.ensures i) (subject_data c.args.node) c.args.location.now (path_at c.args.trail.now)) (texts i))) none

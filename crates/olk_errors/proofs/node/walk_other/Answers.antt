@@ -1,5 +1,5 @@
 use Rattle.std.proofs.Common.{true, false, refl, sym, subst, Ok}
-use Rattle.olk_base.specs.Nodes.{data_of}
+use Rattle.olk_base.specs.Nodes.{subject_data}
 use Rattle.olk_spec.specs.Faults.{itself, FalseSchema}
 use Rattle.olk_paths.specs.Trails.{path_at}
 use Rattle.olk_reports.proofs.Errors.{kind_of_false_schema}
@@ -12,11 +12,11 @@ use Rattle.olk_errors.proofs.node.walk_other.Goals as goal
 
 pub returns-in-True : goal.returns-in-True
 returns-in-True g c = subst (λ b. Walks (Ok tt) c.args.sink.now c.args.sink.now c.args.ctx.now c.args.ctx.now
-    (of_body g.W.Means.means g.W.Reports.first g.W.Reports.report c.args.ctx.now.answer c.args.location.now b (data_of c.args.node) (path_at c.args.trail.now))) (sym c.in-True.is)
+    (of_body g.W.Means.means g.W.Reports.first g.W.Reports.report c.args.ctx.now.answer c.args.location.now b (subject_data c.args.node) (path_at c.args.trail.now))) (sym c.in-True.is)
     (walks_past (only_same c.args.ctx.now) refl)
 
 pub returns-in-False : goal.returns-in-False
 returns-in-False g c = subst (λ b. Walks c.report.result c.args.sink.now c.report.new.self c.args.ctx.now c.args.ctx.now
-    (of_body g.W.Means.means g.W.Reports.first g.W.Reports.report c.args.ctx.now.answer c.args.location.now b (data_of c.args.node) (path_at c.args.trail.now))) (sym c.in-False.is)
+    (of_body g.W.Means.means g.W.Reports.first g.W.Reports.report c.args.ctx.now.answer c.args.location.now b (subject_data c.args.node) (path_at c.args.trail.now))) (sym c.in-False.is)
     (walks_own (only_same c.args.ctx.now) (is_own FalseSchema _ c.args.location.now _ {accepts = false} {case = true} refl refl refl
     (like_at kind_of_false_schema itself refl refl)) c.report.ensures)

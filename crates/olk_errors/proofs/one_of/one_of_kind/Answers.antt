@@ -1,5 +1,5 @@
 use Rattle.std.proofs.Common.{map, subst}
-use Rattle.olk_base.specs.Nodes.{data_of}
+use Rattle.olk_base.specs.Nodes.{subject_data}
 use Rattle.olk_paths.specs.Trails.{path_at}
 use Rattle.olk_reports.proofs.Errors.{context_faults}
 use Rattle.olk_errors.specs.Found.{AreLike}
@@ -9,13 +9,13 @@ use Rattle.olk_errors.proofs.one_of.one_of_kind.Goals as goal
 pub returns-in_ok-context-in-Zero-clause-kind : goal.returns-in_ok-context-in-Zero-clause-kind
 returns-in_ok-context-in-Zero-clause-kind g c =
     let context = c.in_ok-context-in-Zero.context in
-    let alike = subst (λ u. AreLike (context_faults context) (map (λ n. g.N.Reports.report n u (data_of c.args.node) (path_at c.args.trail.now)) c.args.schemas.now.items))
-    c.how_many_accept.ensures.asks.only.answer c.in_ok-context-in-Zero.ensures.contexts in
+    let alike = subst (λ u. AreLike (context_faults context) (map (λ n. g.N.Reports.report n u (subject_data c.args.node) (path_at c.args.trail.now)) c.args.schemas.now.items))
+    c.accepting.ensures.asks.only.answer c.in_ok-context-in-Zero.ensures.contexts in
     kind_of_none context _ alike c.in-Zero.ensures.count
 
 pub returns-in_ok-context-in-Several-clause-kind : goal.returns-in_ok-context-in-Several-clause-kind
 returns-in_ok-context-in-Several-clause-kind g c =
     let context = c.in_ok-context-in-Several.context in
-    let alike = subst (λ u. AreLike (context_faults context) (map (λ n. g.N.Reports.report n u (data_of c.args.node) (path_at c.args.trail.now)) c.args.schemas.now.items))
-    c.how_many_accept.ensures.asks.only.answer c.in_ok-context-in-Several.ensures.contexts in
+    let alike = subst (λ u. AreLike (context_faults context) (map (λ n. g.N.Reports.report n u (subject_data c.args.node) (path_at c.args.trail.now)) c.args.schemas.now.items))
+    c.accepting.ensures.asks.only.answer c.in_ok-context-in-Several.ensures.contexts in
     kind_of_several context _ alike c.in-Several.ensures.count

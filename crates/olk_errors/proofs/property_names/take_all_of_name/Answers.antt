@@ -1,7 +1,7 @@
 use Rattle.std.proofs.Common.{◌≡◌, [], ◌∷◌, map, length, sym, ap, subst, arith, ◌∙◌, string_bytes, rules}
 use Rattle.std.specs.Vec.Iter.{into_iter_items}
 use Rattle.serde_json.specs.Data.{string}
-use Rattle.olk_base.specs.Nodes.{data_of}
+use Rattle.olk_base.specs.Nodes.{subject_data}
 use Rattle.olk_spec.specs.Faults.{◌∼◌}
 use Rattle.olk_spec.specs.Reports.{wrapped}
 use Rattle.olk_paths.specs.Trails.{path_at}
@@ -42,9 +42,9 @@ returns g c =
     let all : into_iter_items c.into_iter-error-iterator.result ≡ c.in_ok-errors.errors.items = search rules in
     record {
       ends = telling_like c.loop-error.invariant.told
-          (subst (λ l. map (λ e. wrapped (data_of c.args.object) (path_at c.args.trail.now) (fault_of e)) l
-          ∼ map (wrapped (data_of c.args.object) (path_at c.args.trail.now))
+          (subst (λ l. map (λ e. wrapped (subject_data c.args.object) (path_at c.args.trail.now) (fault_of e)) l
+          ∼ map (wrapped (subject_data c.args.object) (path_at c.args.trail.now))
           (g.N.Reports.report c.args.subschema.now c.args.ctx.now.answer (string (string_bytes c.args.name.now)) (path_at c.args.trail.now))) (sym all)
-          (names_told (data_of c.args.object) (path_at c.args.trail.now) c.in_ok-errors.ensures.errors)) none;
+          (names_told (subject_data c.args.object) (path_at c.args.trail.now) (rw c.as_str-name.ensures.value at c.in_ok-errors.ensures.errors))) none;
       only = c.errors_of.ensures.context;
     }

@@ -1,6 +1,6 @@
 use Rattle.std.proofs.Common.{refl, subst, string_bytes}
 use Rattle.serde_json.specs.Data.{string}
-use Rattle.olk_base.specs.Nodes.{data_of}
+use Rattle.olk_base.specs.Nodes.{subject_data}
 use Rattle.olk_paths.specs.Trails.{path_at}
 use Rattle.olk_reports.specs.Errors.{fault_of}
 use Rattle.olk_errors.proofs.Names.{name_errs}
@@ -14,8 +14,8 @@ returns-in_err-error g c = walks_nowhere c.from_residual.ensures.0 c.first_error
 
 pub returns-in-Some : goal.returns-in-Some
 returns-in-Some g c = record {
-  ends = ends_wanted c.requires (name_errs (data_of c.args.object) (path_at c.args.trail.now) _ (fault_of c.in-Some.error) refl
+  ends = ends_wanted c.requires (name_errs (subject_data c.args.object) (path_at c.args.trail.now) _ (fault_of c.in-Some.error) refl
       (subst (IsFirstOf (of_node g.N.Means.means g.N.Reports.first g.N.Reports.report c.args.ctx.now.answer c.args.subschema.now (string (string_bytes c.args.name.now))
-      (path_at c.args.trail.now))) c.in-Some.is c.in_ok-error.ensures.error)) c.take_wrapped.ensures;
+      (path_at c.args.trail.now))) c.in-Some.is (rw c.as_str-name.ensures.value at c.in_ok-error.ensures.error))) c.take_wrapped.ensures;
   only = c.first_error_of.ensures.context;
 }

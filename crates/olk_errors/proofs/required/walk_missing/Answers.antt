@@ -1,5 +1,5 @@
 use Rattle.std.proofs.Common.{[], ◌∷◌, sym, ap, ◌∙◌}
-use Rattle.olk_base.specs.Nodes.{data_of}
+use Rattle.olk_base.specs.Nodes.{subject_data}
 use Rattle.olk_paths.specs.Trails.{path_at}
 use Rattle.olk_tree.proofs.Lists.{next_at, past_end}
 use Rattle.olk_errors.proofs.Loops.{walked_start, walked_turn, walked_end}
@@ -13,18 +13,18 @@ loop-name-init c = walked_start
 
 pub loop-name-preserved : goal.loop-name-preserved
 loop-name-preserved c = walked_turn c.loop-name.invariant (c.name-item.result ∷ []) _ (next_at c.deref-name-items.ensures.value c.name-item.is c.loop-name-test.true)
-    (ends_same (ap (λ n. of_names (n ∷ []) (data_of c.args.node) c.args.location.now (path_at c.args.trail.now)) c.as_str.ensures.value ∙ sym
-    (names_together (data_of c.args.node) c.args.location.now (path_at c.args.trail.now) (c.name-item.result ∷ []))) c.in_ok-report_if_missing.ensures)
+    (ends_same (ap (λ n. of_names (n ∷ []) (subject_data c.args.node) c.args.location.now (path_at c.args.trail.now)) c.as_str.ensures.value ∙ sym
+    (names_together (subject_data c.args.node) c.args.location.now (path_at c.args.trail.now) (c.name-item.result ∷ []))) c.in_ok-report_if_missing.ensures)
 
 pub returns-in_err-report_if_missing : goal.returns-in_err-report_if_missing
-returns-in_err-report_if_missing c = ends_same (names_together (data_of c.args.node) c.args.location.now (path_at c.args.trail.now) c.args.names.now.items)
+returns-in_err-report_if_missing c = ends_same (names_together (subject_data c.args.node) c.args.location.now (path_at c.args.trail.now) c.args.names.now.items)
     (ends_left c.from_residual.ensures.0 (walked_turn c.loop-name.invariant (c.name-item.result ∷ []) _ (next_at c.deref-name-items.ensures.value c.name-item.is c.loop-name-test.true)
-    (ends_same (ap (λ n. of_names (n ∷ []) (data_of c.args.node) c.args.location.now (path_at c.args.trail.now)) c.as_str.ensures.value ∙ sym
-    (names_together (data_of c.args.node) c.args.location.now (path_at c.args.trail.now) (c.name-item.result ∷ []))) c.in_err-report_if_missing.ensures)).so)
+    (ends_same (ap (λ n. of_names (n ∷ []) (subject_data c.args.node) c.args.location.now (path_at c.args.trail.now)) c.as_str.ensures.value ∙ sym
+    (names_together (subject_data c.args.node) c.args.location.now (path_at c.args.trail.now) (c.name-item.result ∷ []))) c.in_err-report_if_missing.ensures)).so)
 
 pub returns : goal.returns
 returns c = record {
-  so = goes_same (names_together (data_of c.args.node) c.args.location.now (path_at c.args.trail.now) c.args.names.now.items)
+  so = goes_same (names_together (subject_data c.args.node) c.args.location.now (path_at c.args.trail.now) c.args.names.now.items)
       (walked_end c.loop-name.invariant (past_end c.deref-name-items.ensures.value c.loop-name-test.false));
 }
 

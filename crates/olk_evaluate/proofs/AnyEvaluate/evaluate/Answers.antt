@@ -1,7 +1,7 @@
 use mathlib.Core.Path.{subst₂}
 use Rattle.std.proofs.Common.{subst, ◌∙◌}
 use Rattle.std.proofs.lemmas.Result.{IfOk-from_err}
-use Rattle.olk_base.specs.Nodes.{data_of}
+use Rattle.olk_base.specs.Nodes.{subject_data}
 use Rattle.olk_check.specs.Asks.{OnlyAsks}
 use Rattle.olk_reports.specs.Evaluations.{node_at, shown_of}
 use Rattle.olk_evaluate.specs.Wanted.{IsShown, wanted}
@@ -19,8 +19,10 @@ returns-in_err-shown g c =
 
 pub returns : goal.returns
 returns g c =
-    let shown = subst₂ (λ a Q. IsShown (wanted g.S.Show.tree g.S.Means.means a.answer c.args.self.now (data_of c.args.node) Q) (node_at (g.S.Show.place c.args.self.now) Q (shown_of c.show-shown.new.outcome)))
+    let asked = subst₂ (λ a Q. IsShown (wanted g.S.Show.tree g.S.Means.means a.answer c.args.self.now (subject_data c.of.result) Q) (node_at (g.S.Show.place c.args.self.now) Q (shown_of c.show-shown.new.outcome)))
     c.replace-2.ensures.value c.replace.ensures.value c.in_ok-shown.ensures.shown in
+    let shown = subst (λ v. IsShown (wanted g.S.Show.tree g.S.Means.means c.args.ctx.now.answer c.args.self.now v c.args.path.now) (node_at (g.S.Show.place c.args.self.now) c.args.path.now (shown_of c.show-shown.new.outcome)))
+    c.of.ensures asked in
     record {
       tree = shown.like;
       verdict = shown.verdict;

@@ -2,6 +2,7 @@ use Rattle.std.proofs.Common.{ap, subst}
 use Rattle.serde_json.specs.View.{view, members_view}
 use Rattle.olk_spec.specs.Schemas.{listed}
 use Rattle.olk_reports.specs.Evaluations.{shown_of}
+use Rattle.olk_tree.specs.Additional.{sides_seen}
 use Rattle.olk_tree.proofs.Due.{name_next, no_name_next}
 use Rattle.olk_evaluate.specs.Additional.{CollectsMore, member_found}
 use Rattle.olk_evaluate.proofs.Children.{with_room}
@@ -20,7 +21,7 @@ loop-name-init g c = leaves_all (ap (λ es. listed (members_view es)) c.into_ite
 
 pub loop-name-preserved : goal.loop-name-preserved
 loop-name-preserved g c = leaves_rest c.loop-name.invariant (name_next c.in-Some.ensures.steps c.as_str-name.ensures.value)
-    (λ _. collects_both (subst (λ d. CollectsMore (member_found g.R.RegexEngine.answers g.N.Show.tree g.N.Means.means c.loop-name.ctx.validation.answer c.loop-name.ctx.path c.args.keyword.now d c.as_str-name.result.now
+    (λ _. collects_both (subst (λ d. CollectsMore (member_found g.R.RegexEngine.answers g.N.Show.tree g.N.Means.means c.loop-name.ctx.validation.answer c.loop-name.ctx.path (sides_seen c.args.sides) c.args.shows_matches d c.as_str-name.result.now
     (view c.in-Some.value.now)) c.loop-name.collected c.collect_member.new.collected (shown_of c.loop-name.outcome) (shown_of c.collect_member.new.outcome)) c.declared_from-next.ensures
     c.in_ok-collect_member.ensures.shown)) c.collect_member.ensures.kept
 

@@ -6,7 +6,7 @@ use Rattle.olk_reports.specs.Evaluations.{shown_of}
 use Rattle.olk_tree.proofs.Lists.{next_at, past_end}
 use Rattle.olk_evaluate.specs.Additional.{names_of, nodes_wanted}
 use Rattle.olk_evaluate.specs.Wanted.{ShowsMore}
-use Rattle.olk_evaluate.proofs.Collected.{none_is, same_nodes, declared_done, pattern_done, patterns_done, rest_done}
+use Rattle.olk_evaluate.proofs.Collected.{same_nodes, declared_done, pattern_done, patterns_done, rest_done}
 use Rattle.olk_evaluate.proofs.Shows.{kept_then, shows_err, shows_then}
 use Rattle.olk_evaluate.proofs.additional_members.collect_member.Goals as goal
 
@@ -24,15 +24,15 @@ returns-in_err-is_match g c = shows_err c.from_residual-in_err-is_match.ensures.
 
 pub loop-index-preserved : goal.loop-index-preserved
 loop-index-preserved g c =
-    pattern_done c.loop-index.invariant (next_at c.patterns-entry-items.ensures c.entry-item.is c.loop-index-test.true) c.known-known.ensures c.in_ok-is_match.ensures.shown.0
-    (none_is c.args.keyword.now.properties c.is_none-are_shown.result c.is_none-are_shown.ensures) c.in_ok-is_match.ensures.shown.1 refl c.in_ok-push_if.ensures c.show_if_matched.ensures.kept
+    pattern_done c.loop-index.invariant (next_at refl c.entry-item.is c.loop-index-test.true) c.known-known.ensures c.in_ok-is_match.ensures.shown.0
+    c.in_ok-is_match.ensures.shown.1 refl c.in_ok-push_if.ensures c.show_if_matched.ensures.kept
 
 pub returns-then-spoken : goal.returns-then-spoken
-returns-then-spoken g c = record { shown = patterns_done c.loop-index.invariant (past_end c.patterns-entry-items.ensures c.loop-index-test.false) c.if-spoken.true; kept = c.loop-index.invariant.kept }
+returns-then-spoken g c = record { shown = patterns_done c.loop-index.invariant (past_end refl c.loop-index-test.false) c.if-spoken.true; kept = c.loop-index.invariant.kept }
 
 pub returns : goal.returns
 returns g c = shows_then c.loop-index.invariant.kept c.show_rest.ensures
-    (λ _. rest_done c.loop-index.invariant (past_end c.patterns-entry-items.ensures c.loop-index-test.false) c.if-spoken.false
+    (λ _. rest_done c.loop-index.invariant (past_end refl c.loop-index-test.false) c.if-spoken.false
     (ap names_of c.in_ok-push.ensures.items ∙ map-append (λ n. n.now) c.loop-index.collected.additional.items (c.args.member.0 ∷ [])) refl)
 
 pub returns-in_err-push_if : goal.returns-in_err-push_if

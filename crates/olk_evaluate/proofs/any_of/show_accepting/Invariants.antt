@@ -1,5 +1,5 @@
 use Rattle.std.proofs.Common.{List, drop}
-use Rattle.olk_base.specs.Nodes.{data_of}
+use Rattle.olk_base.specs.Nodes.{subject_data}
 use Rattle.olk_spec.specs.Names.{filter_once}
 use Rattle.olk_reports.specs.Evaluations.{shown_of}
 use Rattle.olk_evaluate.specs.Wanted.{ShowsMore, each_wanted}
@@ -8,6 +8,6 @@ use Rattle.olk_evaluate.proofs.any_of.show_accepting.Given as goal
 
 abbrev pub invariant-loop-schema : goal.invariant-loop-schema
 invariant-loop-schema g l =
-    let those : List g.row.N.Denot → List g.row.N.Denot = filter_once (λ n. (g.N.Means.means n (data_of l.node)).accepts l.initial.ctx.validation.answer) in
-    Leaves (λ u Q ns. ShowsMore (each_wanted g.N.Show.tree g.N.Means.means u ns (data_of l.node) Q)) (those l.schemas.items) (those (drop l.schema-index l.schemas.items))
+    let those : List g.row.N.Denot → List g.row.N.Denot = filter_once (λ n. (g.N.Means.means n (subject_data l.node)).accepts l.initial.ctx.validation.answer) in
+    Leaves (λ u Q ns. ShowsMore (each_wanted g.N.Show.tree g.N.Means.means u ns (subject_data l.node) Q)) (those l.schemas.items) (those (drop l.schema-index l.schemas.items))
     (shown_of l.initial.outcome) (shown_of l.outcome) l.initial.ctx.path l.ctx.path l.initial.ctx.validation l.ctx.validation

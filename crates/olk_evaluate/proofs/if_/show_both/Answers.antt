@@ -1,6 +1,6 @@
 use Rattle.olk_evaluate.proofs.Children.{shows_both, with_room}
 use Rattle.olk_evaluate.proofs.Shows.{kept_same, as_before, shows_err, shows_then}
-use Rattle.olk_base.specs.Nodes.{data_of}
+use Rattle.olk_base.specs.Nodes.{subject_data}
 use Rattle.olk_reports.specs.Evaluations.{shown_of}
 use Rattle.olk_evaluate.specs.Wanted.{ShowsMore, each_wanted}
 use Rattle.std.proofs.Common.{[], ◌∷◌}
@@ -15,5 +15,5 @@ returns-in_err-add_child g c = shows_err c.from_residual-in_err-add_child.ensure
 pub returns : goal.returns
 returns g c = shows_then c.add_child.ensures.kept c.add_child-2.ensures (λ _ more. with_room c.args.outcome.now c.reserve_exact.new.self c.in_ok-reserve_exact.ensures.items
     (shows_both c.in_ok-add_child.ensures.shown
-    (as_before (λ u Q. ShowsMore (each_wanted g.N.Show.tree g.N.Means.means u (c.args.second.now ∷ []) (data_of c.args.node) Q) (shown_of c.add_child.new.outcome) (shown_of c.add_child-2.new.outcome))
+    (as_before (λ u Q. ShowsMore (each_wanted g.N.Show.tree g.N.Means.means u (c.args.second.now ∷ []) (subject_data c.args.node) Q) (shown_of c.add_child.new.outcome) (shown_of c.add_child-2.new.outcome))
     c.add_child.ensures.kept more)))

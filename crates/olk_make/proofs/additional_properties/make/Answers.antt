@@ -1,4 +1,3 @@
-use Rattle.std.proofs.lemmas.Result.{IfOk-weaker}
 use Rattle.olk_base.specs.Kit.{kit}
 use Rattle.olk_meaning.specs.Plans.{planned}
 use Rattle.olk_make.proofs.AdditionalProperties.{makes_restriction, is_additional_properties}
@@ -6,10 +5,9 @@ use Rattle.olk_make.proofs.additional_properties.make.Goals as goal
 
 pub returns-clause-form : goal.returns-clause-form
 returns-clause-form g c =
-    IfOk-weaker c.form.result _ _ (λ k. is_additional_properties (kit g.K.Leaf g.R.RegexEngine) g.N.BuiltNode.answers k c.args.place.now c.args.location c.args.rest c.args.beside
-    (planned c.args.plan).fused_one) c.form.ensures
+    is_additional_properties (kit g.K.Leaf g.R.RegexEngine) g.N.BuiltNode.answers c.in_ok-restriction.restriction c.args.place.now c.args.location c.args.rest c.args.beside
+    (planned c.args.plan).fused_one c.in_ok-restriction.ensures
 
 pub returns-clause-makes : goal.returns-clause-makes
 returns-clause-makes g c =
-    IfOk-weaker c.form.result _ _ (λ k. makes_restriction _ _ k c.args.location c.args.place.now c.args.rest c.args.beside
-    (planned c.args.plan)) c.form.ensures
+    makes_restriction _ _ c.in_ok-restriction.restriction c.args.location c.args.place.now c.args.rest c.args.beside (planned c.args.plan) c.in_ok-restriction.ensures

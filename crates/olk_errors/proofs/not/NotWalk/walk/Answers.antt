@@ -5,11 +5,11 @@ use Rattle.olk_reports.proofs.Errors.{kind_of_not}
 use Rattle.olk_errors.proofs.Own.{like_at, walks_own, own_past, is_own}
 use Rattle.olk_errors.proofs.not.NotWalk.walk.Goals as goal
 
-pub returns-then-not-is_valid : goal.returns-then-not-is_valid
-returns-then-not-is_valid g c = let refused = sym c.if-not-is_valid.ensures.verdict in
-    own_past _ _ c.args.self.now.location _ c.if-not-is_valid.ensures.only (ap not refused) refused
+pub returns-then-not-accepts : goal.returns-then-not-accepts
+returns-then-not-accepts g c = let refused = sym c.if-not-accepts.ensures.verdict in
+    own_past _ _ c.args.self.now.location _ c.if-not-accepts.ensures.only (ap not refused) refused
 
 pub returns : goal.returns
-returns g c = let accepted = sym c.if-not-is_valid.ensures.verdict in
-    walks_own c.if-not-is_valid.ensures.only (is_own (Not (view c.args.self.now.original)) _ c.args.self.now.location _
+returns g c = let accepted = sym c.if-not-accepts.ensures.verdict in
+    walks_own c.if-not-accepts.ensures.only (is_own (Not (view c.args.self.now.original)) _ c.args.self.now.location _
     (ap not accepted) accepted refl (like_at (kind_of_not _) itself refl c.as_str.ensures)) c.report.ensures

@@ -1,7 +1,7 @@
 use Rattle.std.proofs.Common.{[], ◌∷◌, refl, string_bytes}
 use Rattle.serde_json.specs.Data.{object}
 use Rattle.serde_json.specs.View.{members_view}
-use Rattle.olk_base.specs.Nodes.{data_of}
+use Rattle.olk_base.specs.Nodes.{subject_data}
 use Rattle.olk_paths.specs.Trails.{path_at}
 use Rattle.olk_tree.proofs.Members_met.{object_is}
 use Rattle.olk_tree.specs.Maps.{named, two_texts}
@@ -18,9 +18,9 @@ returns-in_err-report_if_missing-in-Some g c =
     let members = of_properties g.N.Means.means g.N.Reports.first g.N.Reports.report c.args.ctx.now.answer (named c.args.self.now.properties) in
     let found = walks_alone (only_same c.args.ctx.now) c.in_err-report_if_missing-in-Some.ensures in
     walks_same (two_then_members (λ v. members v (path_at c.args.trail.now)) (path_at c.args.trail.now) c.as_str.ensures.value (λ i. string_bytes c.args.self.now.second) refl
-    (object_is (data_of c.args.node) (members_view c.in-Some.members.now.entries) c.in-Some.ensures))
+    (object_is (subject_data c.args.node) (members_view c.in-Some.members.now.entries) c.in-Some.ensures))
     (walks_left c.from_residual.ensures.0 (walks_before (members (object (members_view c.in-Some.members.now.entries)) (path_at c.args.trail.now))
-    (walks_before (of_names (string_bytes c.args.self.now.second ∷ []) (data_of c.args.node) c.args.self.now.required_location (path_at c.args.trail.now)) found)))
+    (walks_before (of_names (string_bytes c.args.self.now.second ∷ []) (subject_data c.args.node) c.args.self.now.required_location (path_at c.args.trail.now)) found)))
 
 pub returns-in_err-report_if_missing-in-Some-2 : goal.returns-in_err-report_if_missing-in-Some-2
 returns-in_err-report_if_missing-in-Some-2 g c =
@@ -28,7 +28,7 @@ returns-in_err-report_if_missing-in-Some-2 g c =
     let found = walks_after c.in_ok-report_if_missing-in-Some.ensures.so (only_same c.args.ctx.now)
     (walks_alone (only_same c.args.ctx.now) c.in_err-report_if_missing-in-Some-2.ensures) in
     walks_same (two_then_members (λ v. members v (path_at c.args.trail.now)) (path_at c.args.trail.now) c.as_str.ensures.value c.as_str-in-Some.ensures.value refl
-    (object_is (data_of c.args.node) (members_view c.in-Some.members.now.entries) c.in-Some.ensures))
+    (object_is (subject_data c.args.node) (members_view c.in-Some.members.now.entries) c.in-Some.ensures))
     (walks_left c.from_residual-in_err-report_if_missing-in-Some-2.ensures.0
     (walks_before (members (object (members_view c.in-Some.members.now.entries)) (path_at c.args.trail.now)) found))
 
@@ -36,7 +36,7 @@ pub returns-in_ok-report_if_missing-in-Some-2 : goal.returns-in_ok-report_if_mis
 returns-in_ok-report_if_missing-in-Some-2 g c =
     let members = of_properties g.N.Means.means g.N.Reports.first g.N.Reports.report c.args.ctx.now.answer (named c.args.self.now.properties) in
     walks_same (two_then_members (λ v. members v (path_at c.args.trail.now)) (path_at c.args.trail.now) c.as_str.ensures.value c.as_str-in-Some.ensures.value refl
-    (object_is (data_of c.args.node) (members_view c.in-Some.members.now.entries) c.in-Some.ensures))
+    (object_is (subject_data c.args.node) (members_view c.in-Some.members.now.entries) c.in-Some.ensures))
     (walks_after (goes_after c.in_ok-report_if_missing-in-Some.ensures.so c.in_ok-report_if_missing-in-Some-2.ensures.so) (only_same c.args.ctx.now) c.walk_members.ensures)
 
 pub returns-in-None : goal.returns-in-None

@@ -1,4 +1,4 @@
-use Rattle.olk_base.specs.Nodes.{data_of}
+use Rattle.olk_base.specs.Nodes.{subject_data}
 use Rattle.olk_tree.proofs.Due.{none_chosen}
 use Rattle.olk_tree.specs.Maps.{named}
 use Rattle.olk_check.proofs.Asked.{only_same}
@@ -7,4 +7,4 @@ use Rattle.olk_errors.proofs.property_dependencies.PropertyDependenciesWalk.walk
 
 pub returns-in-None : goal.returns-in-None
 returns-in-None g c = past_none g.N.Means.means g.N.Reports.first g.N.Reports.report c.args.ctx.now.answer _ _
-    (only_same c.args.ctx.now) (none_chosen (data_of c.args.node) c.in-None.ensures (named c.args.self.now.dependencies))
+    (only_same c.args.ctx.now) (none_chosen (subject_data c.args.node) c.in-None.ensures (named c.args.self.now.dependencies))

@@ -4,11 +4,11 @@ use Rattle.olk_reports.proofs.Errors.{kind_of_false_schema}
 use Rattle.olk_errors.proofs.Own.{like_at, walks_own, own_past, is_own}
 use Rattle.olk_errors.proofs.property_names.PropertyNamesFalseWalk.walk.Goals as goal
 
-pub returns-then-is_valid : goal.returns-then-is_valid
-returns-then-is_valid c = let accepted = sym c.if-is_valid.ensures.verdict in
-    own_past FalseSchema _ c.args.self.now.location _ c.if-is_valid.ensures.only accepted (ap not accepted)
+pub returns-then-accepts : goal.returns-then-accepts
+returns-then-accepts c = let accepted = sym c.if-accepts.ensures.verdict in
+    own_past FalseSchema _ c.args.self.now.location _ c.if-accepts.ensures.only accepted (ap not accepted)
 
 pub returns : goal.returns
-returns c = let refused = sym c.if-is_valid.ensures.verdict in
-    walks_own c.if-is_valid.ensures.only (is_own FalseSchema _ c.args.self.now.location _
+returns c = let refused = sym c.if-accepts.ensures.verdict in
+    walks_own c.if-accepts.ensures.only (is_own FalseSchema _ c.args.self.now.location _
     refused (ap not refused) refl (like_at kind_of_false_schema itself refl c.as_str.ensures)) c.report.ensures

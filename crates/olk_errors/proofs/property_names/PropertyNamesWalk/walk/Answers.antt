@@ -1,4 +1,4 @@
-use Rattle.olk_base.specs.Nodes.{data_of}
+use Rattle.olk_base.specs.Nodes.{subject_data}
 use Rattle.olk_tree.proofs.Members_met.{no_members}
 use Rattle.olk_check.proofs.Asked.{only_same}
 use Rattle.olk_errors.proofs.Names.{no_names}
@@ -7,4 +7,4 @@ use Rattle.olk_errors.proofs.property_names.PropertyNamesWalk.walk.Goals as goal
 
 pub returns-in-None : goal.returns-in-None
 returns-in-None g c = walks_past (only_same c.args.ctx.now) (no_names _
-    _ g.N.Means.means g.N.Reports.first g.N.Reports.report c.args.ctx.now.answer c.args.self.now.node (no_members (data_of c.args.node) c.in-None.ensures))
+    _ g.N.Means.means g.N.Reports.first g.N.Reports.report c.args.ctx.now.answer c.args.self.now.node (no_members (subject_data c.args.node) c.in-None.ensures))

@@ -1,5 +1,4 @@
-use Rattle.std.proofs.Common.{ap, subst, ◌∙◌}
-use Rattle.olk_base.specs.Nodes.{data_of}
+use Rattle.std.proofs.Common.{subst, ◌∙◌}
 use Rattle.olk_spec.specs.Faults.{fault}
 use Rattle.olk_reports.specs.Errors.{kind_of}
 use Rattle.olk_errors.proofs.Sinks.{ends_nowhere}
@@ -11,4 +10,4 @@ returns-in_err-instance_path c = ends_nowhere c.from_residual.ensures.0
 
 pub returns : goal.returns
 returns c = subst (Takes c.take.result c.args.self.now c.take.new.self)
-    (c.at.ensures.fault ∙ ap (λ t. fault (kind_of c.args.kind) (data_of c.args.node) t c.args.schema_path.now) c.in_ok-instance_path.ensures) c.take.ensures
+    (c.at.ensures.fault ∙ (λ i. fault (kind_of c.args.kind) (c.node.ensures i) (c.in_ok-instance_path.ensures i) c.args.schema_path.now)) c.take.ensures

@@ -1,4 +1,4 @@
-use Rattle.olk_base.specs.Nodes.{data_of}
+use Rattle.olk_base.specs.Nodes.{subject_data}
 use Rattle.olk_evaluate.proofs.Branches.{any_shown}
 use Rattle.olk_evaluate.proofs.Shows.{shows_err}
 use Rattle.olk_evaluate.proofs.any_of.AnyOfShow.show.Goals as goal
@@ -8,7 +8,7 @@ returns-in_err-show_accepting g c = shows_err c.from_residual.ensures.0 c.show_a
 
 pub returns : goal.returns
 returns g c = record {
-  shown = any_shown g.N.Show.tree g.N.Means.means c.args.ctx.now.validation.answer (data_of c.args.node) c.args.self.now.location c.args.ctx.now.path c.args.self.now.schemas.items
+  shown = any_shown g.N.Show.tree g.N.Means.means c.args.ctx.now.validation.answer (subject_data c.args.node) c.args.self.now.location c.args.ctx.now.path c.args.self.now.schemas.items
       c.in_ok-show_accepting.ensures.shown;
   kept = c.show_accepting.ensures.kept;
 }

@@ -1,8 +1,8 @@
-use Rattle.olk_base.specs.Nodes.{data_of}
+use Rattle.olk_base.specs.Nodes.{subject_data}
 use Rattle.olk_evaluate.proofs.OneOf.{any_of_shown}
 use Rattle.olk_evaluate.proofs.Shows.{shows_weaker}
 use Rattle.olk_evaluate.proofs.any_of.SingleAnyOfShow.show.Goals as goal
 
 pub returns : goal.returns
 returns g c = shows_weaker c.show_one.ensures
-    (λ _ one. any_of_shown g.N.Show.tree g.N.Means.means c.args.ctx.now.validation.answer (data_of c.args.node) c.args.self.now.location c.args.ctx.now.path c.args.self.now.node c.requires one)
+    (λ _ one. any_of_shown g.N.Show.tree g.N.Means.means c.args.ctx.now.validation.answer (subject_data c.args.node) c.args.self.now.location c.args.ctx.now.path c.args.self.now.node c.requires one)

@@ -1,6 +1,6 @@
 use Rattle.std.proofs.Common.{refl, sym, subst}
 use Rattle.serde_json.specs.View.{members_view}
-use Rattle.olk_base.specs.Nodes.{data_of}
+use Rattle.olk_base.specs.Nodes.{subject_data}
 use Rattle.olk_reports.specs.Evaluations.{shown_of}
 use Rattle.olk_tree.specs.Maps.{named}
 use Rattle.olk_tree.specs.Dependencies.{due_nodes}
@@ -13,8 +13,8 @@ use Rattle.olk_evaluate.proofs.dependencies.DependenciesShow.show.Goals as goal
 
 pub returns-in_default : goal.returns-in_default
 returns-in_default g c = record {
-  shown = shows_no_branch g.N.Show.tree g.N.Means.means c.args.ctx.now.validation.answer (data_of c.args.node) c.args.ctx.now.path
-      (due_nodes (named c.args.self.now.dependencies) (data_of c.args.node)) (none_due (data_of c.args.node) c.in_default.ensures (named c.args.self.now.dependencies)) c.requires
+  shown = shows_no_branch g.N.Show.tree g.N.Means.means c.args.ctx.now.validation.answer (subject_data c.args.node) c.args.ctx.now.path
+      (due_nodes (named c.args.self.now.dependencies) (subject_data c.args.node)) (none_due (subject_data c.args.node) c.in_default.ensures (named c.args.self.now.dependencies)) c.requires
       c.args.self.now.location;
   kept = kept_same;
 }
@@ -32,11 +32,11 @@ pub returns : goal.returns
 returns g c =
     let entries = members_view c.in-Some.members.now.entries in
     record {
-      shown = shows_each g.N.Show.tree g.N.Means.means c.args.ctx.now.validation.answer (data_of c.args.node) c.args.ctx.now.path
-          (due_nodes (named c.args.self.now.dependencies) (data_of c.args.node))
+      shown = shows_each g.N.Show.tree g.N.Means.means c.args.ctx.now.validation.answer (subject_data c.args.node) c.args.ctx.now.path
+          (due_nodes (named c.args.self.now.dependencies) (subject_data c.args.node))
           c.requires (subst (λ ws. ShowsMore ws (shown_of c.args.outcome.now) (shown_of c.loop-dependency.outcome))
           (all_due entries (named c.args.self.now.dependencies) c.into_iter-dependency-iterator.ensures.into_iter_gives c.declared_members-dependency-items.ensures.by_names
-          (data_of c.args.node) (sym (object_is (data_of c.args.node) entries c.in-Some.ensures)) (λ n. wanted g.N.Show.tree g.N.Means.means c.args.ctx.now.validation.answer n (data_of c.args.node) c.args.ctx.now.path))
+          (subject_data c.args.node) (sym (object_is (subject_data c.args.node) entries c.in-Some.ensures)) (λ n. wanted g.N.Show.tree g.N.Means.means c.args.ctx.now.validation.answer n (subject_data c.args.node) c.args.ctx.now.path))
           (leaves_none c.loop-dependency.invariant c.in-None.ensures.steps (shows_none (shown_of c.loop-dependency.outcome)))) c.args.self.now.location;
       kept = c.loop-dependency.invariant.kept;
     }

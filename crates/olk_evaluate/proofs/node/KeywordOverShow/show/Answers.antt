@@ -1,5 +1,5 @@
 use Rattle.std.proofs.Common.{sym}
-use Rattle.olk_base.specs.Nodes.{data_of}
+use Rattle.olk_base.specs.Nodes.{subject_data}
 use Rattle.olk_tree.specs.Validators.{answers_of}
 use Rattle.olk_evaluate.proofs.OwnErrors.{leaf_shown}
 use Rattle.olk_evaluate.proofs.Shows.{kept_same, shows_by}
@@ -8,11 +8,11 @@ use Rattle.olk_evaluate.proofs.node.KeywordOverShow.show.Goals as goal
 pub returns-in-Leaf : goal.returns-in-Leaf
 unfolding answers_of
 returns-in-Leaf g c = rw c.in-Leaf.is (shows_by c.show_leaf.ensures kept_same (λ _ texts.
-    leaf_shown (g.K.Leaf.keyword_of c.in-Leaf.leaf) c.in-Leaf.field-0 c.args.ctx.now.path (data_of c.args.node) (g.K.Leaf.finds c.in-Leaf.leaf (data_of c.args.node)) texts))
+    leaf_shown (g.K.Leaf.keyword_of c.in-Leaf.leaf) c.in-Leaf.field-0 c.args.ctx.now.path (subject_data c.args.node) (g.K.Leaf.finds c.in-Leaf.leaf (subject_data c.args.node)) texts))
 
 pub returns-in-AdditionalProperties : goal.returns-in-AdditionalProperties
 unfolding answers_of
-returns-in-AdditionalProperties g c = rw c.in-AdditionalProperties.is (rw (sym c.deref-in-AdditionalProperties.ensures) c.show-in-AdditionalProperties.ensures)
+returns-in-AdditionalProperties g c = rw c.in-AdditionalProperties.is c.show-in-AdditionalProperties.ensures
 
 pub returns-in-Properties : goal.returns-in-Properties
 unfolding answers_of

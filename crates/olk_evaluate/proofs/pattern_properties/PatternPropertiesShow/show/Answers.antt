@@ -1,6 +1,6 @@
 use Rattle.std.proofs.Common.{refl}
 use Rattle.serde_json.specs.View.{members_view}
-use Rattle.olk_base.specs.Nodes.{data_of}
+use Rattle.olk_base.specs.Nodes.{subject_data}
 use Rattle.olk_reports.specs.Evaluations.{shown_of}
 use Rattle.olk_tree.proofs.Lists.{next_at, past_end}
 use Rattle.olk_evaluate.proofs.Members.{meets_nothing, meets_both}
@@ -11,7 +11,7 @@ use Rattle.olk_evaluate.proofs.pattern_properties.PatternPropertiesShow.show.Goa
 pub returns-in_default : goal.returns-in_default
 returns-in_default g c = record {
   shown = other_shown g.R.RegexEngine.answers g.N.Show.tree g.N.Means.means c.args.ctx.now.validation.answer c.args.ctx.now.path c.args.self.now.patterns.items
-      (data_of c.args.node) c.in_default.ensures c.requires g.R.RegexEngine.costs c.args.self.now.location;
+      (subject_data c.args.node) c.in_default.ensures c.requires g.R.RegexEngine.costs c.args.self.now.location;
   kept = kept_same;
 }
 
@@ -30,7 +30,7 @@ returns-in_err-show_matched g c = shows_err c.from_residual-in_err-show_matched.
 
 pub returns : goal.returns
 returns g c = record {
-  shown = patterns_shown g.R.RegexEngine.answers g.N.Show.tree g.N.Means.means c.args.ctx.now.validation.answer c.args.ctx.now.path c.args.self.now.patterns.items (data_of c.args.node)
+  shown = patterns_shown g.R.RegexEngine.answers g.N.Show.tree g.N.Means.means c.args.ctx.now.validation.answer c.args.ctx.now.path c.args.self.now.patterns.items (subject_data c.args.node)
       (members_view c.in-Some.members.now.entries) c.in-Some.ensures c.requires c.in_ok-make_room.ensures
       (leaves_none c.loop-entry.invariant (past_end c.deref-entry-items.ensures.value c.loop-entry-test.false) (meets_nothing (shown_of c.loop-entry.outcome)))
       g.R.RegexEngine.costs c.args.self.now.location;

@@ -1,7 +1,7 @@
 use Rattle.std.proofs.Common.{subst}
 use Rattle.serde_json.specs.Data.{object}
 use Rattle.serde_json.specs.View.{members_view}
-use Rattle.olk_base.specs.Nodes.{data_of}
+use Rattle.olk_base.specs.Nodes.{subject_data}
 use Rattle.olk_reports.specs.Evaluations.{shown_of}
 use Rattle.olk_tree.specs.Maps.{named, two_texts}
 use Rattle.olk_evaluate.specs.Wanted.{ShowsMore, lacking_trees, refused}
@@ -17,14 +17,14 @@ returns-in_ok-show_declared_members-in-Some g c =
     let required = two_texts c.args.self.now.first c.args.self.now.second in
     let place = c.args.self.now.required_location in
     shows_by c.add_missing_child.ensures c.show_declared_members.ensures.kept (λ _ more.
-    beside_shown g.N.Show.tree g.N.Means.means c.args.ctx.now.validation.answer c.args.ctx.now.path (named c.args.self.now.properties) c.args.self.now.location (data_of c.args.node)
+    beside_shown g.N.Show.tree g.N.Means.means c.args.ctx.now.validation.answer c.args.ctx.now.path (named c.args.self.now.properties) c.args.self.now.location (subject_data c.args.node)
     (members_view c.in-Some.members.now.entries) c.in-Some.ensures c.in_ok-show_declared_members-in-Some.ensures.shown required place
-    (subst (λ Q. ShowsMore (refused (lacking_trees required (data_of c.args.node) (object (members_view c.in-Some.members.now.entries)) place Q))
+    (subst (λ Q. ShowsMore (refused (lacking_trees required (subject_data c.args.node) (object (members_view c.in-Some.members.now.entries)) place Q))
     (shown_of c.show_declared_members.new.outcome) (shown_of c.add_missing_child.new.outcome)) c.show_declared_members.ensures.kept.path more))
 
 pub returns-in-None : goal.returns-in-None
 returns-in-None g c = record {
   shown = nothing_missing_shown g.N.Show.tree g.N.Means.means c.args.ctx.now.validation.answer c.args.ctx.now.path (named c.args.self.now.properties) c.args.self.now.location
-      (data_of c.args.node) c.in-None.ensures c.requires (two_texts c.args.self.now.first c.args.self.now.second) c.args.self.now.required_location;
+      (subject_data c.args.node) c.in-None.ensures c.requires (two_texts c.args.self.now.first c.args.self.now.second) c.args.self.now.required_location;
   kept = kept_same;
 }

@@ -1,7 +1,7 @@
 use Rattle.std.proofs.Common.{◌++◌, refl, sym, ap, subst, ◌∙◌}
 use Rattle.std.specs.List.{flat_map}
 use Rattle.serde_json.specs.View.{members_view}
-use Rattle.olk_base.specs.Nodes.{data_of}
+use Rattle.olk_base.specs.Nodes.{subject_data}
 use Rattle.olk_reports.specs.Evaluations.{shown_of}
 use Rattle.olk_tree.specs.Maps.{named}
 use Rattle.olk_tree.specs.PropertyDependencies.{chosen_nodes}
@@ -16,8 +16,8 @@ use Rattle.olk_evaluate.proofs.property_dependencies.PropertyDependenciesShow.sh
 
 pub returns-in_default : goal.returns-in_default
 returns-in_default g c = record {
-  shown = shows_no_branch g.N.Show.tree g.N.Means.means c.args.ctx.now.validation.answer (data_of c.args.node) c.args.ctx.now.path
-      (chosen_nodes (named c.args.self.now.dependencies) (data_of c.args.node)) (none_chosen (data_of c.args.node) c.in_default.ensures (named c.args.self.now.dependencies)) c.requires
+  shown = shows_no_branch g.N.Show.tree g.N.Means.means c.args.ctx.now.validation.answer (subject_data c.args.node) c.args.ctx.now.path
+      (chosen_nodes (named c.args.self.now.dependencies) (subject_data c.args.node)) (none_chosen (subject_data c.args.node) c.in_default.ensures (named c.args.self.now.dependencies)) c.requires
       c.args.self.now.location;
   kept = kept_same;
 }
@@ -41,12 +41,12 @@ pub returns : goal.returns
 returns g c =
     let entries = members_view c.in-Some.members.now.entries in
     record {
-      shown = shows_each g.N.Show.tree g.N.Means.means c.args.ctx.now.validation.answer (data_of c.args.node) c.args.ctx.now.path
-          (chosen_nodes (named c.args.self.now.dependencies) (data_of c.args.node))
+      shown = shows_each g.N.Show.tree g.N.Means.means c.args.ctx.now.validation.answer (subject_data c.args.node) c.args.ctx.now.path
+          (chosen_nodes (named c.args.self.now.dependencies) (subject_data c.args.node))
           c.requires (subst (λ ws. ShowsMore ws (shown_of c.args.outcome.now) (shown_of c.loop-choices.outcome))
           (sym (map-flat_map _ chosen (left_of c.into_iter-choices-iterator.result))
           ∙ all_chosen entries (named c.args.self.now.dependencies) c.into_iter-choices-iterator.ensures.into_iter_gives c.declared_members-choices-items.ensures.by_names
-          (data_of c.args.node) (sym (object_is (data_of c.args.node) entries c.in-Some.ensures)) (λ n. wanted g.N.Show.tree g.N.Means.means c.args.ctx.now.validation.answer n (data_of c.args.node) c.args.ctx.now.path))
+          (subject_data c.args.node) (sym (object_is (subject_data c.args.node) entries c.in-Some.ensures)) (λ n. wanted g.N.Show.tree g.N.Means.means c.args.ctx.now.validation.answer n (subject_data c.args.node) c.args.ctx.now.path))
           (leaves_none c.loop-choices.invariant (ap (flat_map chosen) c.in-None.ensures.steps) (shows_none (shown_of c.loop-choices.outcome)))) c.args.self.now.location;
       kept = c.loop-choices.invariant.kept;
     }

@@ -1,5 +1,5 @@
 use Rattle.std.specs.List.{flat_map}
-use Rattle.olk_base.specs.Nodes.{data_of}
+use Rattle.olk_base.specs.Nodes.{subject_data}
 use Rattle.olk_reports.specs.Evaluations.{shown_of}
 use Rattle.olk_tree.specs.Visited.{left_of}
 use Rattle.olk_tree.proofs.Due.{chosen}
@@ -9,5 +9,5 @@ use Rattle.olk_evaluate.proofs.property_dependencies.PropertyDependenciesShow.sh
 
 abbrev pub invariant-loop-choices : goal.invariant-loop-choices
 invariant-loop-choices g l =
-    Leaves (λ u Q ns. ShowsMore (each_wanted g.N.Show.tree g.N.Means.means u ns (data_of l.node) Q)) (flat_map chosen (left_of l.initial.choices-iterator)) (flat_map chosen (left_of l.choices-iterator))
+    Leaves (λ u Q ns. ShowsMore (each_wanted g.N.Show.tree g.N.Means.means u ns (subject_data l.node) Q)) (flat_map chosen (left_of l.initial.choices-iterator)) (flat_map chosen (left_of l.choices-iterator))
     (shown_of l.initial.outcome) (shown_of l.outcome) l.initial.ctx.path l.ctx.path l.initial.ctx.validation l.ctx.validation

@@ -1,7 +1,7 @@
 use Rattle.std.proofs.Common.{refl, ap, ◌∙◌}
 use Rattle.serde_json.specs.Data.{object}
 use Rattle.serde_json.specs.View.{members_view}
-use Rattle.olk_base.specs.Nodes.{data_of}
+use Rattle.olk_base.specs.Nodes.{subject_data}
 use Rattle.olk_reports.specs.Evaluations.{shown_of}
 use Rattle.olk_tree.proofs.Due.{name_next, no_name_next}
 use Rattle.olk_tree.proofs.Members_met.{object_is, no_members}
@@ -11,9 +11,9 @@ use Rattle.olk_evaluate.proofs.property_names.PropertyNamesShow.show.Goals as go
 
 pub returns-in_default : goal.returns-in_default
 returns-in_default g c = record {
-  shown = names_shown g.N.Show.tree g.N.Means.means c.args.ctx.now.validation.answer c.args.self.now.node c.args.self.now.location c.args.ctx.now.path (data_of c.args.node) (data_of c.args.node) refl c.requires
-      (no_name_shown g.N.Show.tree g.N.Means.means c.args.ctx.now.validation.answer c.args.self.now.node c.args.self.now.location c.args.ctx.now.path (data_of c.args.node)
-      (no_members (data_of c.args.node) c.in_default.ensures) (shown_of c.args.outcome.now));
+  shown = names_shown g.N.Show.tree g.N.Means.means c.args.ctx.now.validation.answer c.args.self.now.node c.args.self.now.location c.args.ctx.now.path (subject_data c.args.node) (subject_data c.args.node) refl c.requires
+      (no_name_shown g.N.Show.tree g.N.Means.means c.args.ctx.now.validation.answer c.args.self.now.node c.args.self.now.location c.args.ctx.now.path (subject_data c.args.node)
+      (no_members (subject_data c.args.node) c.in_default.ensures) (shown_of c.args.outcome.now));
   kept = kept_same;
 }
 
@@ -21,7 +21,7 @@ pub loop-name-init : goal.loop-name-init
 loop-name-init g c = leaves_all refl
 
 pub loop-name-preserved : goal.loop-name-preserved
-loop-name-preserved g c = leaves_rest c.loop-name.invariant (name_next c.in-Some-2.ensures.steps refl) (λ _. shows_both c.in_ok-add_child.ensures.shown) c.add_child.ensures.kept
+loop-name-preserved g c = leaves_rest c.loop-name.invariant (name_next c.in-Some-2.ensures.steps c.as_str-name.ensures.value) (λ _. shows_both c.in_ok-add_child.ensures.shown) c.add_child.ensures.kept
 
 pub returns-in_err-reserve_exact : goal.returns-in_err-reserve_exact
 returns-in_err-reserve_exact g c = shows_err c.from_residual.ensures.0 kept_same
@@ -31,10 +31,10 @@ returns-in_err-add_child g c = shows_err c.from_residual-in_err-add_child.ensure
 
 pub returns : goal.returns
 returns g c = record {
-  shown = names_shown g.N.Show.tree g.N.Means.means c.args.ctx.now.validation.answer c.args.self.now.node c.args.self.now.location c.args.ctx.now.path (data_of c.args.node)
+  shown = names_shown g.N.Show.tree g.N.Means.means c.args.ctx.now.validation.answer c.args.self.now.node c.args.self.now.location c.args.ctx.now.path (subject_data c.args.node)
       (object (members_view c.into_iter-name-iterator.result))
       (ap (λ es. object (members_view es)) c.into_iter-name-iterator.ensures.into_iter_gives.0
-      ∙ object_is (data_of c.args.node) (members_view c.in-Some.members.now.entries) c.in-Some.ensures)
+      ∙ object_is (subject_data c.args.node) (members_view c.in-Some.members.now.entries) c.in-Some.ensures)
       c.requires (with_room c.args.outcome.now c.reserve_exact.new.self c.in_ok-reserve_exact.ensures.items
       (leaves_none c.loop-name.invariant (no_name_next c.in-None.ensures.steps.0) (shows_none (shown_of c.loop-name.outcome))));
   kept = c.loop-name.invariant.kept;

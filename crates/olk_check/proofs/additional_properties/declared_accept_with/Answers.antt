@@ -1,0 +1,29 @@
+use Rattle.std.proofs.Common.{◌<◌, [], ◌∷◌, None, length, refl, arith}
+use Rattle.serde_json.specs.View.{members_view}
+use Rattle.olk_spec.specs.Schemas.{listed}
+use Rattle.olk_spec.specs.Names.{is_empty}
+use Rattle.olk_spec.specs.Accepts.{missing}
+use Rattle.olk_meaning.proofs.Listed.{listed_length}
+use Rattle.olk_tree.specs.Questions.{always}
+use Rattle.olk_tree.specs.Visited.{object_of}
+use Rattle.olk_tree.proofs.Merge.{sorted_rising}
+use Rattle.olk_tree.proofs.Walked.{keys_rising}
+use Rattle.olk_check.proofs.Unpatterned.{crowded}
+use Rattle.olk_check.proofs.Walks.{both_stop}
+use Rattle.olk_check.proofs.additional_properties.declared_accept_with.Goals as goal
+
+pub returns-then-len : goal.returns-then-len
+returns-then-len g c =
+    let declared = c.args.properties.now in
+    let entries = c.args.members.now.entries in
+    let fewer : length declared < length (listed (members_view entries)) =
+    let many = c.len.ensures.len in
+    let there = c.len-2.ensures.len in
+    let more = c.if-len.true in
+    let listed_each = listed_length entries in
+    omega arith in
+    both_stop (always (is_empty (missing (c.args.required.now ∷ []) (object_of entries))))
+    (crowded g.N.Means.means None refl declared (listed (members_view entries)) (keys_rising declared c.len-2.ensures.ordered) (sorted_rising entries c.len.ensures.ordered) fewer c.args.ctx.now)
+
+pub returns : goal.returns
+returns g c = c.all_declared.ensures

@@ -1,9 +1,0 @@
-use Rattle.olk_base.specs.Kit.{kit}
-use Rattle.olk_base.specs.Nodes.{data_of}
-use Rattle.olk_tree.specs.Validators.{validator_means}
-use Rattle.olk_check.proofs.Walks.{keywords_asked}
-use Rattle.olk_check.proofs.node.BodyKeywordOverIsValid.is_valid.Goals as goal
-
-pub returns-in-Keywords : goal.returns-in-Keywords
-returns-in-Keywords g c =
-    keywords_asked (validator_means (kit g.K.Leaf g.R.RegexEngine) g.N.Means.means) (data_of c.args.node) c.in-Keywords.is c.deref.ensures.value c.keywords_accept.ensures

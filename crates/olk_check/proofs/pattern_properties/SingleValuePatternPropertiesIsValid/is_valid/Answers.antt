@@ -1,8 +1,0 @@
-use Rattle.std.proofs.Common.{true, sym}
-use Rattle.olk_base.specs.Nodes.{data_of}
-use Rattle.olk_tree.proofs.Patterns.{matched_nothing}
-use Rattle.olk_check.proofs.Asked.{asks_as, unasked}
-use Rattle.olk_check.proofs.pattern_properties.SingleValuePatternPropertiesIsValid.is_valid.Goals as goal
-
-pub returns-in-None : goal.returns-in-None
-returns-in-None g c = asks_as (sym (matched_nothing g.R.RegexEngine.answers (data_of c.args.node) c.in-None.ensures g.R.RegexEngine.costs g.N.Means.means c.args.self.now.regex c.args.self.now.node)) (unasked c.args.ctx.now true)

@@ -1,0 +1,10 @@
+use Rattle.olk_base.specs.Nodes.{subject_data}
+use Rattle.olk_paths.specs.Trails.{path_at}
+use Rattle.olk_check.proofs.Asked.{only_same}
+use Rattle.olk_errors.proofs.AdditionalHeld.{no_members_held}
+use Rattle.olk_errors.proofs.Sinks.{walks_same, walks_alone}
+use Rattle.olk_errors.proofs.additional_properties.AdditionalPropertiesFalseWalk.walk.Goals as goal
+
+pub returns : goal.returns
+returns c = walks_same (no_members_held c.args._ctx.now.answer c.args.self.now (subject_data c.args.node) (path_at c.args.trail.now))
+    (walks_alone (only_same c.args._ctx.now) c.report_first.ensures)

@@ -1,0 +1,13 @@
+pub mod Splits
+pub mod Places
+pub mod Parts
+pub mod Found
+pub mod Dead
+pub mod Equal
+pub mod Members
+pub mod Reading
+pub mod Large
+pub mod Built
+pub mod Computed
+pub mod Sizes
+pub mod Asserted

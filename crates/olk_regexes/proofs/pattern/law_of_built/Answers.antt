@@ -1,0 +1,5 @@
+use Rattle.olk_regexes.proofs.Built.{built_placed}
+use Rattle.olk_regexes.proofs.pattern.law_of_built.Goals as goal
+
+pub returns : goal.returns
+returns c = λ w p e. built_placed w p e

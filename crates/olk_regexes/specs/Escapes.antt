@@ -1,0 +1,105 @@
+-- How an escape is read, behind its backslash: that of ECMA-262, with its flag u.
+use Rattle.std.specs.Prelude.{ℕ, ◌+◌, ◌-◌, ◌*◌, ◌==◌, Bool, false, ◌&&◌, List, [], ◌∷◌, Option, Some, None, if◌then◌else◌, codes}
+use Rattle.std.specs.Char.{is_ascii_digit, is_digit, digit_value}
+use Rattle.std.specs.List.{list_any}
+use lib.Dec.{leb}
+use Rattle.olk_regexes.specs.Language.{Text}
+use Rattle.olk_regexes.specs.Sets.{digits, no_digits, words, no_words, spaces, no_spaces}
+use Rattle.olk_regexes.specs.declared.class.Range.{Range}
+
+-- what was read, and what is left
+abbrev pub Read : Type 0 → Type 0
+Read A = Option (A × Text)
+
+abbrev pub next : {A B : Type 0} → Read A → (A → Text → Read B) → Read B
+next None f = None
+next (Some p) f = f p.0 p.1
+
+-- a character or a set
+pub data Item : Type 0 where
+  char : ℕ → Item
+  set : List Range → Item
+
+abbrev pub two_hex : Text → Read ℕ
+two_hex [] = None
+two_hex (a ∷ []) = None
+two_hex (a ∷ b ∷ w) = if is_digit a 16 && is_digit b 16 then Some (digit_value a * 16 + digit_value b, w) else None
+
+-- two and two digits
+abbrev pub four_hex : Text → Read ℕ
+four_hex w = next (two_hex w) (λ high v. next (two_hex v) (λ low u. Some (high * 256 + low, u)))
+
+-- a trailing surrogate, by an escape of its own
+abbrev pub trail : Text → Read ℕ
+trail [] = None
+trail (b ∷ []) = None
+trail (b ∷ u ∷ w) = if (b == 92) && (u == 117)
+    then next (four_hex w) (λ t v. if leb 56320 t && leb t 57343 then Some (t, v) else None)
+    else None
+
+abbrev pub pair_or_alone : ℕ → Text → Read ℕ → Read ℕ
+pair_or_alone h w None = Some (h, w)
+pair_or_alone h w (Some p) = Some ((h - 55296) * 1024 + (p.0 - 56320) + 65536, p.1)
+
+-- a leading surrogate with a trailing one behind it is one character; every other code is one alone
+abbrev pub paired : ℕ → Text → Read ℕ
+paired h w = if leb 55296 h && leb h 56319 then pair_or_alone h w (trail w) else Some (h, w)
+
+-- the hexadecimal digits of a code, read until it is no character's
+abbrev pub code_from : ℕ → Text → ℕ × Text
+code_from n [] = (n, [])
+code_from n (c ∷ w) = if is_digit c 16 then code_from (if leb n 1114111 then n * 16 + digit_value c else n) w else (n, c ∷ w)
+
+abbrev pub code_end : ℕ → Text → Read ℕ
+code_end n [] = None
+code_end n (c ∷ w) = if (c == 125) && leb n 1114111 then Some (n, w) else None
+
+-- a code in braces, behind the opening one
+abbrev pub braced_code : Text → Read ℕ
+braced_code [] = None
+braced_code (c ∷ w) = if is_digit c 16 then code_end (code_from 0 (c ∷ w)).0 (code_from 0 (c ∷ w)).1 else None
+
+abbrev pub unicode : Text → Read ℕ
+unicode [] = None
+unicode (c ∷ w) = if c == 123 then braced_code w else next (four_hex (c ∷ w)) paired
+
+abbrev pub begins_digit : Text → Bool
+begins_digit [] = false
+begins_digit (c ∷ w) = is_ascii_digit c
+
+-- an escaped character other than those above
+abbrev pub plain_escape : ℕ → Option ℕ
+plain_escape c =
+    if c == 110 then Some 10 else
+    if c == 114 then Some 13 else
+    if c == 116 then Some 9 else
+    if c == 102 then Some 12 else
+    if c == 118 then Some 11 else
+    if list_any (λ d. c == d) (codes "^$\\.*+?()[]{}|/") then Some c else None
+
+abbrev pub with_rest : Text → Option ℕ → Read ℕ
+with_rest w None = None
+with_rest w (Some c) = Some (c, w)
+
+abbrev pub escaped_char : ℕ → Text → Read ℕ
+escaped_char c w =
+    if c == 120 then two_hex w else
+    if c == 117 then unicode w else
+    if c == 48 then (if begins_digit w then None else Some (0, w)) else with_rest w (plain_escape c)
+
+abbrev pub escaped_set : ℕ → Option (List Range)
+escaped_set c =
+    if c == 100 then Some digits else
+    if c == 68 then Some no_digits else
+    if c == 119 then Some words else
+    if c == 87 then Some no_words else
+    if c == 115 then Some spaces else
+    if c == 83 then Some no_spaces else None
+
+abbrev pub set_or_char : ℕ → Text → Option (List Range) → Read Item
+set_or_char c w (Some rs) = Some (set rs, w)
+set_or_char c w None = next (escaped_char c w) (λ x v. Some (char x, v))
+
+abbrev pub escape : Text → Read Item
+escape [] = None
+escape (c ∷ w) = set_or_char c w (escaped_set c)
