@@ -13,8 +13,8 @@ use native.Mathlib.Nat.{pow-suc}
 use lib.Utf8.{scalar, scalars, next, encode, encodes}
 use Rattle.olk_spec.specs.Names.{Name}
 use Rattle.olk_spec.proofs.Truth.{and_first, and_second}
-use Rattle.olk_tree.specs.declared.entries.Entry.{Entry}
-use Rattle.olk_tree.specs.Entries.{names_of, heads_of}
+use Rattle.olk_tree.specs.declared.sorted_name.SortedName.{SortedName}
+use Rattle.olk_tree.specs.Sorted.{names_of, heads_of}
 use Rattle.olk_tree.specs.Ascending.{Ascend, IsBefore, IsFirst, Rise, first_bytes}
 use Rattle.olk_tree.proofs.Places.{nowhere, some_entry}
 
@@ -52,9 +52,9 @@ bytes_of_utf8 n u = subst Bytes u.1.1 (bytes_of_all u.0 u.1.0)
 bytes_of_text : (s : String Global) → Bytes (string_bytes s)
 bytes_of_text s = bytes_of_utf8 _ (IsUtf8-string_bytes s)
 
-bytes_at : {N : Type 0} (es : List (Entry N)) (k : ℕ) → Bytes (get_or (names_of es) k [])
+bytes_at : (es : List SortedName) (k : ℕ) → Bytes (get_or (names_of es) k [])
 bytes_at [] k = tt
-bytes_at (e ∷ es) zero = bytes_of_text e.name.text
+bytes_at (e ∷ es) zero = bytes_of_text e.text
 bytes_at (e ∷ es) (suc k) = bytes_at es k
 
 -- ---- the first k bytes, as a number
@@ -114,12 +114,12 @@ worth_is (a ∷ b ∷ c ∷ d ∷ e ∷ f ∷ g ∷ []) = omega arith
 worth_is (a ∷ b ∷ c ∷ d ∷ e ∷ f ∷ g ∷ h ∷ n) = omega arith
 
 -- the first bytes that are kept
-heads_are : {N : Type 0} (es : List (Entry N)) → heads_of es ≡ map first_bytes (names_of es)
+heads_are : (es : List SortedName) → heads_of es ≡ map first_bytes (names_of es)
 heads_are [] = refl
-heads_are (e ∷ es) = λ i. e.name.head_is i ∷ heads_are es i
+heads_are (e ∷ es) = λ i. e.head_is i ∷ heads_are es i
 
 -- the first bytes of names that ascend don't fall
-heads_rise : {N : Type 0} (es : List (Entry N)) → Ascend (names_of es) → Rise (map first_bytes (names_of es))
+heads_rise : (es : List SortedName) → Ascend (names_of es) → Rise (map first_bytes (names_of es))
 heads_rise es asc i j le lt = by (nat_lt i j) refl
   where
     ks : List Name
@@ -140,30 +140,30 @@ heads_rise es asc i j le lt = by (nat_lt i j) refl
 
 -- ---- the place of the first
 
-pub head_read : {N : Type 0} (es : List (Entry N)) (k : ℕ) (x : Entry N) → k < length es → x ≡ get_or es k x → (d : ℕ) → x.name.head ≡ get_or (heads_of es) k d
-head_read es k x lt is d = ap (λ e. e.name.head) is ∙ sym (get_or-map _ es k x d lt)
+pub head_read : (es : List SortedName) (k : ℕ) (x : SortedName) → k < length es → x ≡ get_or es k x → (d : ℕ) → x.head ≡ get_or (heads_of es) k d
+head_read es k x lt is d = ap (λ e. e.head) is ∙ sym (get_or-map _ es k x d lt)
 
-pub head_at_place : {N : Type 0} (es : List (Entry N)) (k : ℕ) (x : Entry N) → k < length es → (get_or es k x).name.head ≡ get_or (heads_of es) k 0
+pub head_at_place : (es : List SortedName) (k : ℕ) (x : SortedName) → k < length es → (get_or es k x).head ≡ get_or (heads_of es) k 0
 head_at_place es k x lt = sym (get_or-map _ es k x 0 lt)
 
-as_long : {N : Type 0} (es : List (Entry N)) → length (heads_of es) ≡ length es
+as_long : (es : List SortedName) → length (heads_of es) ≡ length es
 as_long es = length-map es _
 
-module _ {N : Type 0} (es : List (Entry N)) {h : ℕ} where
+module _ (es : List SortedName) {h : ℕ} where
   pub nothing_before : IsBefore (heads_of es) h 0
   nothing_before = record { inside = omega arith; below = λ i l. absurd (omega (arith, l)) }
 
   -- all up to a number below h are below h
-  pub before_more : {k : ℕ} (x : Entry N) → Rise (heads_of es) → k < length es → x ≡ get_or es k x → x.name.head < h → IsBefore (heads_of es) h (k + 1)
+  pub before_more : {k : ℕ} (x : SortedName) → Rise (heads_of es) → k < length es → x ≡ get_or es k x → x.head < h → IsBefore (heads_of es) h (k + 1)
   before_more {k} x rise lt is less = record {
     inside = omega (arith, as_long es);
     below = λ i l. let up = rise i k (omega arith) (omega (arith, as_long es, lt)) in let here = head_read es k x lt is 0 in omega arith;
   }
 
-  pub before_hint : {place : ℕ} (x : Entry N) → Rise (heads_of es) → 0 < place → place ≤ length es → x ≡ get_or es (place - 1) x → x.name.head < h → IsBefore (heads_of es) h place
+  pub before_hint : {place : ℕ} (x : SortedName) → Rise (heads_of es) → 0 < place → place ≤ length es → x ≡ get_or es (place - 1) x → x.head < h → IsBefore (heads_of es) h place
   before_hint {place} x rise some le is less = let at : place - 1 + 1 ≡ place = omega arith in subst (IsBefore _ h) at (before_more x rise (omega arith) is less)
 
-  pub first_here : {place : ℕ} (x : Entry N) → IsBefore (heads_of es) h place → place < length es → x ≡ get_or es place x → h ≤ x.name.head → IsFirst (heads_of es) h place
+  pub first_here : {place : ℕ} (x : SortedName) → IsBefore (heads_of es) h place → place < length es → x ≡ get_or es place x → h ≤ x.head → IsFirst (heads_of es) h place
   first_here {place} x before lt is le = record { before = before; here = λ l. let here = head_read es place x lt is 0 in omega arith }
 
   pub first_nowhere : {place : ℕ} → IsBefore (heads_of es) h place → length es ≤ place → IsFirst (heads_of es) h place
@@ -173,15 +173,15 @@ module _ {N : Type 0} (es : List (Entry N)) {h : ℕ} where
   within_names before = omega (arith, as_long es, before.inside)
 
 -- a bisection of all
-module _ {N : Type 0} (es : List (Entry N)) (h : ℕ) (rise : Rise (heads_of es)) where
-  pub heads_parted : IsPartitionedBy (λ y. nat_lt y.name.head h) es
+module _ (es : List SortedName) (h : ℕ) (rise : Rise (heads_of es)) where
+  pub heads_parted : IsPartitionedBy (λ y. nat_lt y.head h) es
   heads_parted i j d le lt less =
       let lower = head_at_place es i d (omega arith) in
       let upper = head_at_place es j d lt in
       let up = rise i j le (omega (arith, as_long es, lt)) in
       grind (arith, nat_tests)
 
-  pub first_parted : {p : ℕ} → p ≤ length es → IsPartitionPoint (λ y. nat_lt y.name.head h ≡ true) (λ y. nat_lt y.name.head h ≡ false) es p → IsFirst (heads_of es) h p
+  pub first_parted : {p : ℕ} → p ≤ length es → IsPartitionPoint (λ y. nat_lt y.head h ≡ true) (λ y. nat_lt y.head h ≡ false) es p → IsFirst (heads_of es) h p
   first_parted {p} le parted = record {
     before = record { inside = omega (arith, as_long es, le); below = below };
     here = λ l.
@@ -203,7 +203,7 @@ module _ {N : Type 0} (es : List (Entry N)) (h : ℕ) (rise : Rise (heads_of es)
 pub ruleset first_places = (nothing_before, before_more, before_hint, first_here, first_nowhere, within_names)
 
 -- these, as those of the names that are seen
-module _ {N : Type 0} (es : List (Entry N)) (asc : Ascend (names_of es)) where
+module _ (es : List SortedName) (asc : Ascend (names_of es)) where
   pub kept_rise : Rise (heads_of es)
   kept_rise = subst Rise (sym (heads_are es)) (heads_rise es asc)
 
@@ -253,7 +253,7 @@ worth_same (suc k) (a ∷ m) (b ∷ n) g h long few e = by (worth_same k m n g.1
 worth_same k _ _ g h long few e = absurd (omega (arith, long))
 
 -- a name of at most eight bytes stands where one of its length and its first bytes does
-pub short_stands : {N : Type 0} (es : List (Entry N)) (n : Name) (place : ℕ) → place < length (names_of es) → IsUtf8 n
+pub short_stands : (es : List SortedName) (n : Name) (place : ℕ) → place < length (names_of es) → IsUtf8 n
     → length (get_or (names_of es) place []) ≡ length n → length n ≤ 8 → get_or (heads_of es) place 0 ≡ first_bytes n → true ≡ bytes_eq (get_or (names_of es) place []) n
 short_stands es n place inside u long few same = sym ((bytes_eq-Decides here n).1 (worth_same 8 here n bytes (bytes_of_utf8 n u) long (omega (arith, long, few)) worths))
   where

@@ -5,7 +5,6 @@ pub mod Members_met
 pub mod Due
 mod Places
 pub mod Lookups
-mod Joined
 mod Heads
 mod Members_named
 pub mod Merge

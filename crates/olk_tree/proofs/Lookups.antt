@@ -1,4 +1,4 @@
--- What stands zip a name.
+-- What stands beside a name.
 use Rattle.std.proofs.Common.{◌≡◌, ℕ, zero, suc, ◌+◌, ◌<◌, ◌≤◌, length, get_or, Bor, option_copied, Bool, true, false, List, [], ◌∷◌, Option, Some, None, option_map, bytes_eq, refl, ap, ◌∙◌, sym, arith}
 use Rattle.std.specs.Option.{option_and_then, IfSome, MatchOption}
 use Rattle.std.specs.List.{position, slice_get, enumerate_from, HoldsAt, zip}
@@ -16,8 +16,6 @@ use Rattle.std.proofs.lemmas.Slice.Eq.{bytes_eq-Decides}
 use Rattle.olk_spec.specs.Names.{Name, lookup_name, first_if_equal}
 use Rattle.olk_tree.specs.Additional.{placed}
 use Rattle.olk_tree.specs.Maps.{keys_in, nodes_in, placed_entries}
-use Rattle.olk_tree.specs.Entries.{text_of, names_of, nodes_of, entries_are}
-use Rattle.olk_tree.specs.declared.entries.Entry.{Entry}
 
 is_eq-turned : (o : Ordering) → is_eq (ordering_reverse o) ≡ is_eq o
 is_eq-turned Less = refl
@@ -52,7 +50,7 @@ module _ {X : Type 0} where
       → MatchOption o (length slice ≤ i) (λ x. (i < length slice) × HoldsAt (λ y. x.now ≡ y) slice i) → option_copied o ≡ slice_get xs i
   read_in xs slice i o same h m = read_at slice i o h m ∙ ap (λ l. slice_get l i) same
 
-  -- the place of a name leads to what stands zip it
+  -- the place of a name leads to what stands beside it
   pub zip_place : (ks : List Name) (xs : List X) (n : Name) → option_and_then (slice_get xs) (position (λ k. bytes_eq k n) ks) ≡ lookup_name n (zip ks xs)
   zip_place [] xs n = refl
   zip_place (k ∷ ks) [] n = nothing _
@@ -86,59 +84,24 @@ module _ {X : Type 0} where
       with_index None = refl
       with_index (Some x) = refl
 
-pub keys_are : {N : Type 0} (es : List (Entry N)) → names_of es ≡ keys_in (entries_are es)
-keys_are [] = refl
-keys_are (e ∷ es) = ap (λ ks. text_of e ∷ ks) (keys_are es)
+-- what stands beside names has the places of the names
+placed_zip : {N : Type 0} (k : ℕ) (ks : List Name) (xs : List N) → zip (keys_in (zip ks xs)) (enumerate_from k (nodes_in (zip ks xs))) ≡ zip ks (enumerate_from k xs)
+placed_zip k (n ∷ ks) (x ∷ xs) = ap (λ l. (n, (k, x)) ∷ l) (placed_zip (k + 1) ks xs)
+placed_zip k _ _ = refl
 
-nodes_are : {N : Type 0} (es : List (Entry N)) → nodes_of es ≡ nodes_in (entries_are es)
-nodes_are [] = refl
-nodes_are (e ∷ es) = ap (λ ns. e.node ∷ ns) (nodes_are es)
+-- the name that stands at its place
+pub key_read : (ks : List Name) (n : Name) (p : ℕ) → Some p ≡ position (λ k. bytes_eq k n) ks → get_or ks p [] ≡ n
+key_read ks n p e = (bytes_eq-Decides (get_or ks p []) n).0 (position-Some (λ k. bytes_eq k n) ks p [] (sym e)).1
 
--- what stands at the place of a name
-module _ {N : Type 0} (es : List (Entry N)) (n : Name) where
-  module _ (p : ℕ) (d : Entry N) (e : Some p ≡ position (λ k. bytes_eq k n) (names_of es)) where
-    pub inside_entries : p < length es
-    inside_entries = omega (arith, length-map es text_of, (position-Some (λ k. bytes_eq k n) (names_of es) p [] (sym e)).0)
+-- what stands at the place of a name, with the place
+module _ {N : Type 0} (ks : List Name) (xs : List N) (n : Name) where
+  pub found_placed : (p : ℕ) (o : Option (ℕ × N)) → Some p ≡ position (λ k. bytes_eq k n) ks → o ≡ slice_get (placed xs) p → o ≡ lookup_name n (placed_entries (zip ks xs))
+  found_placed p o e is = is ∙ ap (option_and_then (slice_get (placed xs))) e ∙ zip_place ks (placed xs) n ∙ ap (lookup_name n) (sym (placed_zip 0 ks xs))
 
-    abbrev here : N
-    here = (get_or es p d).node
+  pub none_placed : None ≡ position (λ k. bytes_eq k n) ks → None ≡ lookup_name n (placed_entries (zip ks xs))
+  none_placed e = zip_none ks (placed xs) n e ∙ ap (lookup_name n) (sym (placed_zip 0 ks xs))
 
-    node_at : Some here ≡ slice_get (nodes_of es) p
-    node_at = sym (slice_get_read (nodes_of es) (length (nodes_of es)) p here refl (omega (arith, length-map es (λ x. x.node), inside_entries)) (sym (get_or-map (λ x. x.node) es p d here inside_entries)))
-
-    pub node_read : Some here ≡ lookup_name n (entries_are es)
-    node_read = node_at ∙ ap (option_and_then (slice_get (nodes_of es))) e ∙ zip_place (names_of es) (nodes_of es) n
-
-    pub node_placed : Some (p, here) ≡ lookup_name n (placed_entries (entries_are es))
-    node_placed =
-        ap (option_map {U = ℕ × N} (λ x. (p, x))) node_at ∙ sym (numbered_get 0 (nodes_of es) p p (omega arith)) ∙ ap (option_and_then _) e
-        ∙ zip_place (names_of es) (placed (nodes_of es)) n ∙ (λ i. lookup_name n (zip (keys_are es i) (placed (nodes_are es i))))
-
-    pub key_read : text_of (get_or es p d) ≡ n
-    key_read = sym (get_or-map text_of es p d [] inside_entries) ∙ (bytes_eq-Decides (get_or (names_of es) p []) n).0 (position-Some (λ k. bytes_eq k n) (names_of es) p [] (sym e)).1
-
-  module _ (e : None ≡ position (λ k. bytes_eq k n) (names_of es)) where
-    pub no_node : None ≡ lookup_name n (entries_are es)
-    no_node = zip_none (names_of es) (nodes_of es) n e
-
-    pub none_placed : None ≡ lookup_name n (placed_entries (entries_are es))
-    none_placed = zip_none (names_of es) (placed (nodes_of es)) n e ∙ (λ i. lookup_name n (zip (keys_are es i) (placed (nodes_are es i))))
-
--- what stands at a place
 module _ {N : Type 0} where
-  node_gets : (es : List (Entry N)) (p : ℕ) → slice_get (nodes_of es) p ≡ option_map (λ e. e.node) (slice_get es p)
-  node_gets (e ∷ es) (suc p) = node_gets es p
-  node_gets _ _ = refl
-
-  with_node : (o : Option (Bor (Entry N))) → option_map (λ e. e.now.node) o ≡ option_map (λ e. e.node) (option_copied o)
-  with_node None = refl
-  with_node (Some e) = refl
-
-  pub node_in : (es : List (Entry N)) (shown : List (Name × N)) (xs : List N) (p : ℕ) (o : Option (Bor (Entry N))) → entries_are es ≡ shown → nodes_in shown ≡ xs
-      → IfSome o (λ x. x.now ≡ get_or es p x.now) → MatchOption o (length es ≤ p) (λ x. (p < length es) × HoldsAt (λ y. x.now ≡ y) es p) → option_map (λ e. e.now.node) o ≡ slice_get xs p
-  node_in es shown xs p o seen nodes h m =
-      with_node o ∙ ap (option_map (λ e. e.node)) (read_at es p o h m) ∙ sym (node_gets es p) ∙ ap (λ l. slice_get l p) (nodes_are es ∙ ap nodes_in seen ∙ nodes)
-
   pub keys_of_zip : (ks : List Name) (xs : List N) → length ks ≡ length xs → keys_in (zip ks xs) ≡ ks
   keys_of_zip [] xs e = refl
   keys_of_zip (k ∷ ks) [] e = absurd (omega (arith, e))

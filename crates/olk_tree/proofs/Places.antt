@@ -1,5 +1,5 @@
 -- Where a name stands among ascending names.
-use Rattle.std.proofs.Common.{◌≡◌, ℕ, suc, true≢false, ◌<◌, ◌≤◌, Bool, true, false, List, [], ◌∷◌, length, get_or, Some, None, Result, Ok, Err, bytes_eq, refl, ap, sym, subst, ◌∙◌, arith}
+use Rattle.std.proofs.Common.{◌≡◌, ℕ, suc, ◌-◌, true≢false, ◌<◌, ◌≤◌, Bool, true, false, List, [], ◌∷◌, length, get_or, Some, None, Result, Ok, Err, bytes_eq, refl, ap, sym, subst, ◌∙◌, arith}
 use Rattle.std.specs.List.{position, position_or_len}
 use Rattle.std.specs.List.Sorted.{IsBinarySearchResult, IsSearchInRange, IsNonDecreasingBy}
 use Rattle.std.specs.Ordering.{nat_cmp, ordering_index, is_eq, ordering_reverse}
@@ -14,8 +14,8 @@ use Rattle.std.proofs.lemmas.List.Sums.{position_or_len_is}
 use Rattle.std.proofs.lemmas.Map.Text.{is_eq-slice_cmp}
 use Rattle.std.proofs.lemmas.Bool.Decides.{nat_tests}
 use Rattle.olk_spec.specs.Names.{Name}
-use Rattle.olk_tree.specs.declared.entries.Entry.{Entry}
-use Rattle.olk_tree.specs.Entries.{text_of, names_of, entries_are}
+use Rattle.olk_tree.specs.declared.sorted_name.SortedName.{SortedName}
+use Rattle.olk_tree.specs.Sorted.{name_of, names_of}
 use Rattle.olk_tree.specs.Ascending.{Ascend, StandsAt, Parts, IsPlaceOf}
 
 abbrev cmp : Name → Name → Ordering
@@ -45,23 +45,23 @@ differs x n o e f = sym (is_eq-slice_cmp x n) ∙ ap is_eq e ∙ f
 
 -- ---- bisection
 
-pub some_entry : {N : Type 0} (xs : List (Entry N)) (k : ℕ) → k < length xs → Entry N
+pub some_entry : (xs : List SortedName) (k : ℕ) → k < length xs → SortedName
 some_entry [] k lt = absurd (omega arith)
 some_entry (x ∷ xs) k lt = x
 
-module _ {N : Type 0} (es : List (Entry N)) (n : Name) (asc : Ascend (names_of es)) where
-  abbrev ord : Entry N → Ordering
-  ord k = cmp (text_of k) n
+module _ (es : List SortedName) (n : Name) (asc : Ascend (names_of es)) where
+  abbrev ord : SortedName → Ordering
+  ord k = cmp (name_of k) n
 
-  name_at : (i : ℕ) (d : Entry N) → i < length es → get_or (names_of es) i [] ≡ text_of (get_or es i d)
-  name_at i d lt = get_or-map text_of es i d [] lt
+  name_at : (i : ℕ) (d : SortedName) → i < length es → get_or (names_of es) i [] ≡ name_of (get_or es i d)
+  name_at i d lt = get_or-map name_of es i d [] lt
 
   long : length (names_of es) ≡ length es
-  long = length-map es text_of
+  long = length-map es name_of
 
-  pair : (i j : ℕ) (d : Entry N) → i < j → j < length es → cmp (text_of (get_or es i d)) (text_of (get_or es j d)) ≡ Less
+  pair : (i j : ℕ) (d : SortedName) → i < j → j < length es → cmp (name_of (get_or es i d)) (name_of (get_or es j d)) ≡ Less
   pair i j d lt in_range =
-      subst (λ x. cmp x (text_of (get_or es j d)) ≡ Less) (name_at i d (omega arith))
+      subst (λ x. cmp x (name_of (get_or es j d)) ≡ Less) (name_at i d (omega arith))
       (subst (λ y. cmp (get_or (names_of es) i []) y ≡ Less) (name_at j d in_range) (asc i j lt (omega (arith, long))))
 
   comparisons_rise : IsNonDecreasingBy (λ y. ordering_index (ord y)) es
@@ -71,7 +71,7 @@ module _ {N : Type 0} (es : List (Entry N)) (n : Name) (asc : Ascend (names_of e
       by true e = rises _ _ n (pair i j d (grind (arith, nat_tests)) lt)
       by false e = let same : i ≡ j = grind (arith, nat_tests) in let f = ap (λ z. ordering_index (ord (get_or es z d))) same in omega arith
 
-  at : (k : ℕ) (d : Entry N) (o : Ordering) → k < length es → ord (get_or es k d) ≡ o → cmp (get_or (names_of es) k []) n ≡ o
+  at : (k : ℕ) (d : SortedName) (o : Ordering) → k < length es → ord (get_or es k d) ≡ o → cmp (get_or (names_of es) k []) n ≡ o
   at k d o lt e = ap (λ x. cmp x n) (name_at k d lt) ∙ e
 
   pub searched : (r : Result ℕ ℕ) → IsSearchInRange r (length es) → IsBinarySearchResult ord es r → IsPlaceOf (names_of es) n r
@@ -110,6 +110,21 @@ module _ (ks : List Name) (n : Name) where
         some : p < length ks → position_or_len test ks ≡ p → Some p ≡ position test ks
         some lt e = grind (arith, nat_tests)
 
+    -- between two neighbours
+    pub parted_none : {p : ℕ} → 0 < p → p < length ks → cmp (get_or ks (p - 1) []) n ≡ Less → cmp (get_or ks p []) n ≡ Greater → None ≡ position test ks
+    parted_none {p} some inside less greater = parts_none record { inside = omega (arith, inside); below = λ i l m. below i l (nat_lt i (p - 1)) refl; above = λ i l m. above i l m (nat_lt p i) refl }
+      where
+        here : Name
+        here = get_or ks p []
+
+        below : (i : ℕ) → i < p → (b : Bool) → nat_lt i (p - 1) ≡ b → cmp (get_or ks i []) n ≡ Less
+        below i l true e = nat_list_cmp_total.trans (get_or ks i []) (get_or ks (p - 1) []) n (asc i (p - 1) (grind (arith, nat_tests)) (omega (arith, inside))) less
+        below i l false e = let same : p - 1 ≡ i = grind (arith, nat_tests) in subst (λ k. cmp (get_or ks k []) n ≡ Less) same less
+
+        above : (i : ℕ) → p ≤ i → i < length ks → (b : Bool) → nat_lt p i ≡ b → cmp (get_or ks i []) n ≡ Greater
+        above i l m true e = turned (get_or ks i []) n ∙ ap ordering_reverse (nat_list_cmp_total.trans n here (get_or ks i []) (turned n here ∙ ap ordering_reverse greater) (asc p i (grind (arith, nat_tests)) m))
+        above i l m false e = let same : p ≡ i = grind (arith, nat_tests) in subst (λ k. cmp (get_or ks k []) n ≡ Greater) same greater
+
     pub place_told : (r : Result ℕ ℕ) → IsPlaceOf ks n r → result_ok r ≡ position test ks
     place_told (Ok p) h = stands_some h
     place_told (Err p) h = parts_none h
@@ -123,19 +138,15 @@ module _ (ks : List Name) (n : Name) where
 
 -- ---- entries whose names ascend
 
-module _ {N : Type 0} (es : List (Entry N)) where
+module _ (es : List SortedName) where
   pub as_many_names : length (names_of es) ≡ length es
-  as_many_names = length-map es text_of
+  as_many_names = length-map es name_of
 
-  pub text_at : (p : ℕ) (d : Entry N) (t : Name) → t ≡ text_of (get_or es p d) → p < length es → t ≡ get_or (names_of es) p []
-  text_at p d t text lt = text ∙ sym (get_or-map text_of es p d [] lt)
+  pub text_at : (p : ℕ) (d : SortedName) (t : Name) → t ≡ name_of (get_or es p d) → p < length es → t ≡ get_or (names_of es) p []
+  text_at p d t text lt = text ∙ sym (get_or-map name_of es p d [] lt)
 
-  pub seen_at : (p : ℕ) (d : Entry N) (t n : Name) → t ≡ text_of (get_or es p d) → p < length es → bytes_eq t n ≡ bytes_eq (get_or (names_of es) p []) n
+  pub seen_at : (p : ℕ) (d : SortedName) (t n : Name) → t ≡ name_of (get_or es p d) → p < length es → bytes_eq t n ≡ bytes_eq (get_or (names_of es) p []) n
   seen_at p d t n text lt = ap (λ k. bytes_eq k n) (text_at p d t text lt)
 
-  pub equal_at : {b : Bool} (p : ℕ) (d : Entry N) (t n : Name) → t ≡ text_of (get_or es p d) → p < length es → b ≡ bytes_eq t n → b ≡ bytes_eq (get_or (names_of es) p []) n
+  pub equal_at : {b : Bool} (p : ℕ) (d : SortedName) (t n : Name) → t ≡ name_of (get_or es p d) → p < length es → b ≡ bytes_eq t n → b ≡ bytes_eq (get_or (names_of es) p []) n
   equal_at p d t n text lt e = e ∙ seen_at p d t n text lt
-
-pub as_many_entries : {N : Type 0} (es : List (Entry N)) → length (entries_are es) ≡ length es
-as_many_entries [] = refl
-as_many_entries (e ∷ es) = ap suc (as_many_entries es)

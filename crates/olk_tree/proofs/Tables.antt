@@ -2,12 +2,10 @@
 use Rattle.std.proofs.Common.{◌≡◌, ℕ, ◌+◌, ◌*◌, ◌<◌, ◌≤◌, Bool, true, false, cond, List, [], ◌∷◌, ◌++◌, length, get_or, take, map, Option, Some, None, Result, Ok, Err, ap, sym, subst, ◌∙◌, inl, inr, arith, subst₂}
 use Rattle.std.specs.Prelude.{◌≢◌, slice_get, IsSomeAnd, OnErr}
 use Rattle.std.specs.List.{AllZip, filter_map, cons_option, range_with_len, zip}
-use Rattle.olk_tree.specs.Maps.{keys_in, nodes_in}
-use Rattle.olk_tree.proofs.Lookups.{keys_of_zip, nodes_of_zip}
 use Rattle.std.specs.Option.{option_map_or}
 use Rattle.std.proofs.lemmas.Bool.{cases_eq}
 use Rattle.std.proofs.lemmas.Option.{MatchOption-at_some, same_Some, slice_get_within, slice_get-get_or, slice_get_past}
-use Rattle.std.proofs.lemmas.List.{take_more, append-nil, map-id, map-append}
+use Rattle.std.proofs.lemmas.List.{take_more, append-nil, get_or-map, length-map, map-id, map-append}
 use Rattle.std.proofs.lemmas.List.Sums.{count_by_more_yes, count_by_more_no}
 use Rattle.std.proofs.lemmas.List.Elements.{filter_map-append}
 use Rattle.std.proofs.lemmas.List.FromFn.{map-range_with_len_more}
@@ -23,7 +21,7 @@ use Rattle.olk_base.proofs.CountLemmas.{raised_by_none, raised_by_sum, count_ask
 use Rattle.olk_tree.specs.declared.sorted_name.SortedName.{SortedName}
 use Rattle.olk_tree.specs.declared.pattern_table.PatternIndex.{PatternIndex}
 use Rattle.olk_tree.specs.Sorted.{name_of}
-use Rattle.olk_tree.specs.Tables.{Row, row_says, HasWord, Table, table_says, index_said, indices_below, IsRowOf, IsTableOf, how_many_cost, count_asks, AsksAtMost}
+use Rattle.olk_tree.specs.Tables.{patterns_of, Row, row_says, HasWord, Table, table_says, index_said, indices_below, IsRowOf, IsTableOf, how_many_cost, count_asks, AsksAtMost}
 
 -- ---- how asks add up
 
@@ -60,6 +58,15 @@ module _ (says : ℕ → Says) (k : ℕ) where
 
   pub index_untold : None ≡ index_said k (says k) → indices_below says k ≡ indices_below says (k + 1)
   index_untold e = sym (append-nil (indices_below says k)) ∙ ap (λ o. indices_below says k ++ cons_option o []) e ∙ sym one_index_more
+
+-- ---- patterns that have nodes beside them
+
+module _ {R N : Type 0} (es : List (CompiledPattern R × N)) where
+  pub as_many_patterns : length (patterns_of es) ≡ length es
+  as_many_patterns = length-map es (λ e. e.0)
+
+  pub pattern_here : (k : ℕ) (e : CompiledPattern R × N) → k < length es → e ≡ get_or es k e → e.0 ≡ get_or (patterns_of es) k e.0
+  pattern_here k e lt is = ap (λ x. x.0) is ∙ sym (get_or-map (λ x. x.0) es k e e.0 lt)
 
 -- ---- a row, pattern by pattern
 
@@ -126,19 +133,6 @@ module _ {R : Type 0} (answers : R → Name → Says) (patterns : List (Compiled
 
   pub nothing_else : (p i : ℕ) → length t.names ≤ p → table_says t p i ≡ unfinished
   nothing_else p i le = ap (λ o. option_map_or (λ r. row_says r i) o unfinished) (slice_get_past t.rows p (omega (arith, AllZip-long (IsRowOf answers patterns) t.names t.rows rows)))
-
--- ---- names and rows, joined
-
-module _ {R : Type 0} (answers : R → Name → Says) (patterns : List (CompiledPattern R)) (names : List Name) (rows : List Row) {entries : List (Name × Row)} (joined : entries ≡ zip names rows)
-    (all : AllZip (IsRowOf answers patterns) names rows) where
-  as_many_rows : length names ≡ length rows
-  as_many_rows = omega (arith, AllZip-long (IsRowOf answers patterns) names rows all)
-
-  pub names_joined : keys_in entries ≡ names
-  names_joined = ap keys_in joined ∙ keys_of_zip names rows as_many_rows
-
-  pub rows_joined : AllZip (IsRowOf answers patterns) (keys_in entries) (nodes_in entries)
-  rows_joined = subst₂ (AllZip (IsRowOf answers patterns)) (sym names_joined) (sym (ap nodes_in joined ∙ nodes_of_zip names rows as_many_rows)) all
 
 -- a row more, of the next name
 pub row_told : {R : Type 0} (answers : R → Name → Says) (patterns : List (CompiledPattern R)) (names : List SortedName) (k : ℕ) (name : SortedName)

@@ -1,6 +1,9 @@
 -- What is left of a walk over the members whose names are declared.
-use Rattle.std.proofs.Common.{◌≡◌, Bool, true, false, cond, List, [], ◌∷◌, ◌++◌, Option, Some, None, option_to_list, String, Global, string_bytes, string_cmp, refl, sym, ap, subst, ◌∙◌}
+use Rattle.std.proofs.Common.{◌≡◌, ℕ, zero, suc, ◌<◌, length, get_or, arith, Bool, true, false, cond, List, [], ◌∷◌, ◌++◌, Option, Some, None, option_to_list, String, Global, string_bytes, string_cmp, refl, sym, ap, subst, ◌∙◌}
 use Rattle.std.specs.List.{flat_map, zip}
+use Rattle.std.specs.Ordering.{nat_cmp}
+use Rattle.std.specs.Cmp.Lexicographic.{slice_cmp}
+use Rattle.std.specs.declared.cmp.Ordering.TheVariants.{Less}
 use Rattle.serde_json.specs.Data.{Data}
 use Rattle.serde_json.specs.View.{view, members_view}
 use Rattle.serde_json.specs.declared.value.Value.{Value}
@@ -8,8 +11,6 @@ use Rattle.olk_spec.specs.Names.{Name, lookup_name}
 use Rattle.olk_spec.specs.Schemas.{listed}
 use Rattle.std.specs.List.Sorted.{IsStrictlySortedBy}
 use Rattle.std.specs.Map.{keys_of}
-use Rattle.olk_tree.specs.declared.entries.Entry.{Entry}
-use Rattle.olk_tree.specs.Entries.{text_of, entries_are}
 use Rattle.olk_tree.specs.Ascending.{Ascend}
 use Rattle.olk_tree.specs.Maps.{keys_in, nodes_in}
 use Rattle.olk_tree.proofs.Merge.{Rising, in_step, ascending_rising, sorted_rising}
@@ -51,13 +52,6 @@ module _ {N : Type 0} where
     pub name_passed : None ≡ lookup_name n ms → names_met es ms ≡ names_met rest ms
     name_passed at = ap (λ l. names_met l ms) next ∙ ap (λ p. flat_map (λ w. declared_as n x w) (option_to_list p) ++ names_met rest ms) (sym at)
 
-  -- the entries that are left, where the next is taken
-  pub entries_more : (left rest : List (Entry N)) (e : Entry N) → left ≡ e ∷ rest → (n : Name) → n ≡ text_of e → entries_are left ≡ (n, e.node) ∷ entries_are rest
-  entries_more left rest e steps n name = ap entries_are steps ∙ ap (λ m. (m, e.node) ∷ entries_are rest) (sym name)
-
-  pub no_name_left : (ms : Rows) (left : List (Entry N)) → left ≡ [] → names_met (entries_are left) ms ≡ []
-  no_name_left ms left none = ap (λ es. names_met (entries_are es) ms) none
-
   -- whichever side is walked
   pub either_side : (b : Bool) (x y z : List (Declared N)) → x ≡ z → y ≡ z → cond b x y ≡ z
   either_side true x y z e f = e
@@ -70,6 +64,22 @@ module _ {N : Type 0} where
 
   pub keys_rising : (es : List (Name × N)) → Ascend (keys_in es) → Rising es
   keys_rising es ascend = subst Rising (zip_parts es) (ascending_rising _ _ ascend)
+
+  key_kept : (ks : List Name) (xs : List N) (i : ℕ) → i < length (keys_in (zip ks xs)) → get_or (keys_in (zip ks xs)) i [] ≡ get_or ks i []
+  key_kept (k ∷ ks) [] i lt = absurd (omega arith)
+  key_kept (k ∷ ks) (x ∷ xs) (suc i) lt = key_kept ks xs i (omega arith)
+  key_kept _ _ _ lt = refl
+
+  no_longer : (ks : List Name) (xs : List N) (i : ℕ) → i < length (keys_in (zip ks xs)) → i < length ks
+  no_longer (k ∷ ks) (x ∷ xs) zero lt = omega arith
+  no_longer (k ∷ ks) (x ∷ xs) (suc i) lt = let l = no_longer ks xs i (omega arith) in omega arith
+  no_longer _ _ i lt = absurd (omega arith)
+
+  -- names that ascend do so where things stand beside them
+  pub keys_ascend : (ks : List Name) (xs : List N) → Ascend ks → Ascend (keys_in (zip ks xs))
+  keys_ascend ks xs asc i j lt l =
+      subst (λ k. slice_cmp nat_cmp k (get_or (keys_in (zip ks xs)) j []) ≡ Less) (sym (key_kept ks xs i (omega arith)))
+      (subst (λ k. slice_cmp nat_cmp (get_or ks i []) k ≡ Less) (sym (key_kept ks xs j l)) (asc i j lt (no_longer ks xs j l)))
 
   pub walks_agree : (declared : List (Name × N)) (es : List (String Global × Value)) → Ascend (keys_in declared) → IsStrictlySortedBy string_cmp (keys_of es)
       → names_met declared (listed (members_view es)) ≡ members_declared declared (listed (members_view es))

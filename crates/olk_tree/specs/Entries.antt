@@ -1,22 +1,16 @@
--- Names in order, and what stands at each, as they are kept.
-use Rattle.std.specs.Prelude.{ℕ, List, map}
+-- Names in order, and what stands at each, as maps lend them.
+use Rattle.std.specs.Prelude.{◌≡◌, ℕ, List, [], ◌∷◌, map, Option, MatchOption}
+use denote.Ref.{Bor}
 use Rattle.std.specs.List.{zip}
 use Rattle.olk_spec.specs.Names.{Name}
-use Rattle.olk_tree.specs.Sorted.{name_of}
-use Rattle.olk_tree.specs.declared.entries.Entry.{Entry}
+use Rattle.olk_tree.specs.Sorted.{names_of}
+use Rattle.olk_tree.specs.declared.entries.EachEntry.{EachEntry}
 
 module _ {N : Type 0} where
-  abbrev pub text_of : Entry N → Name
-  text_of e = name_of e.name
+  -- what is left of a walk over the entries
+  abbrev pub each_left : EachEntry N → List (Name × N)
+  each_left w = zip (names_of w.names.rest.now) w.nodes.rest.now
 
-  abbrev pub names_of : List (Entry N) → List Name
-  names_of es = map text_of es
-
-  abbrev pub heads_of : List (Entry N) → List ℕ
-  heads_of es = map (λ e. e.name.head) es
-
-  abbrev pub nodes_of : List (Entry N) → List N
-  nodes_of es = map (λ e. e.node) es
-
-  abbrev pub entries_are : List (Entry N) → List (Name × N)
-  entries_are es = zip (names_of es) (nodes_of es)
+  -- a call yields the first of what is left, or nothing where nothing is left
+  abbrev pub NextEntry : Option (Bor (List ℕ) × Bor N) → List (Name × N) → List (Name × N) → Type 0
+  NextEntry r old new = MatchOption r (old ≡ []) (λ m. old ≡ (m.0.now, m.1.now) ∷ new)

@@ -8,6 +8,8 @@ use Rattle.olk_spec.specs.World.{Says, matched, unmatched, unfinished}
 use Rattle.olk_spec.specs.declared.TheConstants.{HASHMAP_THRESHOLD}
 use Rattle.olk_base.specs.Compiled.{pattern_answers}
 use Rattle.olk_base.specs.declared.pattern.CompiledPattern.{CompiledPattern}
+use Rattle.std.specs.declared.alloc.Global.{Global}
+use Rattle.std.specs.declared.vec.Vec.{Vec}
 use Rattle.olk_tree.specs.Maps.{keys_in, mapped}
 use Rattle.olk_tree.specs.Tables.{Table, table_says}
 use Rattle.olk_tree.specs.declared.properties_map.PropertiesMap.{PropertiesMap}
@@ -17,10 +19,14 @@ use Rattle.olk_tree.specs.declared.properties_map.PropertiesMap.TheVariants.{Sma
 abbrev pub is_one : {X : Type 0} → List X → Bool
 is_one xs = length xs == 1
 
+-- there are as many nodes as names
+abbrev pub is_paired : {N : Type 0} → List Name → Vec N Global → Bool
+is_paired ks xs = length ks == length xs.items
+
 -- few names stand in a small map, and many in a big one
 abbrev pub is_map_formed : {N : Type 0} → PropertiesMap N → Bool
-is_map_formed (Small m) = nat_lt (length m.entries) HASHMAP_THRESHOLD
-is_map_formed (Big m) = not (nat_lt (length m.entries) HASHMAP_THRESHOLD)
+is_map_formed (Small m) = nat_lt (length m.names) HASHMAP_THRESHOLD && is_paired m.names m.nodes
+is_map_formed (Big m) = not (nat_lt (length m.names) HASHMAP_THRESHOLD) && is_paired m.names m.nodes
 
 -- the names that are declared, if any are
 abbrev pub names_beside : {N : Type 0} → Option (PropertiesMap N) → List Name

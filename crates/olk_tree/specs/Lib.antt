@@ -12,7 +12,6 @@ pub mod Emptiness
 pub mod Entries
 pub mod Firsts
 pub mod Formed
-pub mod formers
 pub mod Holdings
 pub mod If
 pub mod Leaf

@@ -3,17 +3,21 @@ use Rattle.std.specs.Prelude.{ℕ, List, [], ◌∷◌, map, String, string_byte
 use Rattle.std.specs.declared.alloc.Global.{Global}
 use Rattle.std.specs.List.{zip, enumerate_from}
 use Rattle.olk_spec.specs.Names.{Name, Text}
+use Rattle.olk_tree.specs.declared.big_map.BigMap.{BigMap}
 use Rattle.olk_tree.specs.declared.map.SmallMap.{SmallMap}
 use Rattle.olk_tree.specs.declared.properties_map.PropertiesMap.{PropertiesMap}
 use Rattle.olk_tree.specs.declared.properties_map.PropertiesMap.TheVariants.{Small, Big}
 
 abbrev pub named : {N : Type 0} → SmallMap N → List (Name × N)
-named m = m.entries
+named m = zip m.names m.nodes.items
+
+abbrev pub named_of_many : {N : Type 0} → BigMap N → List (Name × N)
+named_of_many m = zip m.names m.nodes.items
 
 -- what a map of few names or of many has
 abbrev pub mapped : {N : Type 0} → PropertiesMap N → List (Name × N)
-mapped (Small m) = m.entries
-mapped (Big m) = m.entries
+mapped (Small m) = named m
+mapped (Big m) = named_of_many m
 
 -- the names, and what stands at them
 abbrev pub keys_in : {N : Type 0} → List (Name × N) → List Name

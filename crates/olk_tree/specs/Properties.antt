@@ -15,9 +15,11 @@ use Rattle.olk_tree.specs.Formed.{is_map_formed}
 use Rattle.olk_tree.specs.Maps.{named, nodes_in, mapped, two_texts}
 use Rattle.olk_tree.specs.Questions.{Question, always, both, every}
 use Rattle.olk_tree.specs.Shown.{properties_tree, missing_trees}
-use Rattle.olk_tree.specs.declared.properties.Properties.{Properties}
+use Rattle.olk_tree.specs.declared.properties.SmallProperties.{SmallProperties}
+use Rattle.olk_tree.specs.declared.properties.BigProperties.{BigProperties}
 use Rattle.olk_tree.specs.declared.properties.SmallPropertiesWithRequired2.{SmallPropertiesWithRequired2}
-use Rattle.olk_tree.specs.declared.properties_map.PropertiesMap.TheVariants.{Small}
+use Rattle.olk_tree.specs.declared.properties_map.PropertiesMap.{PropertiesMap}
+use Rattle.olk_tree.specs.declared.properties_map.PropertiesMap.TheVariants.{Small, Big}
 
 -- each declared name that is a member, with its node
 abbrev pub properties_mean : {N : Type 0} → Meanings N → List (Name × N) → Data → Question
@@ -39,17 +41,23 @@ module _ {N : Type 0} (m : Meanings N) (r : Findings N) (u : Bool) (h : Agree m 
   properties_first_agrees es v Q = first_of_agrees (λ e. first_of (λ x. r e.1 u x (Q // e.0)) (at e.0 v)) (λ e. every (m e.1) (at e.0 v)) u (λ e. first_of_agrees (λ x. r e.1 u x (Q // e.0)) (m e.1) u (λ x. h e.1 x (Q // e.0)) (at e.0 v)) es
 
 module _ {N : Type 0} where
-  abbrev pub properties_answers : Properties N → AnswersOver N
-  properties_answers k = record {
-    means = λ m v. properties_mean m (mapped k.properties) v;
-    report = λ m r u v Q. properties_report r u (mapped k.properties) v Q;
-    agrees = λ m r u h v Q. properties_agree m r u h (mapped k.properties) v Q;
-    first = λ m r s u v Q. properties_first s u (mapped k.properties) v Q;
-    first_agrees = λ m r s u h v Q. properties_first_agrees m s u h (mapped k.properties) v Q;
-    tree = λ m t u v Q. properties_tree (λ n. t n u) v Q k.location (mapped k.properties) [];
-    location = k.location;
-    formed = λ f. is_map_formed k.properties && list_all f (nodes_in (mapped k.properties));
+  abbrev pub properties_answers : PropertiesMap N → Path → AnswersOver N
+  properties_answers declared P = record {
+    means = λ m v. properties_mean m (mapped declared) v;
+    report = λ m r u v Q. properties_report r u (mapped declared) v Q;
+    agrees = λ m r u h v Q. properties_agree m r u h (mapped declared) v Q;
+    first = λ m r s u v Q. properties_first s u (mapped declared) v Q;
+    first_agrees = λ m r s u h v Q. properties_first_agrees m s u h (mapped declared) v Q;
+    tree = λ m t u v Q. properties_tree (λ n. t n u) v Q P (mapped declared) [];
+    location = P;
+    formed = λ f. is_map_formed declared && list_all f (nodes_in (mapped declared));
   }
+
+  abbrev pub small_properties_answers : SmallProperties N → AnswersOver N
+  small_properties_answers k = properties_answers (Small k.properties) k.location
+
+  abbrev pub big_properties_answers : BigProperties N → AnswersOver N
+  big_properties_answers k = properties_answers (Big k.properties) k.location
 
   -- the names that are missing, and behind them what `properties` finds
   abbrev pub properties_with_required2_answers : SmallPropertiesWithRequired2 N → AnswersOver N

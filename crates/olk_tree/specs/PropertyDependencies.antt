@@ -1,11 +1,12 @@
 -- `propertyDependencies`: what its validator answers.
-use Rattle.std.specs.Prelude.{List, option_to_list}
+use Rattle.std.specs.Prelude.{◌&&◌, List, option_to_list}
 use Rattle.std.specs.List.{flat_map, list_all}
 use Rattle.serde_json.specs.Data.{Data}
 use Rattle.olk_spec.specs.Names.{Name, lookup_name}
 use Rattle.olk_spec.specs.Schemas.{at, as_text}
 use Rattle.olk_tree.specs.Answers.{AnswersOver}
 use Rattle.olk_tree.specs.Each.{each_answers}
+use Rattle.olk_tree.specs.Formed.{is_paired}
 use Rattle.olk_tree.specs.Maps.{named, nodes_in}
 use Rattle.olk_tree.specs.declared.map.SmallMap.{SmallMap}
 use Rattle.olk_tree.specs.declared.property_dependencies.PropertyDependencies.{PropertyDependencies}
@@ -19,4 +20,5 @@ abbrev pub chosen_nodes : {N : Type 0} → List (Name × SmallMap N) → Data �
 chosen_nodes es v = flat_map (λ e. flat_map (chosen_at e.1) (at e.0 v)) es
 
 abbrev pub property_dependencies_answers : {N : Type 0} → PropertyDependencies N → AnswersOver N
-property_dependencies_answers k = each_answers (chosen_nodes (named k.dependencies)) k.location (λ f. list_all (λ m. list_all f (nodes_in m.entries)) (nodes_in k.dependencies.entries))
+property_dependencies_answers k = each_answers (chosen_nodes (named k.dependencies)) k.location
+    (λ f. is_paired k.dependencies.names k.dependencies.nodes && list_all (λ m. is_paired m.names m.nodes && list_all f (nodes_in (named m))) (nodes_in (named k.dependencies)))

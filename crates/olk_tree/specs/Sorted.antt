@@ -6,5 +6,8 @@ use Rattle.olk_tree.specs.declared.sorted_name.SortedName.{SortedName}
 abbrev pub name_of : SortedName → Name
 name_of n = string_bytes n.text
 
+abbrev pub names_of : List SortedName → List Name
+names_of ns = map name_of ns
+
 abbrev pub heads_of : List SortedName → List ℕ
 heads_of ns = map (λ n. n.head) ns

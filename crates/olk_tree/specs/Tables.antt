@@ -1,5 +1,5 @@
 -- What patterns say of the names of a table, kept in the bits of words.
-use Rattle.std.specs.Prelude.{◌≡◌, ℕ, ◌/◌, ◌%◌, ◌<◌, ◌≤◌, ◌==◌, ◌&&◌, nat_lt, Bool, true, false, List, [], get_or, length, Option, Some, None, bytes_eq, count_by, slice_get}
+use Rattle.std.specs.Prelude.{◌≡◌, ℕ, ◌/◌, ◌%◌, ◌<◌, ◌≤◌, ◌==◌, ◌&&◌, nat_lt, Bool, true, false, List, [], map, get_or, length, Option, Some, None, bytes_eq, count_by, slice_get}
 use Rattle.std.specs.Int.{bit_at}
 use Rattle.std.specs.List.{position, filter_map, range_with_len, list_all}
 use Rattle.std.specs.Option.{option_map_or}
@@ -9,6 +9,10 @@ use Rattle.olk_base.specs.Count.{Counts, no_counts, raised_by}
 use Rattle.olk_base.specs.Compiled.{pattern_answers, pattern_costs}
 use Rattle.olk_base.specs.declared.pattern.CompiledPattern.{CompiledPattern}
 use Rattle.olk_tree.specs.declared.pattern_table.PatternIndex.{PatternIndex}
+
+-- those of patterns that have nodes beside them
+abbrev pub patterns_of : {R N : Type 0} → List (CompiledPattern R × N) → List (CompiledPattern R)
+patterns_of es = map (λ e. e.0) es
 
 -- ---- bits
 

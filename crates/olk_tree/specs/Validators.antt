@@ -9,14 +9,14 @@ use Rattle.olk_tree.specs.AdditionalProperties.{additional_properties_answers}
 use Rattle.olk_tree.specs.AllOf.{all_of_answers, single_all_of_answers}
 use Rattle.olk_tree.specs.Answers.{AnswersOver, Meanings, Findings, Showings, alone}
 use Rattle.olk_tree.specs.AnyOf.{any_of_answers, single_any_of_answers}
-use Rattle.olk_tree.specs.Dependencies.{dependencies_answers}
+use Rattle.olk_tree.specs.Dependencies.{dependencies_answers, dependent_required_answers, dependent_schemas_answers}
 use Rattle.olk_tree.specs.Holdings.{held}
 use Rattle.olk_tree.specs.If.{if_then_answers, if_else_answers, if_then_else_answers}
 use Rattle.olk_tree.specs.Leaf.{leaf_answers}
 use Rattle.olk_tree.specs.Not.{not_answers}
 use Rattle.olk_tree.specs.OneOf.{one_of_answers, single_one_of_answers}
 use Rattle.olk_tree.specs.PatternProperties.{pattern_properties_answers, single_pattern_properties_answers}
-use Rattle.olk_tree.specs.Properties.{properties_answers, properties_with_required2_answers}
+use Rattle.olk_tree.specs.Properties.{small_properties_answers, big_properties_answers, properties_with_required2_answers}
 use Rattle.olk_tree.specs.PropertyDependencies.{property_dependencies_answers}
 use Rattle.olk_tree.specs.PropertyNames.{property_names_answers, property_names_false_answers}
 use Rattle.olk_tree.specs.Questions.{Question}
@@ -26,7 +26,8 @@ use Rattle.olk_tree.specs.declared.node.KeywordOver.TheVariants as keyword
 
 module _ {K R N : Type 0} (o : Kit K R) where
   unfoldable pub answers_of : KeywordOver K R N → AnswersOver N
-  answers_of (keyword.Properties k) = properties_answers k
+  answers_of (keyword.SmallProperties k) = small_properties_answers k
+  answers_of (keyword.BigProperties k) = big_properties_answers k
   answers_of (keyword.PropertiesWithRequired2 k) = properties_with_required2_answers k.value
   answers_of (keyword.Required k) = alone (required_answers k)
   answers_of (keyword.AllOf k) = all_of_answers k
@@ -40,6 +41,8 @@ module _ {K R N : Type 0} (o : Kit K R) where
   answers_of (keyword.IfElse k) = if_else_answers k.value
   answers_of (keyword.IfThenElse k) = if_then_else_answers k.value
   answers_of (keyword.Dependencies k) = dependencies_answers k
+  answers_of (keyword.DependentRequired k) = dependent_required_answers k
+  answers_of (keyword.DependentSchemas k) = dependent_schemas_answers k
   answers_of (keyword.PropertyNames k) = property_names_answers k
   answers_of (keyword.PropertyNamesFalse k) = alone (property_names_false_answers k)
   answers_of (keyword.PropertyDependencies k) = property_dependencies_answers k

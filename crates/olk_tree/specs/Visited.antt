@@ -9,7 +9,7 @@ use Rattle.olk_spec.specs.Names.{Name, lookup_name}
 use Rattle.olk_spec.specs.Schemas.{listed}
 use Rattle.std.specs.declared.alloc.Global.{Global}
 use Rattle.olk_tree.specs.declared.declared.DeclaredMembers.{DeclaredMembers}
-use Rattle.olk_tree.specs.Entries.{entries_are}
+use Rattle.olk_tree.specs.Entries.{each_left}
 
 -- the value that has these members
 abbrev pub object_of : List (String Global × Value) → Data
@@ -42,4 +42,4 @@ module _ {N : Type 0} where
 
 -- what is left of a walk over the declared members
 abbrev pub left_of : {N : Type 0} → DeclaredMembers N → List (Declared N)
-left_of w = cond w.by_members (members_declared w.entries.now (listed (members_view w.left))) (names_met (entries_are w.unasked.rest.now) (listed (members_view w.members.now.entries)))
+left_of w = cond w.by_members (members_declared w.entries (listed (members_view w.left))) (names_met (each_left w.unasked) (listed (members_view w.members.now.entries)))

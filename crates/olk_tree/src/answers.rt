@@ -5,13 +5,13 @@ ghost use Rattle.olk_tree.specs.AdditionalProperties.{additional_properties_answ
 ghost use Rattle.olk_tree.specs.AllOf.{all_of_answers, single_all_of_answers};
 ghost use Rattle.olk_tree.specs.AnyOf.{any_of_answers, single_any_of_answers};
 ghost use Rattle.olk_tree.specs.Bodies.{body_means};
-ghost use Rattle.olk_tree.specs.Dependencies.{dependencies_answers};
+ghost use Rattle.olk_tree.specs.Dependencies.{dependencies_answers, dependent_required_answers, dependent_schemas_answers};
 ghost use Rattle.olk_tree.specs.Holdings.{held, false_holds, schema_holds, not_empty_holds, not_empty_false_holds, with_required1_holds, with_patterns_holds, with_patterns_false_holds, with_both_holds, with_both_false_holds};
 ghost use Rattle.olk_tree.specs.If.{if_then_answers, if_else_answers, if_then_else_answers};
 ghost use Rattle.olk_tree.specs.Not.{not_answers, not_report, not_agrees};
 ghost use Rattle.olk_tree.specs.OneOf.{one_of_answers, single_one_of_answers};
 ghost use Rattle.olk_tree.specs.PatternProperties.{pattern_properties_answers, single_pattern_properties_answers};
-ghost use Rattle.olk_tree.specs.Properties.{properties_answers, properties_with_required2_answers};
+ghost use Rattle.olk_tree.specs.Properties.{small_properties_answers, big_properties_answers, properties_with_required2_answers};
 ghost use Rattle.olk_tree.specs.PropertyDependencies.{property_dependencies_answers};
 ghost use Rattle.olk_tree.specs.PropertyNames.{property_names_answers, property_names_false_answers};
 ghost use Rattle.olk_tree.specs.Required.{required_answers};
@@ -26,32 +26,48 @@ use crate::additional_properties::{
 };
 use crate::all_of::{AllOf, SingleValueAllOf};
 use crate::any_of::{AnyOf, SingleAnyOf};
-use crate::dependencies::Dependencies;
+use crate::dependencies::{Dependencies, DependentRequired, DependentSchemas};
 use crate::if_::{IfElse, IfThen, IfThenElse};
 use crate::means::{Means, Reports};
 use crate::node::{Body, KeywordOver};
 use crate::not::Not;
 use crate::one_of::{OneOf, SingleOneOf};
 use crate::pattern_properties::{PatternProperties, SingleValuePatternProperties};
-use crate::properties::{Properties, SmallPropertiesWithRequired2};
+use crate::properties::{BigProperties, SmallProperties, SmallPropertiesWithRequired2};
 use crate::property_dependencies::PropertyDependencies;
 use crate::property_names::{PropertyNames, PropertyNamesFalse};
 use crate::required::RequiredValidator;
 use olk_base::{Leaf, RegexEngine};
 
-impl<N: Means> Means for Properties<N> {
-    ghost means = { λ k. (properties_answers k).means N.means };
+impl<N: Means> Means for SmallProperties<N> {
+    ghost means = { λ k. (small_properties_answers k).means N.means };
 }
 
-impl<N: Reports> Reports for Properties<N> {
-    ghost report = { λ k. (properties_answers k).report N.means N.report };
+impl<N: Reports> Reports for SmallProperties<N> {
+    ghost report = { λ k. (small_properties_answers k).report N.means N.report };
 
-    ghost first = { λ k. (properties_answers k).first N.means N.report N.first };
+    ghost first = { λ k. (small_properties_answers k).first N.means N.report N.first };
 
-    ghost agrees = { λ k u. (properties_answers k).agrees N.means N.report u
+    ghost agrees = { λ k u. (small_properties_answers k).agrees N.means N.report u
         (λ n. N.agrees n u) };
 
-    ghost first_agrees = { λ k u. (properties_answers k).first_agrees N.means N.report N.first u
+    ghost first_agrees = { λ k u. (small_properties_answers k).first_agrees N.means N.report N.first u
+        (λ n. N.first_agrees n u) };
+}
+
+impl<N: Means> Means for BigProperties<N> {
+    ghost means = { λ k. (big_properties_answers k).means N.means };
+}
+
+impl<N: Reports> Reports for BigProperties<N> {
+    ghost report = { λ k. (big_properties_answers k).report N.means N.report };
+
+    ghost first = { λ k. (big_properties_answers k).first N.means N.report N.first };
+
+    ghost agrees = { λ k u. (big_properties_answers k).agrees N.means N.report u
+        (λ n. N.agrees n u) };
+
+    ghost first_agrees = { λ k u. (big_properties_answers k).first_agrees N.means N.report N.first u
         (λ n. N.first_agrees n u) };
 }
 
@@ -256,6 +272,38 @@ impl<N: Reports> Reports for Dependencies<N> {
         (λ n. N.agrees n u) };
 
     ghost first_agrees = { λ k u. (dependencies_answers k).first_agrees N.means N.report N.first u
+        (λ n. N.first_agrees n u) };
+}
+
+impl<N: Means> Means for DependentRequired<N> {
+    ghost means = { λ k. (dependent_required_answers k).means N.means };
+}
+
+impl<N: Reports> Reports for DependentRequired<N> {
+    ghost report = { λ k. (dependent_required_answers k).report N.means N.report };
+
+    ghost first = { λ k. (dependent_required_answers k).first N.means N.report N.first };
+
+    ghost agrees = { λ k u. (dependent_required_answers k).agrees N.means N.report u
+        (λ n. N.agrees n u) };
+
+    ghost first_agrees = { λ k u. (dependent_required_answers k).first_agrees N.means N.report N.first u
+        (λ n. N.first_agrees n u) };
+}
+
+impl<N: Means> Means for DependentSchemas<N> {
+    ghost means = { λ k. (dependent_schemas_answers k).means N.means };
+}
+
+impl<N: Reports> Reports for DependentSchemas<N> {
+    ghost report = { λ k. (dependent_schemas_answers k).report N.means N.report };
+
+    ghost first = { λ k. (dependent_schemas_answers k).first N.means N.report N.first };
+
+    ghost agrees = { λ k u. (dependent_schemas_answers k).agrees N.means N.report u
+        (λ n. N.agrees n u) };
+
+    ghost first_agrees = { λ k u. (dependent_schemas_answers k).first_agrees N.means N.report N.first u
         (λ n. N.first_agrees n u) };
 }
 

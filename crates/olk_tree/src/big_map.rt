@@ -1,24 +1,39 @@
 //! Many names in order, and what stands at each.
-use crate::entries::SortedEntries;
+ghost use Rattle.std.specs.Prelude.{◌≡◌};
+ghost use Rattle.olk_tree.specs.Maps.{named_of_many};
+
+use crate::entries::Entries;
+use crate::names::SortedNames;
 use crate::validators_map::PropertiesValidatorsMap;
 
 /// Many names in order, and what stands at each.
 #[derive(Drop)]
 pub struct BigMap<N> {
-    pub entries: SortedEntries<N>,
+    pub names: SortedNames,
+    /// As many as the names, in their order.
+    pub nodes: Vec<N>,
+}
+
+impl<N> BigMap<N> {
+    /// The names, each with what stands at it.
+    #[inline(always)]
+    pub fn entries(&self) -> Entries<'_, N>
+        ensures { result ≡ named_of_many self.now }
+    {
+        Entries::of(&self.names, &self.nodes)
+    }
 }
 
 impl<N> PropertiesValidatorsMap<N> for BigMap<N> {
-    ghost entries = { λ m. m.entries };
+    ghost use Rattle.olk_tree.specs.Maps.{named_of_many};
 
-    #[inline(always)]
-    fn entries(&self) -> &SortedEntries<N> {
-        &self.entries
+    ghost entries = { named_of_many };
+
+    fn get_validator(&self, name: &str) -> Option<&N> {
+        self.entries().node_from(0, name).1
     }
 
-    /// As it is given, but inlined into walks.
-    #[inline(always)]
-    fn validator_from(&self, hint: usize, name: &str) -> (usize, Option<&N>) {
-        self.entries.node_from(hint, name)
+    fn get_key_validator(&self, name: &str) -> Option<(&str, &N)> {
+        self.entries().get(name)
     }
 }

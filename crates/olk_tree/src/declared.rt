@@ -2,14 +2,13 @@
 ghost use Rattle.std.specs.Prelude.{◌≡◌};
 ghost use Rattle.serde_json.specs.View.{members_view};
 ghost use Rattle.olk_spec.specs.Schemas.{listed};
-ghost use Rattle.olk_tree.specs.Entries.{entries_are};
+ghost use Rattle.olk_tree.specs.Entries.{each_left};
 ghost use Rattle.olk_tree.specs.Visited.{members_declared, names_met, Yields, left_of};
 
-use crate::entries::{Entry, SortedEntries};
+use crate::entries::{EachEntry, Entries};
 use olk_meaning::member;
 use serde_json::{Map, Value};
 use std::collections::btree_map::Iter;
-use std::slice;
 
 /// The members of an object whose names are declared, in the order of their names: each with what
 /// stands at its name.
@@ -18,14 +17,14 @@ use std::slice;
 /// members, and otherwise each member among the declared names, from the place of the last one on.
 #[derive(Drop)]
 pub struct DeclaredMembers<'a, N> {
-    entries: &'a SortedEntries<N>,
+    entries: Entries<'a, N>,
     members: &'a Map<String, Value>,
     // whether the members are walked; otherwise the declared names are
     by_members: bool,
     left: Iter<'a, String, Value>,
     // where the next name is looked for first
     hint: usize,
-    unasked: slice::Iter<'a, Entry<N>>,
+    unasked: EachEntry<'a, N>,
 }
 
 impl<'a, N> Iterator for DeclaredMembers<'a, N> {
@@ -41,7 +40,7 @@ impl<'a, N> Iterator for DeclaredMembers<'a, N> {
     #[inline(always)]
     fn next(&mut self) -> Option<(&'a str, &'a N, &'a Value)> {
         if self.by_members {
-            next_member(self.entries, &mut self.left, &mut self.hint)
+            next_member(&self.entries, &mut self.left, &mut self.hint)
         } else {
             next_name(self.members, &mut self.unasked)
         }
@@ -51,21 +50,21 @@ impl<'a, N> Iterator for DeclaredMembers<'a, N> {
 impl<'a, N> DeclaredMembers<'a, N> {
     /// The members whose names are declared, each with the node that stands beside its name.
     pub fn of(
-        entries: &'a SortedEntries<N>,
+        entries: Entries<'a, N>,
         members: &'a Map<String, Value>,
     ) -> DeclaredMembers<'a, N>
         ensures by_members { left_of result
-            ≡ members_declared entries.now (listed (members_view members.now.entries)) }
+            ≡ members_declared entries.entry (listed (members_view members.now.entries)) }
         ensures by_names { left_of result
-            ≡ names_met entries.now (listed (members_view members.now.entries)) }
+            ≡ names_met entries.entry (listed (members_view members.now.entries)) }
     {
         DeclaredMembers {
+            by_members: members.len() <= entries.len(),
+            unasked: entries.iter(),
             entries,
             members,
-            by_members: members.len() <= entries.len(),
             left: members.iter(),
             hint: 0,
-            unasked: entries.as_slice().iter(),
         }
     }
 }
@@ -73,7 +72,7 @@ impl<'a, N> DeclaredMembers<'a, N> {
 /// The next member whose name is declared.
 #[inline(always)]
 fn next_member<'a, N>(
-    entries: &'a SortedEntries<N>,
+    entries: &Entries<'a, N>,
     left: &mut Iter<'a, String, Value>,
     hint: &mut usize,
 ) -> Option<(&'a str, &'a N, &'a Value)>
@@ -95,16 +94,15 @@ fn next_member<'a, N>(
 /// The next declared name at which there is a member.
 fn next_name<'a, N>(
     members: &'a Map<String, Value>,
-    entries: &mut slice::Iter<'a, Entry<N>>,
+    entries: &mut EachEntry<'a, N>,
 ) -> Option<(&'a str, &'a N, &'a Value)>
     ensures { Yields result
-        (names_met (entries_are entries.old.rest.now) (listed (members_view members.now.entries)))
-        (names_met (entries_are entries.new.rest.now) (listed (members_view members.now.entries))) }
+        (names_met (each_left entries.old) (listed (members_view members.now.entries)))
+        (names_met (each_left entries.new) (listed (members_view members.now.entries))) }
 {
-    while let Some(entry) = entries.next() {
-        let name = entry.name.as_str();
+    while let Some((name, node)) = entries.next() {
         if let Some(value) = member(members, name) {
-            return Some((name, &entry.node, value));
+            return Some((name, node, value));
         }
     }
     None

@@ -1,9 +1,10 @@
-//! `dependentRequired`, `dependentSchemas` and `dependencies`: what their validator holds.
+//! `dependentRequired`, `dependentSchemas` and `dependencies`: what their validators hold, which is
+//! a node for each key that is asked of the whole object where the key is a member.
 use crate::map::SmallMap;
 use olk_paths::Location;
 
-/// What an object is to be where it has a member at a key: each key's node is then asked of the
-/// whole object.
+/// `dependencies`: where a key is a member, its subschema is to accept the object, or its names are
+/// to be members too (JSON Schema draft 7 Validation, 6.5.7).
 #[derive(Drop)]
 pub struct Dependencies<N> {
     pub dependencies: SmallMap<N>,
@@ -12,8 +13,16 @@ pub struct Dependencies<N> {
 
 /// `dependentRequired`: where a key is a member, its names are to be members too (JSON Schema
 /// 2020-12 Validation, 6.5.4).
-pub type DependentRequired<N> = Dependencies<N>;
+#[derive(Drop)]
+pub struct DependentRequired<N> {
+    pub dependencies: SmallMap<N>,
+    pub location: Location,
+}
 
 /// `dependentSchemas`: where a key is a member, its subschema is to accept the object (JSON Schema
 /// 2020-12 Core, 10.2.2.4).
-pub type DependentSchemas<N> = Dependencies<N>;
+#[derive(Drop)]
+pub struct DependentSchemas<N> {
+    pub dependencies: SmallMap<N>,
+    pub location: Location,
+}

@@ -1,97 +1,71 @@
-//! Names in order, and what stands at each: looked up by their first bytes.
-ghost use Rattle.std.specs.Ordering.{nat_cmp};
-ghost use Rattle.std.specs.Result.{result_ok};
-ghost use Rattle.std.specs.Cmp.Lexicographic.{slice_cmp};
-ghost use Rattle.std.specs.List.{zip};
-ghost use Rattle.std.specs.Prelude.{[], ◌≡◌, ◌<◌, ◌↔◌, IsTrue, IfOk, IfSome, Some, bytes_eq, length, nat_lt, option_copied, option_map, slice_index, position};
-ghost use Rattle.olk_tree.specs.Ascending.{Ascend, IsBefore, IsFirst, IsPlaceOf, Rise, first_bytes};
+//! Names in order, and what stands at each, as maps lend them.
+ghost use Rattle.std.specs.Prelude.{◌≡◌, IfSome, length, option_copied, option_map, slice_get};
+ghost use Rattle.std.specs.List.{enumerate_from, zip};
+ghost use Rattle.serde_json.specs.View.{members_view};
 ghost use Rattle.olk_spec.specs.Names.{lookup_name};
-ghost use Rattle.olk_tree.specs.Sorted.{name_of};
+ghost use Rattle.olk_spec.specs.Schemas.{listed};
+ghost use Rattle.olk_tree.specs.Entries.{each_left, NextEntry};
+ghost use Rattle.olk_tree.specs.Ascending.{Ascend};
 ghost use Rattle.olk_tree.specs.Maps.{keys_in, placed_entries};
-ghost use Rattle.olk_tree.specs.Entries.{text_of, names_of, heads_of, entries_are};
+ghost use Rattle.olk_tree.specs.Visited.{left_of, members_declared, names_met};
 
-use crate::map::SortedNames;
-use crate::sorted_name::{SortedName, head_of};
-use olk_base::is_same_text;
-use std::alloc::{AllocError, Global};
-use std::cmp::Ordering;
+use crate::declared::DeclaredMembers;
+use crate::names::{SortedNames, find_apart, stands_at};
+use crate::sorted_name::SortedName;
+use serde_json::{Map, Value};
 use std::marker::Model;
+use std::slice;
 
-/// A name among names in order, and what stands at it.
+/// Names in strictly ascending order of their bytes, and what stands at each, borrowed.
 #[derive(Drop)]
-pub struct Entry<N> {
-    pub name: SortedName,
-    pub node: N,
+pub struct Entries<'a, N> {
+    names: &'a [SortedName],
+    nodes: &'a [N],
 }
 
-/// Names in strictly ascending order of their bytes, and what stands at each.
-#[derive(Drop)]
-pub struct SortedEntries<N> {
-    entries: Vec<Entry<N>>,
-}
-
-impl<N> Model for SortedEntries<N> {
+impl<'a, N> Model for Entries<'a, N> {
     ghost use Rattle.std.specs.Prelude.{List};
+    ghost use Rattle.std.specs.List.{zip};
     ghost use Rattle.olk_spec.specs.Names.{Name};
     ghost use Rattle.olk_tree.specs.Ascending.{Ascend};
-    ghost use Rattle.olk_tree.specs.Entries.{names_of, entries_are};
+    ghost use Rattle.olk_tree.specs.Sorted.{names_of};
 
     ghost Value = { List (Name × N) };
 
-    ghost view = { λ m. entries_are m.entries.items };
+    ghost view = { λ m. zip (names_of m.names.now) m.nodes.now };
 
-    ghost invariant = { λ m. Ascend (names_of m.entries.items) };
+    ghost invariant = { λ m. Ascend (names_of m.names.now) };
 }
 
-// So many heads are passed in turn, before the rest is bisected.
-const NEAR: usize = 8;
-
-impl<N> SortedEntries<N> {
-    /// No entries.
-    pub fn none(alloc: Global) -> SortedEntries<N>
-        ensures { result ≡ [] }
-    {
-        SortedEntries {
-            entries: Vec::new(alloc),
-        }
-    }
-
+impl<'a, N> Entries<'a, N> {
     /// The entries of these names, each with the node beside it.
-    ///
-    /// # Errors
-    ///
-    /// Out of memory.
-    pub fn of(
-        alloc: Global,
-        names: SortedNames,
-        nodes: Vec<N>,
-    ) -> Result<SortedEntries<N>, AllocError>
-    where
-        N: Drop,
-        ensures { IfOk result (λ es. es ≡ zip names nodes.items) }
-    {
-        let mut entries = Vec::with_capacity(alloc, nodes.len())?;
-        for (name, node) in names.names.into_iter().zip(nodes) {
-            entries.push(Entry { name, node })?;
-        }
-        Ok(SortedEntries { entries })
-    }
-
-    /// How many there are.
-    pub fn len(&self) -> usize
-        ensures len { result ≡ length self.now }
-        ensures ordered { Ascend (keys_in self.now) }
-    {
-        self.entries.len()
-    }
-
-    /// The entries, in order.
     #[inline(always)]
-    pub fn as_slice(&self) -> &[Entry<N>]
-        ensures entries { entries_are result.now ≡ self.now }
-        ensures ordered { Ascend (names_of result.now) }
+    pub fn of(names: &'a SortedNames, nodes: &'a [N]) -> Entries<'a, N>
+        ensures { result ≡ zip names.now nodes.now }
     {
-        &self.entries
+        Entries {
+            names: names.as_slice(),
+            nodes,
+        }
+    }
+
+    /// How many names there are.
+    #[inline(always)]
+    pub fn len(&self) -> usize
+        ensures { Ascend (keys_in self.now) }
+    {
+        self.names.len()
+    }
+
+    /// The entries one by one, in order.
+    #[inline(always)]
+    pub fn iter(&self) -> EachEntry<'a, N>
+        ensures { each_left result ≡ self.now }
+    {
+        EachEntry {
+            names: self.names.iter(),
+            nodes: self.nodes.iter(),
+        }
     }
 
     /// What stands at the name, looked for at `hint` first, and where to look first for a later
@@ -100,10 +74,16 @@ impl<N> SortedEntries<N> {
     /// Names that are asked for in ascending order are found in step. It is the same with every
     /// hint, so nothing is promised of the next one.
     #[inline(always)]
-    pub fn node_from(&self, hint: usize, name: &str) -> (usize, Option<&N>)
+    pub fn node_from(&self, hint: usize, name: &str) -> (usize, Option<&'a N>)
         ensures { option_copied result.1 ≡ lookup_name name.now self.now }
     {
-        node_among(self.as_slice(), hint, name)
+        if stands_at(self.names, hint, name) {
+            return (hint.wrapping_add(1), self.nodes.get(hint));
+        }
+        match find_apart(self.names, hint, name) {
+            Ok(place) => (place.wrapping_add(1), self.nodes.get(place)),
+            Err(next) => (next, None),
+        }
     }
 
     /// The place of the name and what stands at it, looked for at `hint` first, and where to look
@@ -111,184 +91,78 @@ impl<N> SortedEntries<N> {
     ///
     /// Both are the same with every hint, so nothing is promised of the next one.
     #[inline(always)]
-    pub fn placed_from(&self, hint: usize, name: &str) -> (usize, Option<(usize, &N)>)
+    pub fn placed_from(&self, hint: usize, name: &str) -> (usize, Option<(usize, &'a N)>)
         ensures { option_map (λ f. (f.0, f.1.now)) result.1
             ≡ lookup_name name.now (placed_entries self.now) }
     {
-        let entries = self.as_slice();
-        if stands_at(entries, hint, name) {
-            return (hint.wrapping_add(1), Some((hint, &entries[hint].node)));
+        if stands_at(self.names, hint, name) {
+            return (hint.wrapping_add(1), node_at(self.nodes, hint));
         }
-        match find_apart(entries, hint, name) {
-            Ok(place) => (place.wrapping_add(1), Some((place, &entries[place].node))),
+        match find_apart(self.names, hint, name) {
+            Ok(place) => (place.wrapping_add(1), node_at(self.nodes, place)),
             Err(next) => (next, None),
         }
     }
 
-    /// At which place the name stands.
-    pub fn find(&self, name: &str) -> Option<usize>
-        ensures { result ≡ position (λ k. bytes_eq k name.now) (keys_in self.now) }
-    {
-        find_apart(self.as_slice(), 0, name).ok()
-    }
-
-    /// The entry of the name.
-    pub fn get(&self, name: &str) -> Option<&Entry<N>>
-        ensures key { IfSome result (λ found. text_of found.now ≡ name.now) }
-        ensures node { option_map (λ found. found.now.node) result
+    /// The name as it is held, and what stands at it.
+    pub fn get(&self, name: &str) -> Option<(&'a str, &'a N)>
+        ensures key { IfSome result (λ found. found.0.now ≡ name.now) }
+        ensures node { option_map (λ found. found.1.now) result
             ≡ lookup_name name.now self.now }
     {
-        let entries = self.as_slice();
-        match find_apart(entries, 0, name) {
-            Ok(place) => Some(&entries[place]),
-            Err(_) => None,
+        let Ok(place) = find_apart(self.names, 0, name) else {
+            return None;
+        };
+        match self.nodes.get(place) {
+            Some(node) => Some((self.names[place].as_str(), node)),
+            None => None,
         }
     }
+
+    /// The members whose names are declared, each with what stands at its name.
+    pub fn declared_members(self, members: &'a Map<String, Value>) -> DeclaredMembers<'a, N>
+        ensures by_members { left_of result
+            ≡ members_declared self.entry
+            (listed (members_view members.now.entries)) }
+        ensures by_names { left_of result
+            ≡ names_met self.entry (listed (members_view members.now.entries)) }
+    {
+        DeclaredMembers::of(self, members)
+    }
 }
 
-/// What stands at the name among entries in order, as [`SortedEntries::node_from`] tells it. A walk
-/// that has the entries as a slice reads them in fewer steps.
+/// What stands at the place, with the place.
 #[inline(always)]
-pub fn node_among<'a, N>(entries: &'a [Entry<N>], hint: usize, name: &str) -> (usize, Option<&'a N>)
-    requires { Ascend (names_of entries.now) }
-    ensures { option_copied result.1 ≡ lookup_name name.now (entries_are entries.now) }
+fn node_at<N>(nodes: &[N], place: usize) -> Option<(usize, &N)>
+    ensures { option_map (λ f. (f.0, f.1.now)) result ≡ slice_get (enumerate_from 0 nodes.now) place }
 {
-    if stands_at(entries, hint, name) {
-        return (hint.wrapping_add(1), Some(&entries[hint].node));
-    }
-    match find_apart(entries, hint, name) {
-        Ok(place) => (place.wrapping_add(1), Some(&entries[place].node)),
-        Err(next) => (next, None),
+    match nodes.get(place) {
+        Some(node) => Some((place, node)),
+        None => None,
     }
 }
 
-/// Whether the name stands at the place.
-#[inline(always)]
-pub(crate) fn stands_at<N>(entries: &[Entry<N>], place: usize, name: &str) -> bool
-    requires { Ascend (names_of entries.now) }
-    ensures { IsTrue result
-        ↔ (position (λ k. bytes_eq k name.now) (names_of entries.now) ≡ Some place) }
-{
-    place < entries.len() && is_same_text(entries[place].name.as_str(), name)
+/// Names in order, and what stands at each, one by one.
+#[derive(Drop)]
+pub struct EachEntry<'a, N> {
+    names: slice::Iter<'a, SortedName>,
+    nodes: slice::Iter<'a, N>,
 }
 
-/// Where the name stands if it stands at another place than `hint`, or else where to look first for
-/// a later name.
-#[inline(never)]
-pub(crate) fn find_apart<N>(entries: &[Entry<N>], hint: usize, name: &str) -> Result<usize, usize>
-    requires { Ascend (names_of entries.now) }
-    ensures { result_ok result ≡ position (λ k. bytes_eq k name.now) (names_of entries.now) }
-{
-    let head = head_of(name);
-    match first_near(entries, hint, head) {
-        Some(place) => find_at(entries, place, head, name),
-        None => find_far(entries, head, name),
-    }
-}
+impl<'a, N> Iterator for EachEntry<'a, N> {
+    ghost use Rattle.std.specs.Iterator.{item_count};
+    ghost use Rattle.olk_tree.specs.Entries.{each_left, NextEntry};
 
-/// What `find_apart` tells, found by bisection.
-#[inline(never)]
-fn find_far<N>(entries: &[Entry<N>], head: u64, name: &str) -> Result<usize, usize>
-    requires ascend { Ascend (names_of entries.now) }
-    requires head { head ≡ first_bytes name.now }
-    ensures { result_ok result ≡ position (λ k. bytes_eq k name.now) (names_of entries.now) }
-{
-    find_at(entries, first_of_all(entries, head), head, name)
-}
+    type Item = (&'a str, &'a N);
 
-/// What `find_apart` tells, if the first head that is not less than the name's is at the place.
-#[inline(always)]
-fn find_at<N>(entries: &[Entry<N>], place: usize, head: u64, name: &str) -> Result<usize, usize>
-    requires ascend { Ascend (names_of entries.now) }
-    requires head { head ≡ first_bytes name.now }
-    requires first { IsFirst (heads_of entries.now) head place }
-    ensures { result_ok result ≡ position (λ k. bytes_eq k name.now) (names_of entries.now) }
-{
-    if place >= entries.len() {
-        return Err(place);
-    }
-    if entries[place].name.head != head {
-        return Err(place);
-    }
-    if stands_with_head(entries, place, name) {
-        return Ok(place);
-    }
-    place_of(entries, name)
-}
+    ghost next_gives = { λ s r t. NextEntry r (each_left s) (each_left t) };
 
-/// Whether the name stands at the place, where one of its first bytes does: up to eight bytes
-/// aren't compared again.
-#[inline(always)]
-fn stands_with_head<N>(entries: &[Entry<N>], place: usize, name: &str) -> bool
-    requires ascend { Ascend (names_of entries.now) }
-    requires inside { place < length entries.now }
-    requires head { slice_index (heads_of entries.now) place ≡ first_bytes name.now }
-    ensures { IsTrue result
-        → Some place ≡ position (λ k. bytes_eq k name.now) (names_of entries.now) }
-{
-    let found = entries[place].name.as_str();
-    let count = name.as_bytes().len();
-    if found.len() != count {
-        return false;
-    }
-    count <= 8 || found == name
-}
+    ghost remaining = { item_count each_left };
 
-/// At which place the first head stands that is not less than this one, if that isn't far from the
-/// hint.
-#[inline(always)]
-#[tactic(auto, using(crate::proofs::Heads::first_places))]
-fn first_near<N>(entries: &[Entry<N>], hint: usize, head: u64) -> Option<usize>
-    requires { Rise (heads_of entries.now) }
-    ensures { IfSome result (IsFirst (heads_of entries.now) head) }
-{
-    let start = start_from(entries, hint, head);
-    if NEAR <= entries.len() - start && entries[start + NEAR - 1].name.head < head {
-        return None;
+    #[inline(always)]
+    fn next(&mut self) -> Option<(&'a str, &'a N)> {
+        let name = self.names.next()?;
+        let node = self.nodes.next()?;
+        Some((name.as_str(), node))
     }
-    for place in start..entries.len() {
-        if entries[place].name.head >= head {
-            return Some(place);
-        }
-    }
-    Some(entries.len())
-}
-
-/// The hint, if the head before it is less, and else the start.
-#[inline(always)]
-#[tactic(auto, using(crate::proofs::Heads::first_places))]
-fn start_from<N>(entries: &[Entry<N>], hint: usize, head: u64) -> usize
-    requires { Rise (heads_of entries.now) }
-    ensures { IsBefore (heads_of entries.now) head result }
-{
-    if hint > 0 && hint <= entries.len() && entries[hint - 1].name.head < head {
-        return hint;
-    }
-    0
-}
-
-/// At which place the first head stands that is not less than this one.
-#[inline(always)]
-fn first_of_all<N>(entries: &[Entry<N>], head: u64) -> usize
-    requires { Rise (heads_of entries.now) }
-    ensures { IsFirst (heads_of entries.now) head result }
-{
-    entries.partition_point(
-        |it: &Entry<N>| -> bool
-            ensures { result ≡ nat_lt it.now.name.head head }
-        { it.name.head < head },
-    )
-}
-
-/// Where the name stands, or else where it would stand, found by bisection.
-#[inline(never)]
-fn place_of<N>(entries: &[Entry<N>], name: &str) -> Result<usize, usize>
-    requires { Ascend (names_of entries.now) }
-    ensures { IsPlaceOf (names_of entries.now) name.now result }
-{
-    entries.binary_search_by(
-        |k: &Entry<N>| -> Ordering
-            ensures { result ≡ slice_cmp nat_cmp (name_of k.now.name) name.entry.now }
-        { k.name.as_str().cmp(name) },
-    )
 }

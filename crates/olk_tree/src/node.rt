@@ -2,12 +2,12 @@
 use crate::additional_properties::Restriction;
 use crate::all_of::{AllOf, SingleValueAllOf};
 use crate::any_of::{AnyOf, SingleAnyOf};
-use crate::dependencies::Dependencies;
+use crate::dependencies::{Dependencies, DependentRequired, DependentSchemas};
 use crate::if_::{IfElse, IfThen, IfThenElse};
 use crate::not::Not;
 use crate::one_of::{OneOf, SingleOneOf};
 use crate::pattern_properties::{PatternProperties, SingleValuePatternProperties};
-use crate::properties::{Properties, SmallPropertiesWithRequired2};
+use crate::properties::{BigProperties, SmallProperties, SmallPropertiesWithRequired2};
 use crate::property_dependencies::PropertyDependencies;
 use crate::property_names::{PropertyNames, PropertyNamesFalse};
 use crate::required::RequiredValidator;
@@ -17,8 +17,10 @@ use olk_paths::Location;
 /// A keyword of a schema object, over the nodes that it holds.
 #[derive(Drop)]
 pub enum KeywordOver<K, R, N> {
-    /// `properties`.
-    Properties(Properties<N>),
+    /// `properties` of few names.
+    SmallProperties(SmallProperties<N>),
+    /// `properties` of many names.
+    BigProperties(BigProperties<N>),
     /// `properties` together with `required` of two names.
     PropertiesWithRequired2(Box<SmallPropertiesWithRequired2<N>>),
     /// `required`.
@@ -43,8 +45,12 @@ pub enum KeywordOver<K, R, N> {
     IfElse(Box<IfElse<N>>),
     /// `if` with `then` and `else`.
     IfThenElse(Box<IfThenElse<N>>),
-    /// `dependentRequired`, `dependentSchemas` or `dependencies`.
+    /// `dependencies`.
     Dependencies(Dependencies<N>),
+    /// `dependentRequired`.
+    DependentRequired(DependentRequired<N>),
+    /// `dependentSchemas`.
+    DependentSchemas(DependentSchemas<N>),
     /// `propertyNames` with a subschema.
     PropertyNames(PropertyNames<N>),
     /// `propertyNames` with `false`.
@@ -72,7 +78,8 @@ impl<K: Leaf, R: RegexEngine, N> KeywordOver<K, R, N> {
         ensures { result.now ≡ (answers_of (kit K.Leaf R.RegexEngine) self.now).location }
     {
         match self {
-            KeywordOver::Properties(keyword) => keyword.location.as_str(),
+            KeywordOver::SmallProperties(keyword) => keyword.location.as_str(),
+            KeywordOver::BigProperties(keyword) => keyword.location.as_str(),
             KeywordOver::PropertiesWithRequired2(keyword) => keyword.location.as_str(),
             KeywordOver::Required(keyword) => keyword.location.as_str(),
             KeywordOver::AllOf(keyword) => keyword.location.as_str(),
@@ -86,6 +93,8 @@ impl<K: Leaf, R: RegexEngine, N> KeywordOver<K, R, N> {
             KeywordOver::IfElse(keyword) => keyword.location.as_str(),
             KeywordOver::IfThenElse(keyword) => keyword.location.as_str(),
             KeywordOver::Dependencies(keyword) => keyword.location.as_str(),
+            KeywordOver::DependentRequired(keyword) => keyword.location.as_str(),
+            KeywordOver::DependentSchemas(keyword) => keyword.location.as_str(),
             KeywordOver::PropertyNames(keyword) => keyword.location.as_str(),
             KeywordOver::PropertyNamesFalse(keyword) => keyword.location.as_str(),
             KeywordOver::PropertyDependencies(keyword) => keyword.location.as_str(),

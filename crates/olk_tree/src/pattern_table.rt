@@ -6,10 +6,9 @@ ghost use Rattle.olk_spec.specs.Schemas.{listed};
 ghost use Rattle.olk_spec.specs.World.{unmatched, unfinished};
 ghost use Rattle.olk_base.specs.Lawful.{said};
 ghost use Rattle.olk_tree.specs.Sorted.{name_of};
-ghost use Rattle.olk_tree.specs.Tables.{has_bit, row_says, HasWord, no_table, table_says, known_says, matched_in, unfinished_in, index_said, indices_below, indices_in, IsRowOf, IsTableOf, how_many_cost, count_asks, AsksAtMost, is_blank, is_blank_at};
+ghost use Rattle.olk_tree.specs.Tables.{patterns_of, has_bit, row_says, HasWord, no_table, table_says, known_says, matched_in, unfinished_in, index_said, indices_below, indices_in, IsRowOf, IsTableOf, how_many_cost, count_asks, AsksAtMost, is_blank, is_blank_at};
 
-use crate::entries::SortedEntries;
-use crate::map::SortedNames;
+use crate::names::SortedNames;
 use crate::sorted_name::SortedName;
 use olk_base::{CompiledPattern, Meter, RegexEngine, Unfinished};
 use serde_json::{Map, Value};
@@ -31,17 +30,17 @@ pub struct PatternIndex {
 /// Names, and beside each what patterns say of it, as far as that is known.
 #[derive(Drop)]
 pub struct PatternTable {
-    entries: SortedEntries<PatternRow>,
+    names: SortedNames,
+    rows: Vec<PatternRow>,
     patterns: usize,
 }
 
 impl Model for PatternTable {
-    ghost use Rattle.olk_tree.specs.Maps.{keys_in, nodes_in};
     ghost use Rattle.olk_tree.specs.Tables.{Table};
 
     ghost Value = { Table };
 
-    ghost view = { λ t. record { names = keys_in t.entries; patterns = t.patterns; rows = nodes_in t.entries } };
+    ghost view = { λ t. record { names = t.names; patterns = t.patterns; rows = t.rows.items } };
 }
 
 impl PatternTable {
@@ -50,7 +49,8 @@ impl PatternTable {
         ensures { result ≡ no_table }
     {
         PatternTable {
-            entries: SortedEntries::none(alloc),
+            names: SortedNames::none(alloc),
+            rows: Vec::new(alloc),
             patterns: 0,
         }
     }
@@ -61,8 +61,8 @@ impl PatternTable {
     pub fn known(&self, place: usize, index: usize) -> Option<bool>
         ensures { known_says result ≡ table_says self.now place index }
     {
-        match self.entries.as_slice().get(place) {
-            Some(entry) => entry.node.known(index),
+        match self.rows.get(place) {
+            Some(row) => row.known(index),
             None => None,
         }
     }
@@ -75,8 +75,8 @@ impl PatternTable {
         ensures unmatched { IsTrue result
             → (i : ℕ) → table_says self.now place i ≡ unmatched }
     {
-        match self.entries.as_slice().get(place) {
-            Some(entry) => entry.node.is_blank(),
+        match self.rows.get(place) {
+            Some(row) => row.is_blank(),
             None => false,
         }
     }
@@ -86,7 +86,7 @@ impl PatternTable {
     pub fn is_matched(&self, name: &str, index: usize) -> bool
         ensures { result ≡ matched_in self.now name.now index }
     {
-        match self.entries.find(name) {
+        match self.names.find(name) {
             Some(place) if index < self.patterns => matches!(self.known(place, index), Some(true)),
             _ => false,
         }
@@ -97,7 +97,7 @@ impl PatternTable {
     pub fn is_unfinished(&self, name: &str, index: usize) -> bool
         ensures { result ≡ unfinished_in self.now name.now index }
     {
-        match self.entries.find(name) {
+        match self.names.find(name) {
             Some(place) if index < self.patterns => self.known(place, index).is_none(),
             _ => false,
         }
@@ -112,7 +112,7 @@ impl PatternTable {
     pub fn indices(&self, alloc: Global, name: &str) -> Result<Vec<PatternIndex>, AllocError>
         ensures { IfOk result (λ indices. indices.items ≡ indices_in self.now name.now) }
     {
-        match self.entries.find(name) {
+        match self.names.find(name) {
             Some(place) => self.indices_at(alloc, place),
             None => Ok(Vec::new(alloc)),
         }
@@ -154,46 +154,47 @@ impl PatternTable {
 /// # Errors
 ///
 /// Out of memory. No more is counted then.
-pub fn precompute_property_pattern_indices<R: RegexEngine>(
+pub fn precompute_property_pattern_indices<R: RegexEngine, N>(
     alloc: Global,
     properties: &Map<String, Value>,
-    patterns: &[CompiledPattern<R>],
+    patterns: &[(CompiledPattern<R>, N)],
     meter: &mut Meter,
 ) -> Result<PatternTable, AllocError>
     ensures names { IfOk result (λ t. t.names ≡ map (λ m. m.0)
         (listed (members_view properties.now.entries))) }
     ensures patterns { IfOk result (λ t. t.patterns ≡ length patterns.now) }
-    ensures answers { IfOk result (λ t. IsTableOf R.answers patterns.now t) }
+    ensures answers { IfOk result (λ t. IsTableOf R.answers (patterns_of patterns.now) t) }
     ensures nothing_else { IfOk result
         (λ t. (p i : ℕ) → length t.names ≤ p → table_says t p i ≡ unfinished) }
     ensures asked { OnOk result (meter.new ≡ count_asks
-        (length (listed (members_view properties.now.entries)) * how_many_cost R.costs patterns.now)
+        (length (listed (members_view properties.now.entries)) * how_many_cost R.costs (patterns_of patterns.now))
         meter.old) }
     ensures asked_at_most { OnErr result (AsksAtMost
-        (length (listed (members_view properties.now.entries)) * how_many_cost R.costs patterns.now)
+        (length (listed (members_view properties.now.entries)) * how_many_cost R.costs (patterns_of patterns.now))
         meter.old meter.new) }
 {
     let names = SortedNames::of(alloc, properties)?;
     let rows = rows_of(alloc, names.as_slice(), patterns, meter)?;
     Ok(PatternTable {
-        entries: SortedEntries::of(alloc, names, rows)?,
+        names,
+        rows,
         patterns: patterns.len(),
     })
 }
 
 /// A row for each name: each pattern is asked once of each, on the meter.
-fn rows_of<R: RegexEngine>(
+fn rows_of<R: RegexEngine, N>(
     alloc: Global,
     names: &[SortedName],
-    patterns: &[CompiledPattern<R>],
+    patterns: &[(CompiledPattern<R>, N)],
     meter: &mut Meter,
 ) -> Result<Vec<PatternRow>, AllocError>
-    ensures answers { IfOk result (λ rows. AllZip (IsRowOf R.answers patterns.now)
+    ensures answers { IfOk result (λ rows. AllZip (IsRowOf R.answers (patterns_of patterns.now))
         (map name_of names.now) rows.items) }
     ensures asked { OnOk result (meter.new
-        ≡ count_asks (length names.now * how_many_cost R.costs patterns.now) meter.old) }
+        ≡ count_asks (length names.now * how_many_cost R.costs (patterns_of patterns.now)) meter.old) }
     ensures asked_at_most { OnErr result (AsksAtMost
-        (length names.now * how_many_cost R.costs patterns.now) meter.old meter.new) }
+        (length names.now * how_many_cost R.costs (patterns_of patterns.now)) meter.old meter.new) }
 {
     let mut rows = Vec::with_capacity(alloc, names.len())?;
     for name in names {
@@ -204,20 +205,20 @@ fn rows_of<R: RegexEngine>(
 
 /// The row of a name: each pattern is asked of it once, on the meter, once there is memory for the
 /// row.
-fn row_of<R: RegexEngine>(
+fn row_of<R: RegexEngine, N>(
     alloc: Global,
     name: &str,
-    patterns: &[CompiledPattern<R>],
+    patterns: &[(CompiledPattern<R>, N)],
     meter: &mut Meter,
 ) -> Result<PatternRow, AllocError>
-    ensures answers { IfOk result (IsRowOf R.answers patterns.now name.now) }
+    ensures answers { IfOk result (IsRowOf R.answers (patterns_of patterns.now) name.now) }
     ensures asked { OnOk result
-        (meter.new ≡ count_asks (how_many_cost R.costs patterns.now) meter.old) }
+        (meter.new ≡ count_asks (how_many_cost R.costs (patterns_of patterns.now)) meter.old) }
     ensures unasked { OnErr result (meter.new ≡ meter.old) }
 {
     let mut row = PatternRow::unmatched(alloc, patterns.len())?;
-    for (index, pattern) in patterns.iter().enumerate() {
-        row.note(index, pattern.is_match(name, meter));
+    for (index, entry) in patterns.iter().enumerate() {
+        row.note(index, entry.0.is_match(name, meter));
     }
     Ok(row)
 }

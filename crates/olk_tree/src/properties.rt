@@ -1,13 +1,21 @@
 //! `properties`: what its validators hold.
+use crate::big_map::BigMap;
 use crate::map::SmallMap;
-use crate::properties_map::PropertiesMap;
 use olk_paths::Location;
 
-/// `properties`: a member whose name is declared is to be accepted by that name's subschema (JSON
-/// Schema 2020-12 Core, 10.3.2.1).
+/// `properties` of few names: a member whose name is declared is to be accepted by that name's
+/// subschema (JSON Schema 2020-12 Core, 10.3.2.1).
 #[derive(Drop)]
-pub struct Properties<N> {
-    pub properties: PropertiesMap<N>,
+pub struct SmallProperties<N> {
+    pub properties: SmallMap<N>,
+    pub location: Location,
+}
+
+/// `properties` of many names: a member whose name is declared is to be accepted by that name's
+/// subschema (JSON Schema 2020-12 Core, 10.3.2.1).
+#[derive(Drop)]
+pub struct BigProperties<N> {
+    pub properties: BigMap<N>,
     pub location: Location,
 }
 

@@ -1,6 +1,9 @@
 //! A map of few names, or of many.
+ghost use Rattle.std.specs.Prelude.{◌≡◌};
+ghost use Rattle.olk_tree.specs.Maps.{mapped};
+
 use crate::big_map::BigMap;
-use crate::entries::SortedEntries;
+use crate::entries::Entries;
 use crate::map::SmallMap;
 use crate::validators_map::PropertiesValidatorsMap;
 
@@ -13,16 +16,29 @@ pub enum PropertiesMap<N> {
     Big(BigMap<N>),
 }
 
+impl<N> PropertiesMap<N> {
+    /// The names, each with what stands at it.
+    #[inline(always)]
+    pub fn entries(&self) -> Entries<'_, N>
+        ensures { result ≡ mapped self.now }
+    {
+        match self {
+            PropertiesMap::Small(map) => map.entries(),
+            PropertiesMap::Big(map) => map.entries(),
+        }
+    }
+}
+
 impl<N> PropertiesValidatorsMap<N> for PropertiesMap<N> {
     ghost use Rattle.olk_tree.specs.Maps.{mapped};
 
     ghost entries = { mapped };
 
-    #[inline(always)]
-    fn entries(&self) -> &SortedEntries<N> {
-        match self {
-            PropertiesMap::Small(map) => &map.entries,
-            PropertiesMap::Big(map) => &map.entries,
-        }
+    fn get_validator(&self, name: &str) -> Option<&N> {
+        self.entries().node_from(0, name).1
+    }
+
+    fn get_key_validator(&self, name: &str) -> Option<(&str, &N)> {
+        self.entries().get(name)
     }
 }
