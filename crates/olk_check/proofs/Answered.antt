@@ -1,5 +1,5 @@
 -- Answers to questions that are asked together.
-use Rattle.std.proofs.Common.{◌≡◌, ◌<◌, Bool, true, false, List, [], ◌∷◌, length, drop, get_or, refl, ap, ◌∙◌, arith}
+use Rattle.std.proofs.Common.{◌≡◌, ◌<◌, Bool, true, false, List, [], ◌∷◌, length, drop, get_or, refl, sym, subst, ap, ◌∙◌, arith}
 use Rattle.std.proofs.lemmas.List.{drop_all}
 use Rattle.olk_base.specs.Lawful.{Asking}
 use Rattle.olk_tree.specs.Questions.{Question, always, every}
@@ -8,8 +8,8 @@ use Rattle.olk_tree.proofs.Questions.{both_around}
 use Rattle.olk_check.specs.declared.accepted.Accepted.{Accepted}
 use Rattle.olk_check.specs.declared.accepted.Accepted.TheVariants.{None, One, Two}
 use Rattle.olk_check.specs.Asks.{Asks}
-use Rattle.olk_check.specs.Together.{one_if, AsksOne, AsksTwo, AsksFirst}
-use Rattle.olk_check.proofs.Asked.{unasked}
+use Rattle.olk_check.specs.Together.{is_accepted, one_if, AsksOne, AsksTwo, AsksFirst}
+use Rattle.olk_check.proofs.Asked.{asks_as, unasked}
 use Rattle.olk_check.proofs.Walks.{AllLeft, both_go_on, both_stop, all_go_on}
 
 module _ {a b : Asking} where
@@ -20,6 +20,12 @@ module _ {a b : Asking} where
 
     pub answered_one : {r : Bool} {s : Accepted} → s ≡ one_if r → Asks a b q r → AsksOne a b q s
     answered_one e h = rw e (one_said _ h)
+
+-- an answer that was asked together, by itself
+pub one_answered : {a b : Asking} {p q : Question} {r : Bool} (s : Accepted) → p ≡ q → r ≡ is_accepted s → AsksOne a b p s → Asks a b q r
+one_answered {a} {b} {q = q} None same e h = subst (Asks a b q) (sym e) (asks_as same h)
+one_answered {a} {b} {q = q} One same e h = subst (Asks a b q) (sym e) (asks_as same h)
+one_answered Two same e h = absurd h
 
 -- the first of a list
 module _ {X : Type 0} (f : X → Question) (a b : Asking) where

@@ -9,7 +9,6 @@ ghost use Rattle.olk_spec.specs.Names.{is_empty};
 ghost use Rattle.olk_spec.specs.Accepts.{missing};
 ghost use Rattle.olk_spec.specs.Schemas.{members};
 ghost use Rattle.olk_tree.specs.Questions.{always, both, every};
-ghost use Rattle.std.specs.List.{zip};
 ghost use Rattle.olk_tree.specs.Maps.{mapped};
 ghost use Rattle.olk_tree.specs.Tables.{known_says, table_says};
 ghost use Rattle.olk_tree.specs.Visited.{object_of};
@@ -31,9 +30,8 @@ use olk_tree::additional_properties::{
     AdditionalPropertiesWithPatternsNotEmpty, AdditionalPropertiesWithPatternsNotEmptyFalse,
     Restriction, SidesOf,
 };
-use olk_tree::entries::{SortedEntries, node_among};
+use olk_tree::entries::Entries;
 use olk_tree::properties_map::PropertiesMap;
-use olk_tree::validators_map::PropertiesValidatorsMap;
 use serde_json::{Map, Value};
 
 /// So many arrays and objects wait until the other members were asked.
@@ -247,12 +245,12 @@ fn each_value_accepted<N: Check>(
 /// The verdict of `are_properties_valid`.
 #[inline(always)]
 fn declared_accept<'a, N: Check>(
-    properties: &'a SortedEntries<N>,
+    properties: Entries<'a, N>,
     members: &Map<String, Value>,
     rest: Option<&'a N>,
     ctx: &mut ValidationContext,
 ) -> Accepted
-    ensures { AsksOne ctx.old ctx.new (names_mean N.means properties.now
+    ensures { AsksOne ctx.old ctx.new (names_mean N.means properties.entry
         (option_copied rest.entry) (object_of members.now.entries)) result }
 {
     match rest {
@@ -265,11 +263,11 @@ fn declared_accept<'a, N: Check>(
 /// names, one of them is not declared.
 #[inline(always)]
 fn declared_alone<N: Check>(
-    properties: &SortedEntries<N>,
+    properties: Entries<'_, N>,
     members: &Map<String, Value>,
     ctx: &mut ValidationContext,
 ) -> Accepted
-    ensures { AsksOne ctx.old ctx.new (names_mean N.means properties.now
+    ensures { AsksOne ctx.old ctx.new (names_mean N.means properties.entry
         None (object_of members.now.entries)) result }
 {
     if members.len() > properties.len() {
@@ -282,12 +280,12 @@ fn declared_alone<N: Check>(
 /// name.
 #[inline(always)]
 fn declared_accept_with<N: Check>(
-    properties: &SortedEntries<N>,
+    properties: Entries<'_, N>,
     members: &Map<String, Value>,
     required: &str,
     ctx: &mut ValidationContext,
 ) -> Accepted
-    ensures { AsksOne ctx.old ctx.new (both (names_mean N.means properties.now
+    ensures { AsksOne ctx.old ctx.new (both (names_mean N.means properties.entry
         None (object_of members.now.entries)) (always (is_empty (missing
         (required.now ∷ []) (object_of members.now.entries))))) result }
 {
@@ -300,12 +298,12 @@ fn declared_accept_with<N: Check>(
 /// Whether each member is declared, and accepted by what is declared at its name.
 #[inline(never)]
 fn each_declared<N: Check>(
-    properties: &SortedEntries<N>,
+    properties: Entries<'_, N>,
     members: &Map<String, Value>,
     ctx: &mut ValidationContext,
 ) -> Accepted
     ensures { AsksOne ctx.old ctx.new (names_mean N.means
-        properties.now
+        properties.entry
         None (object_of members.now.entries)) result }
 {
     Accepted::one_if(each_declared_or_rest(properties, members, None, ctx))
@@ -315,13 +313,13 @@ fn each_declared<N: Check>(
 /// member at the required name.
 #[inline(never)]
 fn all_declared<N: Check>(
-    properties: &SortedEntries<N>,
+    properties: Entries<'_, N>,
     members: &Map<String, Value>,
     required: &str,
     ctx: &mut ValidationContext,
 ) -> Accepted
     ensures { AsksOne ctx.old ctx.new (both (names_mean N.means
-        properties.now
+        properties.entry
         None (object_of members.now.entries)) (always (is_empty (missing
         (required.now ∷ []) (object_of members.now.entries))))) result }
 {
@@ -333,14 +331,14 @@ fn all_declared<N: Check>(
 ///
 /// Takes no memory. The context keeps its answer; of the counts only those of matchers that were
 /// asked and of matches that were left unfinished rise.
-pub fn are_properties_valid<M: PropertiesValidatorsMap<N>, N: Check>(
-    properties: &M,
+pub fn are_properties_valid<N: Check>(
+    properties: &PropertiesMap<N>,
     members: &Map<String, Value>,
     additional: Option<&N>,
     ctx: &mut ValidationContext,
 ) -> bool
     ensures { Asks ctx.old ctx.new (names_mean N.means
-        (M.entries properties.now)
+        (mapped properties.now)
         (option_copied additional.entry) (object_of members.now.entries)) result }
 {
     each_declared_or_rest(properties.entries(), members, additional, ctx)
@@ -350,19 +348,18 @@ pub fn are_properties_valid<M: PropertiesValidatorsMap<N>, N: Check>(
 /// expected doesn't look for it.
 #[inline(always)]
 fn each_declared_or_rest<'a, N: Check>(
-    properties: &'a SortedEntries<N>,
+    properties: Entries<'a, N>,
     members: &Map<String, Value>,
     additional: Option<&'a N>,
     ctx: &mut ValidationContext,
 ) -> bool
     ensures { Asks ctx.old ctx.new (names_mean N.means
-        properties.now
+        properties.entry
         (option_copied additional.entry) (object_of members.now.entries)) result }
 {
-    let entries = properties.as_slice();
     let mut hint = 0;
     for (name, value) in members {
-        let (next, declared) = node_among(entries, hint, name.as_str());
+        let (next, declared) = properties.node_from(hint, name.as_str());
         hint = next;
         if !is_accepted(declared, additional, value, ctx) {
             return false;
@@ -393,24 +390,23 @@ fn is_accepted<N: Check>(
 /// only where that name was met.
 #[inline(always)]
 fn each_declared_with<N: Check>(
-    properties: &SortedEntries<N>,
+    properties: Entries<'_, N>,
     members: &Map<String, Value>,
     required: &str,
     ctx: &mut ValidationContext,
 ) -> bool
     ensures { Asks ctx.old ctx.new (both (names_mean N.means
-        properties.now
+        properties.entry
         None (object_of members.now.entries)) (always (is_empty (missing
         (required.now ∷ []) (object_of members.now.entries))))) result }
 {
     let mut met = false;
     let mut held: ArrayVec<Option<(&N, &Value)>, DEFERRED_MEMBERS> = ArrayVec::new();
-    let entries = properties.as_slice();
     let mut hint = 0;
     for (name, value) in members {
         let name = name.as_str();
         met = is_met(met, name, required);
-        let (next, declared) = node_among(entries, hint, name);
+        let (next, declared) = properties.node_from(hint, name);
         hint = next;
         let Some(subschema) = declared else {
             return false;

@@ -8,18 +8,41 @@ ghost use Rattle.olk_check.specs.Asks.{Asks};
 
 use crate::Check;
 use olk_base::{Asked, ValidationContext};
-use olk_tree::dependencies::Dependencies;
+use olk_tree::dependencies::{Dependencies, DependentRequired, DependentSchemas};
 use olk_tree::map::SmallMap;
-use olk_tree::validators_map::PropertiesValidatorsMap;
 use serde_json::{Map, Value};
 
 impl<N: Check> Check for Dependencies<N> {
-    #[inline(never)]
     fn check<A: Asked>(&self, asked: A, ctx: &mut ValidationContext) -> bool {
-        match asked.as_object() {
-            Some(members) => due_accept(&self.dependencies, members, asked, ctx),
-            None => true,
-        }
+        dependencies_accept(&self.dependencies, asked, ctx)
+    }
+}
+
+impl<N: Check> Check for DependentRequired<N> {
+    fn check<A: Asked>(&self, asked: A, ctx: &mut ValidationContext) -> bool {
+        dependencies_accept(&self.dependencies, asked, ctx)
+    }
+}
+
+impl<N: Check> Check for DependentSchemas<N> {
+    fn check<A: Asked>(&self, asked: A, ctx: &mut ValidationContext) -> bool {
+        dependencies_accept(&self.dependencies, asked, ctx)
+    }
+}
+
+/// Whether the node of each key that is a member accepts the value, where that is an object.
+#[inline(never)]
+fn dependencies_accept<A: Asked, N: Check>(
+    dependencies: &SmallMap<N>,
+    asked: A,
+    ctx: &mut ValidationContext,
+) -> bool
+    ensures { Asks ctx.old ctx.new (every (λ n. N.means n (A.stands_for asked))
+        (due_nodes (named dependencies.now) (A.stands_for asked))) result }
+{
+    match asked.as_object() {
+        Some(members) => due_accept(dependencies, members, asked, ctx),
+        None => true,
     }
 }
 

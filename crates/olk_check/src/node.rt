@@ -4,6 +4,7 @@ ghost use Rattle.std.specs.Prelude.{◌≡◌, ◌<◌, [], ◌∷◌, drop, len
 ghost use Rattle.serde_json.specs.Data.{Data};
 ghost use Rattle.olk_tree.specs.Validators.{validator_means};
 ghost use Rattle.olk_tree.specs.Bodies.{body_means};
+ghost use Rattle.olk_tree.specs.Properties.{properties_mean};
 ghost use Rattle.olk_tree.specs.Questions.{always, every};
 ghost use Rattle.olk_spec.specs.Names.{is_empty};
 ghost use Rattle.olk_spec.specs.Accepts.{missing};
@@ -16,6 +17,7 @@ use crate::properties::{
     properties_accept, properties_with_required_accept, properties_with_required2_accept,
 };
 use olk_base::{Asked, Leaf, RegexEngine, ValidationContext};
+use olk_tree::entries::Entries;
 use olk_tree::node::{Body, KeywordOver};
 
 /// What the keyword asks of the value.
@@ -44,7 +46,8 @@ fn keyword_accepts<A: Asked, K: Leaf, R: RegexEngine, N: Check>(
         result }
 {
     match keyword {
-        KeywordOver::Properties(validator) => validator.check(asked, ctx),
+        KeywordOver::SmallProperties(validator) => validator.check(asked, ctx),
+        KeywordOver::BigProperties(validator) => validator.check(asked, ctx),
         KeywordOver::PropertiesWithRequired2(validator) => validator.check(asked, ctx),
         KeywordOver::Required(validator) => validator.check(asked, ctx),
         KeywordOver::AllOf(validator) => validator.check(asked, ctx),
@@ -58,6 +61,8 @@ fn keyword_accepts<A: Asked, K: Leaf, R: RegexEngine, N: Check>(
         KeywordOver::IfElse(validator) => validator.check(asked, ctx),
         KeywordOver::IfThenElse(validator) => validator.check(asked, ctx),
         KeywordOver::Dependencies(validator) => validator.check(asked, ctx),
+        KeywordOver::DependentRequired(validator) => validator.check(asked, ctx),
+        KeywordOver::DependentSchemas(validator) => validator.check(asked, ctx),
         KeywordOver::PropertyNames(validator) => validator.check(asked, ctx),
         KeywordOver::PropertyNamesFalse(validator) => validator.check(asked, ctx),
         KeywordOver::PropertyDependencies(validator) => validator.check(asked, ctx),
@@ -167,15 +172,15 @@ fn first_accept_apart<A: Asked, K: Leaf, R: RegexEngine, N: Check>(
         keywords.now result }
 {
     let keyword = &keywords[0];
-    match keyword {
-        KeywordOver::Properties(properties) => {
-            if keywords.len() > 1
-                && let Some(name) = only_required_name(&keywords[1])
-            {
-                return properties_with_required_accept(properties, name, asked, ctx);
-            }
-            properties_accept(properties, asked, ctx)
+    if let Some(properties) = declared_names(keyword) {
+        if keywords.len() > 1
+            && let Some(name) = only_required_name(&keywords[1])
+        {
+            return properties_with_required_accept(properties, name, asked, ctx);
         }
+        return properties_accept(properties, asked, ctx);
+    }
+    match keyword {
         KeywordOver::PropertiesWithRequired2(properties) => {
             properties_with_required2_accept(properties, asked, ctx)
         }
@@ -185,6 +190,22 @@ fn first_accept_apart<A: Asked, K: Leaf, R: RegexEngine, N: Check>(
         KeywordOver::Required(required) => Accepted::one_if(required.check(asked, ctx)),
         KeywordOver::AnyOf(any_of) => Accepted::one_if(any_of.check(asked, ctx)),
         _ => Accepted::one_if(keyword_accepts(keyword, asked, ctx)),
+    }
+}
+
+/// The names that the keyword declares, with what stands at each, if it is `properties`.
+#[inline(always)]
+fn declared_names<K: Leaf, R: RegexEngine, N: Check>(
+    keyword: &KeywordOver<K, R, N>,
+) -> Option<Entries<'_, N>>
+    ensures { IfSome result (λ entries. (v : Data)
+        → validator_means (kit K.Leaf R.RegexEngine) N.means keyword.now v
+        ≡ properties_mean N.means entries v) }
+{
+    match keyword {
+        KeywordOver::SmallProperties(keyword) => Some(keyword.properties.entries()),
+        KeywordOver::BigProperties(keyword) => Some(keyword.properties.entries()),
+        _ => None,
     }
 }
 

@@ -5,8 +5,7 @@ ghost use Rattle.olk_spec.specs.Names.{lookup_name, is_empty};
 ghost use Rattle.olk_spec.specs.Accepts.{missing};
 ghost use Rattle.olk_spec.specs.Schemas.{listed};
 ghost use Rattle.olk_tree.specs.Questions.{always, both, every};
-ghost use Rattle.std.specs.List.{zip};
-ghost use Rattle.olk_tree.specs.Maps.{mapped, named, two_texts};
+ghost use Rattle.olk_tree.specs.Maps.{named, two_texts};
 ghost use Rattle.olk_tree.specs.Properties.{properties_mean};
 ghost use Rattle.olk_tree.specs.Visited.{object_of};
 ghost use Rattle.olk_check.specs.Asks.{Asks};
@@ -17,14 +16,19 @@ use crate::accepted::Accepted;
 use crate::required::{has_both, is_met, is_present};
 use olk_base::{Asked, ValidationContext};
 use olk_meaning::member;
-use olk_tree::entries::{SortedEntries, node_among};
-use olk_tree::properties::{Properties, SmallPropertiesWithRequired2};
-use olk_tree::validators_map::PropertiesValidatorsMap;
+use olk_tree::entries::Entries;
+use olk_tree::properties::{BigProperties, SmallProperties, SmallPropertiesWithRequired2};
 use serde_json::{Map, Value};
 
-impl<N: Check> Check for Properties<N> {
+impl<N: Check> Check for SmallProperties<N> {
     fn check<A: Asked>(&self, asked: A, ctx: &mut ValidationContext) -> bool {
-        properties_accept(self, asked, ctx).is_some()
+        properties_accept(self.properties.entries(), asked, ctx).is_some()
+    }
+}
+
+impl<N: Check> Check for BigProperties<N> {
+    fn check<A: Asked>(&self, asked: A, ctx: &mut ValidationContext) -> bool {
+        properties_accept(self.properties.entries(), asked, ctx).is_some()
     }
 }
 
@@ -37,15 +41,15 @@ impl<N: Check> Check for SmallPropertiesWithRequired2<N> {
 /// Whether each member whose name is declared is accepted, where the value is an object.
 #[inline(always)]
 pub(crate) fn properties_accept<A: Asked, N: Check>(
-    keyword: &Properties<N>,
+    properties: Entries<'_, N>,
     asked: A,
     ctx: &mut ValidationContext,
 ) -> Accepted
     ensures { AsksOne ctx.old ctx.new
-        (properties_mean N.means (mapped keyword.now.properties) (A.stands_for asked)) result }
+        (properties_mean N.means properties.entry (A.stands_for asked)) result }
 {
     match asked.as_object() {
-        Some(members) => members_accepted(keyword.properties.entries(), members, ctx),
+        Some(members) => members_accepted(properties, members, ctx),
         None => Accepted::One,
     }
 }
@@ -54,17 +58,17 @@ pub(crate) fn properties_accept<A: Asked, N: Check>(
 /// name, where the value is an object.
 #[inline(always)]
 pub(crate) fn properties_with_required_accept<A: Asked, N: Check>(
-    keyword: &Properties<N>,
+    properties: Entries<'_, N>,
     name: &str,
     asked: A,
     ctx: &mut ValidationContext,
 ) -> Accepted
     ensures { AsksTwo ctx.old ctx.new
-        (properties_mean N.means (mapped keyword.now.properties) (A.stands_for asked))
+        (properties_mean N.means properties.entry (A.stands_for asked))
         (always (is_empty (missing (name.now ∷ []) (A.stands_for asked)))) result }
 {
     match asked.as_object() {
-        Some(members) => { members_accepted_with(keyword.properties.entries(), members, name, ctx) }
+        Some(members) => { members_accepted_with(properties, members, name, ctx) }
         None => Accepted::Two,
     }
 }
@@ -92,12 +96,12 @@ pub(crate) fn properties_with_required2_accept<A: Asked, N: Check>(
 /// that asks a keyword stays small.
 #[inline(never)]
 fn members_accepted<N: Check>(
-    properties: &SortedEntries<N>,
+    properties: Entries<'_, N>,
     members: &Map<String, Value>,
     ctx: &mut ValidationContext,
 ) -> Accepted
     ensures { AsksOne ctx.old ctx.new (properties_mean N.means
-        properties.now
+        properties.entry
         (object_of members.now.entries)) result }
 {
     Accepted::one_if(all_accepted(properties, members, ctx))
@@ -107,13 +111,13 @@ fn members_accepted<N: Check>(
 /// member at the name.
 #[inline(never)]
 fn members_accepted_with<N: Check>(
-    properties: &SortedEntries<N>,
+    properties: Entries<'_, N>,
     members: &Map<String, Value>,
     name: &str,
     ctx: &mut ValidationContext,
 ) -> Accepted
     ensures { AsksTwo ctx.old ctx.new (properties_mean N.means
-        properties.now
+        properties.entry
         (object_of members.now.entries))
         (always (is_empty (missing (name.now ∷ []) (object_of members.now.entries)))) result }
 {
@@ -136,7 +140,7 @@ fn members_accepted_with_both<N: Check>(
 {
     let (first, second) = (keyword.first.as_str(), keyword.second.as_str());
     Accepted::one_if(all_accepted_with_both(
-        &keyword.properties.entries,
+        keyword.properties.entries(),
         members,
         first,
         second,
@@ -148,12 +152,12 @@ fn members_accepted_with_both<N: Check>(
 /// as long as two members that are walked.
 #[inline(always)]
 fn all_accepted<N: Check>(
-    properties: &SortedEntries<N>,
+    properties: Entries<'_, N>,
     members: &Map<String, Value>,
     ctx: &mut ValidationContext,
 ) -> bool
     ensures { Asks ctx.old ctx.new (properties_mean N.means
-        properties.now
+        properties.entry
         (object_of members.now.entries)) result }
 {
     if members.len() / 2 < properties.len() {
@@ -166,18 +170,17 @@ fn all_accepted<N: Check>(
 /// Whether each member is accepted by what is declared at its name, if anything is, member by
 /// member.
 fn each_member_accepted<N: Check>(
-    properties: &SortedEntries<N>,
+    properties: Entries<'_, N>,
     members: &Map<String, Value>,
     ctx: &mut ValidationContext,
 ) -> bool
     ensures { Asks ctx.old ctx.new (every (λ x. every (λ n. N.means n x.1) (option_to_list
-        (lookup_name x.0 properties.now)))
+        (lookup_name x.0 properties.entry)))
         (listed (members_view members.now.entries))) result }
 {
-    let entries = properties.as_slice();
     let mut hint = 0;
     for (name, value) in members {
-        let (next, declared) = node_among(entries, hint, name.as_str());
+        let (next, declared) = properties.node_from(hint, name.as_str());
         hint = next;
         if !accepted_if_declared(declared, value, ctx) {
             return false;
@@ -190,13 +193,13 @@ fn each_member_accepted<N: Check>(
 /// are walked once.
 #[inline(always)]
 fn all_accepted_with<N: Check>(
-    properties: &SortedEntries<N>,
+    properties: Entries<'_, N>,
     members: &Map<String, Value>,
     name: &str,
     ctx: &mut ValidationContext,
 ) -> bool
     ensures { Asks ctx.old ctx.new (both
-        (properties_mean N.means properties.now
+        (properties_mean N.means properties.entry
         (object_of members.now.entries))
         (always (is_empty (missing (name.now ∷ []) (object_of members.now.entries))))) result }
 {
@@ -209,25 +212,24 @@ fn all_accepted_with<N: Check>(
 
 /// The verdict of `each_member_accepted`, and whether there is a member at the name.
 fn each_member_accepted_with<N: Check>(
-    properties: &SortedEntries<N>,
+    properties: Entries<'_, N>,
     members: &Map<String, Value>,
     required: &str,
     ctx: &mut ValidationContext,
 ) -> bool
     ensures { Asks ctx.old ctx.new (both
         (every (λ x. every (λ n. N.means n x.1) (option_to_list
-        (lookup_name x.0 properties.now)))
+        (lookup_name x.0 properties.entry)))
         (listed (members_view members.now.entries)))
         (always (is_empty (missing (required.now ∷ [])
         (object_of members.now.entries))))) result }
 {
-    let entries = properties.as_slice();
     let mut hint = 0;
     let mut met = false;
     for (name, value) in members {
         let name = name.as_str();
         met = is_met(met, name, required);
-        let (next, declared) = node_among(entries, hint, name);
+        let (next, declared) = properties.node_from(hint, name);
         hint = next;
         if !accepted_if_declared(declared, value, ctx) {
             return false;
@@ -240,7 +242,7 @@ fn each_member_accepted_with<N: Check>(
 /// members are walked once.
 #[inline(always)]
 fn all_accepted_with_both<N: Check>(
-    properties: &SortedEntries<N>,
+    properties: Entries<'_, N>,
     members: &Map<String, Value>,
     first: &str,
     second: &str,
@@ -249,7 +251,7 @@ fn all_accepted_with_both<N: Check>(
     ensures { Asks ctx.old ctx.new (both
         (always (is_empty (missing (first.now ∷ second.now ∷ [])
         (object_of members.now.entries))))
-        (properties_mean N.means properties.now
+        (properties_mean N.means properties.entry
         (object_of members.now.entries))) result }
 {
     if members.len() / 2 < properties.len() {
@@ -261,7 +263,7 @@ fn all_accepted_with_both<N: Check>(
 
 /// The verdict of `each_member_accepted`, and whether there is a member at both names.
 fn each_member_accepted_with_both<N: Check>(
-    properties: &SortedEntries<N>,
+    properties: Entries<'_, N>,
     members: &Map<String, Value>,
     first: &str,
     second: &str,
@@ -271,17 +273,16 @@ fn each_member_accepted_with_both<N: Check>(
         (always (is_empty (missing (first.now ∷ second.now ∷ [])
         (object_of members.now.entries))))
         (every (λ x. every (λ n. N.means n x.1) (option_to_list
-        (lookup_name x.0 properties.now)))
+        (lookup_name x.0 properties.entry)))
         (listed (members_view members.now.entries)))) result }
 {
-    let entries = properties.as_slice();
     let mut hint = 0;
     let (mut has_first, mut has_second) = (false, false);
     for (name, value) in members {
         let name = name.as_str();
         has_first = is_met(has_first, name, first);
         has_second = is_met(has_second, name, second);
-        let (next, declared) = node_among(entries, hint, name);
+        let (next, declared) = properties.node_from(hint, name);
         hint = next;
         if !accepted_if_declared(declared, value, ctx) {
             return false;
@@ -307,16 +308,16 @@ fn accepted_if_declared<N: Check>(
 
 /// Whether each member whose name is declared is accepted, declared name by declared name.
 fn each_name_accepted<N: Check>(
-    properties: &SortedEntries<N>,
+    properties: Entries<'_, N>,
     members: &Map<String, Value>,
     ctx: &mut ValidationContext,
 ) -> bool
     ensures { Asks ctx.old ctx.new (properties_mean N.means
-        properties.now
+        properties.entry
         (object_of members.now.entries)) result }
 {
-    for entry in properties.as_slice() {
-        if !accepted_if_present(&entry.node, member(members, entry.name.as_str()), ctx) {
+    for (name, node) in properties.iter() {
+        if !accepted_if_present(node, member(members, name), ctx) {
             return false;
         }
     }

@@ -11,7 +11,6 @@ use crate::Check;
 use olk_base::{Asked, ValidationContext};
 use olk_tree::map::SmallMap;
 use olk_tree::property_dependencies::PropertyDependencies;
-use olk_tree::validators_map::PropertiesValidatorsMap;
 use serde_json::{Map, Value};
 
 impl<N: Check> Check for PropertyDependencies<N> {

@@ -1,5 +1,5 @@
 -- What is left of a walk over the members whose names are declared.
-use Rattle.std.proofs.Common.{◌≡◌, ℕ, zero, suc, ◌<◌, length, get_or, arith, Bool, true, false, cond, List, [], ◌∷◌, ◌++◌, Option, Some, None, option_to_list, String, Global, string_bytes, string_cmp, refl, sym, ap, subst, ◌∙◌}
+use Rattle.std.proofs.Common.{◌≡◌, ℕ, zero, suc, ◌<◌, ◌≤◌, length, get_or, arith, Bool, true, false, cond, List, [], ◌∷◌, ◌++◌, Option, Some, None, option_to_list, String, Global, string_bytes, string_cmp, refl, sym, ap, subst, ◌∙◌}
 use Rattle.std.specs.List.{flat_map, zip}
 use Rattle.std.specs.Ordering.{nat_cmp}
 use Rattle.std.specs.Cmp.Lexicographic.{slice_cmp}
@@ -74,6 +74,10 @@ module _ {N : Type 0} where
   no_longer (k ∷ ks) (x ∷ xs) zero lt = omega arith
   no_longer (k ∷ ks) (x ∷ xs) (suc i) lt = let l = no_longer ks xs i (omega arith) in omega arith
   no_longer _ _ i lt = absurd (omega arith)
+
+  pub no_more_than_names : (ks : List Name) (xs : List N) → length (zip ks xs) ≤ length ks
+  no_more_than_names (k ∷ ks) (x ∷ xs) = let few = no_more_than_names ks xs in omega arith
+  no_more_than_names _ _ = omega arith
 
   -- names that ascend do so where things stand beside them
   pub keys_ascend : (ks : List Name) (xs : List N) → Ascend ks → Ascend (keys_in (zip ks xs))

@@ -1,18 +1,13 @@
 //! Names in order, and what stands at each, as maps lend them.
-ghost use Rattle.std.specs.Prelude.{◌≡◌, IfSome, length, option_copied, option_map, slice_get};
+ghost use Rattle.std.specs.Prelude.{◌≡◌, ◌≤◌, IfSome, length, option_copied, option_map, slice_get};
 ghost use Rattle.std.specs.List.{enumerate_from, zip};
-ghost use Rattle.serde_json.specs.View.{members_view};
 ghost use Rattle.olk_spec.specs.Names.{lookup_name};
-ghost use Rattle.olk_spec.specs.Schemas.{listed};
 ghost use Rattle.olk_tree.specs.Entries.{each_left, NextEntry};
 ghost use Rattle.olk_tree.specs.Ascending.{Ascend};
 ghost use Rattle.olk_tree.specs.Maps.{keys_in, placed_entries};
-ghost use Rattle.olk_tree.specs.Visited.{left_of, members_declared, names_met};
 
-use crate::declared::DeclaredMembers;
 use crate::names::{SortedNames, find_apart, stands_at};
 use crate::sorted_name::SortedName;
-use serde_json::{Map, Value};
 use std::marker::Model;
 use std::slice;
 
@@ -52,7 +47,8 @@ impl<'a, N> Entries<'a, N> {
     /// How many names there are.
     #[inline(always)]
     pub fn len(&self) -> usize
-        ensures { Ascend (keys_in self.now) }
+        ensures at_least { length self.now ≤ result }
+        ensures ordered { Ascend (keys_in self.now) }
     {
         self.names.len()
     }
@@ -117,17 +113,6 @@ impl<'a, N> Entries<'a, N> {
             Some(node) => Some((self.names[place].as_str(), node)),
             None => None,
         }
-    }
-
-    /// The members whose names are declared, each with what stands at its name.
-    pub fn declared_members(self, members: &'a Map<String, Value>) -> DeclaredMembers<'a, N>
-        ensures by_members { left_of result
-            ≡ members_declared self.entry
-            (listed (members_view members.now.entries)) }
-        ensures by_names { left_of result
-            ≡ names_met self.entry (listed (members_view members.now.entries)) }
-    {
-        DeclaredMembers::of(self, members)
     }
 }
 

@@ -9,11 +9,11 @@ use Rattle.olk_check.proofs.additional_properties.declared_alone.Goals as goal
 
 pub returns-then-len : goal.returns-then-len
 returns-then-len g c =
-    let declared = c.args.properties.now in
+    let declared = c.args.properties in
     let entries = c.args.members.now.entries in
     let fewer : length declared < length (listed (members_view entries)) =
     let many = c.len.ensures.len in
-    let there = c.len-2.ensures.len in
+    let there = c.len-2.ensures.at_least in
     let more = c.if-len.true in
     let listed_each = listed_length entries in
     omega arith in

@@ -13,25 +13,25 @@ use Rattle.olk_check.proofs.additional_properties.each_declared_with.Goals as go
 pub returns-in_default : goal.returns-in_default
 returns-in_default g c =
     held_stop c.loop-name.invariant.0 (name_next c.in-Some.ensures.steps c.as_str-name.ensures.value) (always (is_empty (missing (c.args.required.now ∷ []) (object_of c.args.members.now.entries))))
-    (rw (← c.as_slice-entries.ensures.entries, ← c.node_among-next.ensures, c.in_default.is) (unasked c.loop-name.ctx false))
+    (rw (← c.node_from-next.ensures, c.in_default.is) (unasked c.loop-name.ctx false))
 
 pub loop-name-preserved-then-not-is_full : goal.loop-name-preserved-then-not-is_full
 loop-name-preserved-then-not-is_full g c =
     let next = name_next c.in-Some.ensures.steps c.as_str-name.ensures.value in (
       held_more c.loop-name.invariant.0 next (Some (c.in-Some-declared.subschema, c.in-Some.value))
-          (rw (← c.as_slice-entries.ensures.entries, ← c.node_among-next.ensures, c.in-Some-declared.is)) c.push.ensures.items,
+          (rw (← c.node_from-next.ensures, c.in-Some-declared.is)) c.push.ensures.items,
       sought_on _ c.loop-name.invariant.1 next c.is_met-met.ensures,
     )
 
 pub returns-then-not-check : goal.returns-then-not-check
 returns-then-not-check g c =
     held_stop c.loop-name.invariant.0 (name_next c.in-Some.ensures.steps c.as_str-name.ensures.value) (always (is_empty (missing (c.args.required.now ∷ []) (object_of c.args.members.now.entries))))
-    (rw (← c.as_slice-entries.ensures.entries, ← c.node_among-next.ensures, c.in-Some-declared.is) c.if-not-check.ensures)
+    (rw (← c.node_from-next.ensures, c.in-Some-declared.is) c.if-not-check.ensures)
 
 pub loop-name-preserved : goal.loop-name-preserved
 loop-name-preserved g c =
     let next = name_next c.in-Some.ensures.steps c.as_str-name.ensures.value in (
-      held_go_on c.loop-name.invariant.0 next (rw (← c.as_slice-entries.ensures.entries, ← c.node_among-next.ensures, c.in-Some-declared.is) c.if-not-check.ensures),
+      held_go_on c.loop-name.invariant.0 next (rw (← c.node_from-next.ensures, c.in-Some-declared.is) c.if-not-check.ensures),
       sought_on _ c.loop-name.invariant.1 next c.is_met-met.ensures,
     )
 

@@ -13,13 +13,13 @@ use Rattle.olk_check.proofs.properties.each_member_accepted_with.Goals as goal
 pub returns-then-not-accepted_if_declared : goal.returns-then-not-accepted_if_declared
 returns-then-not-accepted_if_declared g c = both_stop (always (is_empty (missing (c.args.required.now ∷ []) (object_of c.args.members.now.entries))))
     (all_stop c.loop-name.invariant.0 (name_next c.in-Some.ensures.steps c.as_str-name.ensures.value)
-    (rw (← c.as_slice-entries.ensures.entries, ← c.node_among-next.ensures) c.if-not-accepted_if_declared.ensures))
+    (rw (← c.node_from-next.ensures) c.if-not-accepted_if_declared.ensures))
 
 pub loop-name-preserved : goal.loop-name-preserved
 loop-name-preserved g c =
     let next = name_next c.in-Some.ensures.steps c.as_str-name.ensures.value in (
       all_go_on c.loop-name.invariant.0 next
-          (rw (← c.as_slice-entries.ensures.entries, ← c.node_among-next.ensures) c.if-not-accepted_if_declared.ensures),
+          (rw (← c.node_from-next.ensures) c.if-not-accepted_if_declared.ensures),
       sought_on _ c.loop-name.invariant.1 next c.is_met-met.ensures,
     )
 

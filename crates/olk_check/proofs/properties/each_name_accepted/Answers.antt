@@ -1,29 +1,24 @@
-use Rattle.std.proofs.Common.{◌+◌, ◌≡◌, [], drop, refl, ap}
-use Rattle.olk_tree.specs.Entries.{entries_are}
-use Rattle.std.proofs.lemmas.List.{drop_all}
-use Rattle.olk_tree.proofs.Lists.{next_at}
-use Rattle.olk_tree.proofs.Walked.{entries_more}
+use Rattle.std.proofs.Common.{◌≡◌, ap, ◌∙◌}
+use Rattle.olk_spec.specs.Schemas.{at}
+use Rattle.olk_tree.specs.Entries.{each_left}
+use Rattle.olk_tree.specs.Questions.{every}
+use Rattle.olk_tree.specs.Visited.{object_of}
+use Rattle.olk_check.proofs.Asked.{asks_as}
 use Rattle.olk_check.proofs.Walks.{all_go_on, all_stop, all_end}
 use Rattle.olk_check.proofs.properties.each_name_accepted.Goals as goal
 
 pub returns-then-not-accepted_if_present : goal.returns-then-not-accepted_if_present
 returns-then-not-accepted_if_present g c =
-    let es = c.as_slice-entry-items.result.now in
-    let next = entries_more (drop c.loop-entry.entry-index es) (drop (c.loop-entry.entry-index + 1) es) c.entry-item.result (next_at refl c.entry-item.is c.loop-entry-test.true) c.as_str.result.now c.as_str.ensures in
-    rw (← c.as_slice-entry-items.ensures.entries)
-    (all_stop c.loop-entry.invariant next
+    asks_as (ap (every (λ e. every (g.N.Means.means e.1) (at e.0 (object_of c.args.members.now.entries)))) (ap each_left c.into_iter-name-iterator.ensures.into_iter_gives ∙ c.iter-name-items.ensures))
+    (all_stop c.loop-name.invariant c.in-Some.ensures.steps
     (rw (← c.member.ensures) c.if-not-accepted_if_present.ensures))
 
-pub loop-entry-preserved : goal.loop-entry-preserved
-loop-entry-preserved g c =
-    let es = c.as_slice-entry-items.result.now in
-    let next = entries_more (drop c.loop-entry.entry-index es) (drop (c.loop-entry.entry-index + 1) es) c.entry-item.result (next_at refl c.entry-item.is c.loop-entry-test.true) c.as_str.result.now c.as_str.ensures in
-    all_go_on c.loop-entry.invariant next
+pub loop-name-preserved : goal.loop-name-preserved
+loop-name-preserved g c =
+    all_go_on c.loop-name.invariant c.in-Some.ensures.steps
     (rw (← c.member.ensures) c.if-not-accepted_if_present.ensures)
 
 pub returns : goal.returns
 returns g c =
-    let es = c.as_slice-entry-items.result.now in
-    let none : drop c.loop-entry.entry-index es ≡ [] = drop_all c.loop-entry.entry-index es c.loop-entry-test.false in
-    rw (← c.as_slice-entry-items.ensures.entries)
-    (all_end c.loop-entry.invariant (ap entries_are none))
+    asks_as (ap (every (λ e. every (g.N.Means.means e.1) (at e.0 (object_of c.args.members.now.entries)))) (ap each_left c.into_iter-name-iterator.ensures.into_iter_gives ∙ c.iter-name-items.ensures))
+    (all_end c.loop-name.invariant c.in-None.ensures.steps)
