@@ -11,13 +11,11 @@ ghost use Rattle.olk_errors.specs.Sinks.{Walks};
 use crate::{ErrorSink, Stop, Walk};
 use olk_base::{Subject, ValidationContext};
 use olk_paths::Trail;
-use olk_tree::dependencies::Dependencies;
+use olk_tree::dependencies::{Dependencies, DependentRequired, DependentSchemas};
 use olk_tree::map::SmallMap;
-use olk_tree::validators_map::PropertiesValidatorsMap;
 use serde_json::{Map, Value};
 
 impl<'a, N: Walk<'a>> Walk<'a> for Dependencies<N> {
-    #[inline(never)]
     fn walk(
         &'a self,
         node: Subject<'_, 'a>,
@@ -25,10 +23,51 @@ impl<'a, N: Walk<'a>> Walk<'a> for Dependencies<N> {
         ctx: &mut ValidationContext,
         sink: &mut ErrorSink<'a>,
     ) -> Result<(), Stop> {
-        match node.as_object() {
-            Some(members) => walk_due(&self.dependencies, members, node, trail, ctx, sink),
-            None => Ok(()),
-        }
+        walk_dependencies(&self.dependencies, node, trail, ctx, sink)
+    }
+}
+
+impl<'a, N: Walk<'a>> Walk<'a> for DependentRequired<N> {
+    fn walk(
+        &'a self,
+        node: Subject<'_, 'a>,
+        trail: &Trail<'_, 'a>,
+        ctx: &mut ValidationContext,
+        sink: &mut ErrorSink<'a>,
+    ) -> Result<(), Stop> {
+        walk_dependencies(&self.dependencies, node, trail, ctx, sink)
+    }
+}
+
+impl<'a, N: Walk<'a>> Walk<'a> for DependentSchemas<N> {
+    fn walk(
+        &'a self,
+        node: Subject<'_, 'a>,
+        trail: &Trail<'_, 'a>,
+        ctx: &mut ValidationContext,
+        sink: &mut ErrorSink<'a>,
+    ) -> Result<(), Stop> {
+        walk_dependencies(&self.dependencies, node, trail, ctx, sink)
+    }
+}
+
+/// Walks over the value with the node of each key that is a member, where it is an object.
+#[inline(never)]
+fn walk_dependencies<'a, N: Walk<'a>>(
+    dependencies: &'a SmallMap<N>,
+    node: Subject<'_, 'a>,
+    trail: &Trail<'_, 'a>,
+    ctx: &mut ValidationContext,
+    sink: &mut ErrorSink<'a>,
+) -> Result<(), Stop>
+    ensures { Walks result sink.old sink.new ctx.old ctx.new
+        (of_branches N.means N.first N.report ctx.old.answer
+        (due_nodes (named dependencies.now) (subject_data node.entry)) (subject_data node.entry)
+        (path_at trail.now)) }
+{
+    match node.as_object() {
+        Some(members) => walk_due(dependencies, members, node, trail, ctx, sink),
+        None => Ok(()),
     }
 }
 

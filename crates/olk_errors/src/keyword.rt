@@ -46,7 +46,8 @@ fn walk_validator<'a, K: Leaf, R: RegexEngine, N: Walk<'a>>(
         keyword.now (subject_data node.entry) (path_at trail.now)) }
 {
     match keyword {
-        KeywordOver::Properties(keyword) => keyword.walk(node, trail, ctx, sink),
+        KeywordOver::SmallProperties(keyword) => keyword.walk(node, trail, ctx, sink),
+        KeywordOver::BigProperties(keyword) => keyword.walk(node, trail, ctx, sink),
         KeywordOver::PropertiesWithRequired2(keyword) => keyword.walk(node, trail, ctx, sink),
         KeywordOver::Required(keyword) => keyword.walk(node, trail, ctx, sink),
         KeywordOver::AllOf(keyword) => keyword.walk(node, trail, ctx, sink),
@@ -60,6 +61,8 @@ fn walk_validator<'a, K: Leaf, R: RegexEngine, N: Walk<'a>>(
         KeywordOver::IfElse(keyword) => keyword.walk(node, trail, ctx, sink),
         KeywordOver::IfThenElse(keyword) => keyword.walk(node, trail, ctx, sink),
         KeywordOver::Dependencies(keyword) => keyword.walk(node, trail, ctx, sink),
+        KeywordOver::DependentRequired(keyword) => keyword.walk(node, trail, ctx, sink),
+        KeywordOver::DependentSchemas(keyword) => keyword.walk(node, trail, ctx, sink),
         KeywordOver::PropertyNames(keyword) => keyword.walk(node, trail, ctx, sink),
         KeywordOver::PropertyNamesFalse(keyword) => keyword.walk(node, trail, ctx, sink),
         KeywordOver::PropertyDependencies(keyword) => keyword.walk(node, trail, ctx, sink),

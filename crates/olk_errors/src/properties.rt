@@ -1,6 +1,7 @@
 //! `properties`: its errors.
 ghost use Rattle.std.specs.Prelude.{option_copied, option_to_list};
 ghost use Rattle.serde_json.specs.View.{view, members_view};
+ghost use Rattle.olk_base.specs.Nodes.{subject_data};
 ghost use Rattle.olk_spec.specs.Schemas.{listed};
 ghost use Rattle.olk_paths.specs.Paths.{one_below};
 ghost use Rattle.olk_paths.specs.Trails.{path_at};
@@ -13,13 +14,11 @@ use crate::{ErrorSink, Stop, Walk};
 use olk_base::{Subject, ValidationContext};
 use olk_paths::Trail;
 use olk_tree::declared::DeclaredMembers;
-use olk_tree::entries::{SortedEntries, node_among};
-use olk_tree::properties::{Properties, SmallPropertiesWithRequired2};
-use olk_tree::validators_map::PropertiesValidatorsMap;
+use olk_tree::entries::Entries;
+use olk_tree::properties::{BigProperties, SmallProperties, SmallPropertiesWithRequired2};
 use serde_json::{Map, Value};
 
-impl<'a, N: Walk<'a>> Walk<'a> for Properties<N> {
-    #[inline(never)]
+impl<'a, N: Walk<'a>> Walk<'a> for SmallProperties<N> {
     fn walk(
         &'a self,
         node: Subject<'_, 'a>,
@@ -27,10 +26,19 @@ impl<'a, N: Walk<'a>> Walk<'a> for Properties<N> {
         ctx: &mut ValidationContext,
         sink: &mut ErrorSink<'a>,
     ) -> Result<(), Stop> {
-        match node.as_object() {
-            Some(members) => walk_members(self.properties.entries(), members, trail, ctx, sink),
-            None => Ok(()),
-        }
+        walk_properties(self.properties.entries(), node, trail, ctx, sink)
+    }
+}
+
+impl<'a, N: Walk<'a>> Walk<'a> for BigProperties<N> {
+    fn walk(
+        &'a self,
+        node: Subject<'_, 'a>,
+        trail: &Trail<'_, 'a>,
+        ctx: &mut ValidationContext,
+        sink: &mut ErrorSink<'a>,
+    ) -> Result<(), Stop> {
+        walk_properties(self.properties.entries(), node, trail, ctx, sink)
     }
 }
 
@@ -48,10 +56,29 @@ impl<'a, N: Walk<'a>> Walk<'a> for SmallPropertiesWithRequired2<N> {
                 let location = &self.required_location;
                 report_if_missing(self.first.as_str(), location, members, node, trail, sink)?;
                 report_if_missing(self.second.as_str(), location, members, node, trail, sink)?;
-                walk_members(&self.properties.entries, members, trail, ctx, sink)
+                walk_members(self.properties.entries(), members, trail, ctx, sink)
             }
             None => Ok(()),
         }
+    }
+}
+
+/// Walks over the members whose names are declared, where the value is an object.
+#[inline(never)]
+fn walk_properties<'a, N: Walk<'a> + 'a>(
+    properties: Entries<'a, N>,
+    node: Subject<'_, 'a>,
+    trail: &Trail<'_, 'a>,
+    ctx: &mut ValidationContext,
+    sink: &mut ErrorSink<'a>,
+) -> Result<(), Stop>
+    ensures { Walks result sink.old sink.new ctx.old ctx.new
+        (of_properties N.means N.first N.report ctx.old.answer properties.entry
+        (subject_data node.entry) (path_at trail.now)) }
+{
+    match node.as_object() {
+        Some(members) => walk_members(properties, members, trail, ctx, sink),
+        None => Ok(()),
     }
 }
 
@@ -59,14 +86,14 @@ impl<'a, N: Walk<'a>> Walk<'a> for SmallPropertiesWithRequired2<N> {
 /// as two members that are walked.
 #[inline(always)]
 fn walk_members<'a, N: Walk<'a> + 'a>(
-    properties: &'a SortedEntries<N>,
+    properties: Entries<'a, N>,
     members: &'a Map<String, Value>,
     trail: &Trail<'_, 'a>,
     ctx: &mut ValidationContext,
     sink: &mut ErrorSink<'a>,
 ) -> Result<(), Stop>
     ensures { Walks result sink.old sink.new ctx.old ctx.new
-        (of_properties N.means N.first N.report ctx.old.answer properties.now
+        (of_properties N.means N.first N.report ctx.old.answer properties.entry
         (object_of members.now.entries) (path_at trail.now)) }
 {
     if members.len() / 2 < properties.len() {
@@ -79,21 +106,20 @@ fn walk_members<'a, N: Walk<'a> + 'a>(
 /// Walks over the members whose names are declared, member by member.
 #[inline(never)]
 fn walk_each_member<'a, N: Walk<'a> + 'a>(
-    properties: &'a SortedEntries<N>,
+    properties: Entries<'a, N>,
     members: &'a Map<String, Value>,
     trail: &Trail<'_, 'a>,
     ctx: &mut ValidationContext,
     sink: &mut ErrorSink<'a>,
 ) -> Result<(), Stop>
     ensures { Walks result sink.old sink.new ctx.old ctx.new
-        (of_declared N.means N.first N.report ctx.old.answer (members_declared properties.now
+        (of_declared N.means N.first N.report ctx.old.answer (members_declared properties.entry
         (listed (members_view members.now.entries))) (path_at trail.now)) }
 {
-    let entries = properties.as_slice();
     let mut hint = 0;
     for (name, value) in members {
         let name = name.as_str();
-        let (next, declared) = node_among(entries, hint, name);
+        let (next, declared) = properties.node_from(hint, name);
         hint = next;
         walk_if_declared(declared, name, value, trail, ctx, sink)?;
     }
@@ -124,14 +150,14 @@ fn walk_if_declared<'a, N: Walk<'a>>(
 /// Walks over the members whose names are declared, declared name by declared name.
 #[inline(never)]
 fn walk_each_name<'a, N: Walk<'a> + 'a>(
-    properties: &'a SortedEntries<N>,
+    properties: Entries<'a, N>,
     members: &'a Map<String, Value>,
     trail: &Trail<'_, 'a>,
     ctx: &mut ValidationContext,
     sink: &mut ErrorSink<'a>,
 ) -> Result<(), Stop>
     ensures { Walks result sink.old sink.new ctx.old ctx.new
-        (of_properties N.means N.first N.report ctx.old.answer properties.now
+        (of_properties N.means N.first N.report ctx.old.answer properties.entry
         (object_of members.now.entries) (path_at trail.now)) }
 {
     for (name, subschema, value) in DeclaredMembers::of(properties, members) {

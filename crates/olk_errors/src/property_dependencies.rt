@@ -14,7 +14,6 @@ use olk_base::{Subject, ValidationContext};
 use olk_paths::Trail;
 use olk_tree::map::SmallMap;
 use olk_tree::property_dependencies::PropertyDependencies;
-use olk_tree::validators_map::PropertiesValidatorsMap;
 use serde_json::{Map, Value};
 
 impl<'a, N: Walk<'a>> Walk<'a> for PropertyDependencies<N> {

@@ -4,9 +4,13 @@ use Rattle.olk_check.proofs.Asked.{only_same}
 use Rattle.olk_errors.proofs.Sinks.{walks_alone}
 use Rattle.olk_errors.proofs.keyword.walk_validator.Goals as goal
 
-pub returns-in-Properties : goal.returns-in-Properties
+pub returns-in-SmallProperties : goal.returns-in-SmallProperties
 unfolding answers_of
-returns-in-Properties g c = rw c.in-Properties.is c.walk.ensures
+returns-in-SmallProperties g c = rw c.in-SmallProperties.is c.walk.ensures
+
+pub returns-in-BigProperties : goal.returns-in-BigProperties
+unfolding answers_of
+returns-in-BigProperties g c = rw c.in-BigProperties.is c.walk-in-BigProperties.ensures
 
 pub returns-in-PropertiesWithRequired2 : goal.returns-in-PropertiesWithRequired2
 unfolding answers_of
@@ -59,6 +63,14 @@ returns-in-IfThenElse g c = rw c.in-IfThenElse.is (rw (sym c.deref-in-IfThenElse
 pub returns-in-Dependencies : goal.returns-in-Dependencies
 unfolding answers_of
 returns-in-Dependencies g c = rw c.in-Dependencies.is c.walk-in-Dependencies.ensures
+
+pub returns-in-DependentRequired : goal.returns-in-DependentRequired
+unfolding answers_of
+returns-in-DependentRequired g c = rw c.in-DependentRequired.is c.walk-in-DependentRequired.ensures
+
+pub returns-in-DependentSchemas : goal.returns-in-DependentSchemas
+unfolding answers_of
+returns-in-DependentSchemas g c = rw c.in-DependentSchemas.is c.walk-in-DependentSchemas.ensures
 
 pub returns-in-PropertyNames : goal.returns-in-PropertyNames
 unfolding answers_of

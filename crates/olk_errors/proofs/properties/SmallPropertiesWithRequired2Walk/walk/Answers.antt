@@ -37,7 +37,7 @@ returns-in_ok-report_if_missing-in-Some-2 g c =
     let members = of_properties g.N.Means.means g.N.Reports.first g.N.Reports.report c.args.ctx.now.answer (named c.args.self.now.properties) in
     walks_same (two_then_members (λ v. members v (path_at c.args.trail.now)) (path_at c.args.trail.now) c.as_str.ensures.value c.as_str-in-Some.ensures.value refl
     (object_is (subject_data c.args.node) (members_view c.in-Some.members.now.entries) c.in-Some.ensures))
-    (walks_after (goes_after c.in_ok-report_if_missing-in-Some.ensures.so c.in_ok-report_if_missing-in-Some-2.ensures.so) (only_same c.args.ctx.now) c.walk_members.ensures)
+    (walks_after (goes_after c.in_ok-report_if_missing-in-Some.ensures.so c.in_ok-report_if_missing-in-Some-2.ensures.so) (only_same c.args.ctx.now) (walks_same (λ i. of_properties g.N.Means.means g.N.Reports.first g.N.Reports.report c.args.ctx.now.answer (c.entries.ensures i) (object (members_view c.in-Some.members.now.entries)) (path_at c.args.trail.now)) c.walk_members.ensures))
 
 pub returns-in-None : goal.returns-in-None
 returns-in-None g c = walks_past (only_same c.args.ctx.now) (λ i. after

@@ -3,8 +3,8 @@ use Rattle.olk_tree.proofs.Due.{none_due}
 use Rattle.olk_tree.specs.Maps.{named}
 use Rattle.olk_check.proofs.Asked.{only_same}
 use Rattle.olk_errors.proofs.Due.{past_none}
-use Rattle.olk_errors.proofs.dependencies.DependenciesWalk.walk.Goals as goal
+use Rattle.olk_errors.proofs.dependencies.walk_dependencies.Goals as goal
 
 pub returns-in-None : goal.returns-in-None
 returns-in-None g c = past_none g.N.Means.means g.N.Reports.first g.N.Reports.report c.args.ctx.now.answer _ _
-    (only_same c.args.ctx.now) (none_due (subject_data c.args.node) c.in-None.ensures (named c.args.self.now.dependencies))
+    (only_same c.args.ctx.now) (none_due (subject_data c.args.node) c.in-None.ensures (named c.args.dependencies.now))
