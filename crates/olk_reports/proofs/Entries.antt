@@ -9,9 +9,7 @@ use Rattle.olk_reports.specs.declared.evaluation.ErrorDescription.{ErrorDescript
 use Rattle.olk_spec.specs.Tree.{Described, Tree, node, leaf_node, Trees, no_tree, and_tree, errors, errors_of, annotations, annotations_of}
 use Rattle.olk_reports.specs.Evaluations.{tree_of, trees_in, tree_children, tree_errors, tree_schema_path, tree_instance_path, described_of}
 use Rattle.olk_reports.specs.Entries.{own_errors, own_annotations}
-use Rattle.olk_reports.specs.declared.evaluation.EvaluationNode.{EvaluationNode, out-EvaluationNode}
-use Rattle.olk_reports.specs.declared.evaluation.EvaluationResult.{out-EvaluationResult}
-use Rattle.olk_reports.proofs.Evaluations.{children_of}
+use Rattle.olk_reports.specs.declared.evaluation.EvaluationNode.{EvaluationNode}
 
 errors_of-each : (ts : Trees) → errors_of ts ≡ flat_map errors (trees_in ts)
 errors_of-each no_tree = refl
@@ -30,18 +28,18 @@ annotations_parts (node P Q b a es ts) = ap (λ l. own_annotations (node P Q b a
 annotations_parts (leaf_node P Q es) = refl
 
 -- its own errors, and then those of each node below
-pub errors_below : (n : EvaluationNode) → errors (tree_of n) ≡ own_errors (tree_of n) ++ flat_map (λ m. errors (tree_of m)) (out-EvaluationResult (out-EvaluationNode n).result).children.items
-errors_below n =
-    errors_parts (tree_of n)
-    ∙ ap (λ ts. own_errors (tree_of n) ++ flat_map errors ts) (children_of n)
-    ∙ ap (λ l. own_errors (tree_of n) ++ l) (flat_map-map errors tree_of _)
+module _ (t : Tree) (ns : List EvaluationNode) (below : map tree_of ns ≡ tree_children t) where
+  pub errors_below : errors t ≡ own_errors t ++ flat_map (λ m. errors (tree_of m)) ns
+  errors_below =
+      errors_parts t
+      ∙ ap (λ ts. own_errors t ++ flat_map errors ts) (sym below)
+      ∙ ap (λ l. own_errors t ++ l) (flat_map-map errors tree_of ns)
 
-pub annotations_below : (n : EvaluationNode) → annotations (tree_of n) ≡ own_annotations (tree_of n) ++ flat_map (λ m. annotations (tree_of m))
-    (out-EvaluationResult (out-EvaluationNode n).result).children.items
-annotations_below n =
-    annotations_parts (tree_of n)
-    ∙ ap (λ ts. own_annotations (tree_of n) ++ flat_map annotations ts) (children_of n)
-    ∙ ap (λ l. own_annotations (tree_of n) ++ l) (flat_map-map annotations tree_of _)
+  pub annotations_below : annotations t ≡ own_annotations t ++ flat_map (λ m. annotations (tree_of m)) ns
+  annotations_below =
+      annotations_parts t
+      ∙ ap (λ ts. own_annotations t ++ flat_map annotations ts) (sym below)
+      ∙ ap (λ l. own_annotations t ++ l) (flat_map-map annotations tree_of ns)
 
 -- a walk over the nodes below that has come to its end
 pub below_end : {X Y : Type 0} (f : X → List Y) (items below : List X) (i : ℕ) (before between after own all : List Y) →
