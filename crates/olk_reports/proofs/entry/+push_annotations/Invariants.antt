@@ -10,4 +10,4 @@ abbrev pub invariant-loop-child : goal.invariant-loop-child
 invariant-loop-child l = map annotation_of l.entries.items ≡ map annotation_of l.initial.entries.items ++ flat_map (λ m. annotations (tree_of m)) (take l.child-index l.child-items)
 
 abbrev pub decreases-push_annotations : goal.decreases-push_annotations
-decreases-push_annotations l = tree_size (tree_of l.node)
+decreases-push_annotations l = tree_size (tree_of l.node.now)

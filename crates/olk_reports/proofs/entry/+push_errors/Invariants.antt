@@ -10,4 +10,4 @@ abbrev pub invariant-loop-child : goal.invariant-loop-child
 invariant-loop-child l = map error_of l.entries.items ≡ map error_of l.initial.entries.items ++ flat_map (λ m. errors (tree_of m)) (take l.child-index l.child-items)
 
 abbrev pub decreases-push_errors : goal.decreases-push_errors
-decreases-push_errors l = tree_size (tree_of l.node)
+decreases-push_errors l = tree_size (tree_of l.node.now)
