@@ -74,7 +74,8 @@ pub some_matches_shown : (ns : List Name) (P Q : Path) {s r old new : Shown} →
     → ShowsMore (accepted (matches_shown ns P Q)) old new
 some_matches_shown [] P Q e none names below = cc
 some_matches_shown (n ∷ ns) P Q {old = old} e none names below =
-    shows_one (record { like = (refl, refl, refl, refl, tt, tt); verdict = refl }) (below ∙ ap (λ r. with_children (node_at P Q r ∷ []) old) (names ∙ ap (annotated (n ∷ ns)) none))
+    let child : IsShown (node P Q true (Some (n ∷ ns)) [] no_tree, true) (node_at P Q (annotated (n ∷ ns) nothing_shown)) = record { like = (refl, refl, refl, refl, tt, tt); verdict = refl } in
+    shows_one child (below ∙ ap (λ r. with_children (node_at P Q r ∷ []) old) (names ∙ ap (annotated (n ∷ ns)) none))
 
 faults_emptiness : (b : Bool) (xs : List (Name × Data)) (v : Data) (P Q : Path) → is_empty (unexpected_faults b xs v P Q) ≡ is_empty xs
 faults_emptiness b [] v P Q = refl

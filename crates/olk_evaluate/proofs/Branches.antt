@@ -13,8 +13,8 @@ use Rattle.olk_evaluate.specs.Wanted.{AreShown, IsShown, ShowsAccepting, ShowsMo
 use Rattle.olk_evaluate.proofs.Children.{all_wanted, shown_as, result_shown, plain_shown, branches_wanted, from_nothing}
 
 -- how many nodes stand below a result
-pub counted : {ns : List EvaluationNode} {ts : List Tree} {count : ℕ} → map tree_of ns ≡ ts → count ≡ length ns → count ≡ length ts
-counted {ns} below len = len ∙ sym (length-map ns tree_of) ∙ ap length below
+pub counted : (ns : List EvaluationNode) {ts : List Tree} {count : ℕ} → map tree_of ns ≡ ts → count ≡ length ns → count ≡ length ts
+counted ns below len = len ∙ sym (length-map ns tree_of) ∙ ap length below
 
 module _ {N : Type 0} (t : N → Bool → Data → Path → Tree) (m : N → Data → Question) (u : Bool) (v : Data) (P Q : Path) where
   abbrev pub accepts_here : N → Bool

@@ -130,6 +130,10 @@ those_next f {rest = rest} {x} next e = ap (filter_once f) next ∙ ap (λ b. pu
 pub shown_there : {w : Wanted} {P R Q S : Path} (s : Shown) → P ≡ R → Q ≡ S → IsShown w (node_at R S s) → IsShown w (node_at P Q s)
 shown_there {w} s p q h = subst (IsShown w) (λ i. node_at (sym p i) (sym q i) s) h
 
+-- a node that is made at a path, and put below
+pub put_at : (P : Path) (s o : Shown) {Q R : Path} {r : Shown} {t : Tree} → t ≡ node_at P Q s → Q ≡ R → r ≡ with_children (t ∷ []) o → r ≡ with_children (node_at P R s ∷ []) o
+put_at P s o made same added = added ∙ ap (λ t. with_children (t ∷ []) o) (made ∙ ap (λ Q. node_at P Q s) same)
+
 pub shows_one : {w : Wanted} {t : Tree} {o r : Shown} → IsShown w t → r ≡ with_children (t ∷ []) o → ShowsMore (w ∷ []) o r
 shows_one {t = t} h is = record { added = t ∷ []; is = is; shown = (h, tt) }
 

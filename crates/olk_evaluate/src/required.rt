@@ -100,7 +100,7 @@ pub(crate) fn add_missing_child<'a, N>(
     if has_member(members, first) & has_member(members, second) {
         return Ok(());
     }
-    let mut shown = EvaluationResult::valid_empty(outcome.allocator());
+    let mut shown: EvaluationResult<'a> = EvaluationResult::valid_empty(outcome.allocator());
     add_error_if_missing(&mut shown, first, members, node)?;
     add_error_if_missing(&mut shown, second, members, node)?;
     add_child_at(keyword.required_location.as_str(), path, shown, outcome)
@@ -124,7 +124,7 @@ pub(crate) fn add_missing_name<'a>(
     if has_member(members, name) {
         return Ok(());
     }
-    let mut shown = EvaluationResult::valid_empty(outcome.allocator());
+    let mut shown: EvaluationResult<'a> = EvaluationResult::valid_empty(outcome.allocator());
     let kind: ValidationErrorKind<'a> = ValidationErrorKind::Required { property: name };
     shown.mark_errored_by(kind, node.node())?;
     add_child_at(location.as_str(), path, shown, outcome)

@@ -125,7 +125,7 @@ fn add_matches<'a>(
     if matched.is_empty() {
         return Ok(());
     }
-    let mut shown = EvaluationResult::valid_empty(outcome.allocator());
+    let mut shown: EvaluationResult<'a> = EvaluationResult::valid_empty(outcome.allocator());
     shown.annotate(matched);
     add_child_at(location, path, shown, outcome)
 }

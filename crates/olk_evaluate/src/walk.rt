@@ -24,9 +24,11 @@ pub(crate) fn add_child<'a, N: Located<'a>>(
         schema.now (subject_data node.entry) ctx.old.path ∷ [])
         (shown_of outcome.old) (shown_of outcome.new)) }
 {
-    let mut shown = EvaluationResult::valid_empty(outcome.allocator());
+    let mut shown: EvaluationResult<'a> = EvaluationResult::valid_empty(outcome.allocator());
     schema.show(node, ctx, &mut shown)?;
-    add_child_at(schema.location(), &ctx.path, shown, outcome)
+    // The path is written first, so that what is shown is moved but once.
+    let instance_path = PathText::from_str(outcome.allocator(), ctx.path.as_str())?;
+    outcome.add_child(EvaluationNode::at(schema.location(), instance_path, shown))
 }
 
 /// One child more: what is shown at these places.

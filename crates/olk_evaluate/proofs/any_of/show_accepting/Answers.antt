@@ -33,7 +33,7 @@ returns-in_ok-show_each g c = record {
   shown =
       let found = leaves_none c.loop-schema.invariant (ap (filter_once (λ n. (g.N.Means.means n (subject_data c.args.node)).accepts c.args.ctx.now.validation.answer))
       (past_end c.deref-schema-items.ensures.value c.loop-schema-test.false)) (shows_none (shown_of c.loop-schema.outcome)) in
-      all_refused g.N.Show.tree g.N.Means.means c.args.ctx.now.validation.answer (subject_data c.args.node) c.args.ctx.now.path c.args.ctx.now.path c.args.schemas.now.items c.requires c.loop-schema.outcome found (counted c.children.ensures.nodes c.len-count.ensures)
+      all_refused g.N.Show.tree g.N.Means.means c.args.ctx.now.validation.answer (subject_data c.args.node) c.args.ctx.now.path c.args.ctx.now.path c.args.schemas.now.items c.requires c.loop-schema.outcome found (counted _ c.children-count.ensures.nodes refl)
       c.if-count-eq0.true
       (as_before (λ u Q. ShowsMore (each_wanted g.N.Show.tree g.N.Means.means u c.args.schemas.now.items (subject_data c.args.node) Q) (shown_of c.loop-schema.outcome) (shown_of c.show_each.new.outcome))
       c.loop-schema.invariant.kept c.in_ok-show_each.ensures.shown) c.mark_invalid.ensures;
@@ -49,6 +49,6 @@ returns-else-count-eq0 g c = record {
       let found = leaves_none c.loop-schema.invariant (ap (filter_once (λ n. (g.N.Means.means n (subject_data c.args.node)).accepts c.args.ctx.now.validation.answer))
       (past_end c.deref-schema-items.ensures.value c.loop-schema-test.false)) (shows_none (shown_of c.loop-schema.outcome)) in
       accepting_alone g.N.Show.tree g.N.Means.means c.args.ctx.now.validation.answer (subject_data c.args.node) c.args.ctx.now.path c.args.ctx.now.path c.args.schemas.now.items c.requires c.loop-schema.outcome found
-      (counted c.children.ensures.nodes c.len-count.ensures) c.if-count-eq0.false;
+      (counted _ c.children-count.ensures.nodes refl) c.if-count-eq0.false;
   kept = c.loop-schema.invariant.kept;
 }
