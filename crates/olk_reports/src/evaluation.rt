@@ -242,6 +242,22 @@ impl<'a> EvaluationResult<'a> {
             ≡ with_children (tree_of child.entry ∷ []) (shown_of self.old)) }
         ensures refused { OnErr result (shown_of self.new ≡ shown_of self.old) }
     {
+        if self.children.len() == self.children.capacity() {
+            return self.add_child_growing(child);
+        }
+        self.valid &= child.valid();
+        self.children.push_reserved(child);
+        Ok(())
+    }
+
+    /// The same, where there is no room. Apart, so that a child is moved but once where there is.
+    #[cold]
+    #[inline(never)]
+    fn add_child_growing(&mut self, child: EvaluationNode<'a>) -> Result<(), AllocError>
+        ensures added { OnOk result (shown_of self.new
+            ≡ with_children (tree_of child.entry ∷ []) (shown_of self.old)) }
+        ensures refused { OnErr result (shown_of self.new ≡ shown_of self.old) }
+    {
         self.children.reserve(1)?;
         self.valid &= child.valid();
         self.children.push_reserved(child);
