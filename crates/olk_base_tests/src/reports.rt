@@ -524,7 +524,11 @@ fn parts<'a>(
 fn above_one(alloc: Global) -> Result<String, AllocError> {
     let mut nodes = Vec::new(alloc);
     push_node(alloc, &mut nodes, "node", "/oneOf/0", Vec::new(alloc))?;
-    parts(alloc, "/oneOf", EvaluationResult::from_children(alloc, nodes))
+    parts(
+        alloc,
+        "/oneOf",
+        EvaluationResult::from_children(alloc, nodes),
+    )
 }
 
 /// A result below which an invalid node is put, and a valid one behind it.

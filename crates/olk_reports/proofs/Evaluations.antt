@@ -8,7 +8,7 @@ use Rattle.std.proofs.lemmas.List.{map-append}
 use Rattle.serde_json.specs.Data.{Data}
 use Rattle.olk_spec.specs.Names.{Name, Path}
 use Rattle.olk_spec.specs.Faults.{Kind, fault}
-use Rattle.olk_spec.specs.Tree.{Tree, Described, trees_from, is_valid}
+use Rattle.olk_spec.specs.Tree.{Tree, Described, is_valid}
 use Rattle.olk_reports.specs.Evaluations.{Shown, shown, shown_valid, shown_annotation, shown_errors, shown_children, IsConsistent, tree_of, node_at, errored, AddsErrors, IsDescribedBy, with_children, with_names, called_invalid, described_of, tree_schema_path, tree_instance_path, tree_annotation, tree_errors, tree_children}
 use Rattle.olk_reports.specs.Shown.{trees_in-from}
 use Rattle.olk_reports.specs.declared.evaluation.ErrorDescription.{ErrorDescription}

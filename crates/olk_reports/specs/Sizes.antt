@@ -1,5 +1,5 @@
 -- Each node below a result has fewer nodes below it than the result has.
-use Rattle.std.specs.Prelude.{◌≡◌, ℕ, ◌+◌, ◌≤◌, max, true, false, List, [], ◌∷◌, map}
+use Rattle.std.specs.Prelude.{◌≡◌, ◌+◌, ◌≤◌, max, true, false, List, [], ◌∷◌, map}
 use Rattle.std.proofs.Common.{arith, refl}
 use Rattle.olk_spec.specs.Names.{Path}
 use Rattle.olk_spec.specs.Tree.{trees_from}

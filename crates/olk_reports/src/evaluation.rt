@@ -77,7 +77,6 @@ pub struct EvaluationResult<'a> {
 impl<'a> Model for EvaluationResult<'a> {
     ghost use Rattle.std.specs.Prelude.{ℕ, map, option_map};
     ghost use Rattle.olk_reports.specs.Shown.{Shown, shown, IsConsistent, described_of, shown_size};
-
     ghost use Rattle.olk_reports.specs.Codes.{shown_code};
 
     ghost Value = { Shown };
@@ -341,11 +340,7 @@ impl<'a> EvaluationNode<'a> {
 
     /// The result at these places.
     #[inline(always)]
-    pub fn at(
-        schema_path: &'a str,
-        instance_path: PathText,
-        outcome: EvaluationResult<'a>,
-    ) -> Self
+    pub fn at(schema_path: &'a str, instance_path: PathText, outcome: EvaluationResult<'a>) -> Self
         ensures { tree_of result ≡ node_at schema_path.now instance_path
             (shown_of outcome.entry) }
     {
