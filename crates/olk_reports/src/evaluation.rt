@@ -257,9 +257,9 @@ impl<'a> EvaluationResult<'a> {
             ≡ with_children (tree_of child.entry ∷ []) (shown_of self.old)) }
         ensures refused { OnErr result (shown_of self.new ≡ shown_of self.old) }
     {
-        self.children.reserve(1)?;
-        self.valid &= child.valid();
-        self.children.push_reserved(child);
+        let valid = child.valid();
+        self.children.push(child)?;
+        self.valid &= valid;
         Ok(())
     }
 
