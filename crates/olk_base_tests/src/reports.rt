@@ -396,13 +396,6 @@ fn fill<'a>(
     String::from_str(alloc, "/i")
 }
 
-/// Puts the nodes below a result, which is invalid where one of them is.
-fn put_below<'a>(outcome: &mut EvaluationResult<'a>, nodes: Vec<EvaluationNode<'a>>) {
-    let are_valid = nodes.iter().all(|node| node.valid());
-    outcome.children = nodes;
-    outcome.mark_invalid_unless(are_valid);
-}
-
 /// Adds a node that annotates its place, with the error of the tree there.
 fn push_node<'a>(
     alloc: Global,
@@ -411,8 +404,7 @@ fn push_node<'a>(
     place: &'a str,
     children: Vec<EvaluationNode<'a>>,
 ) -> Result<(), AllocError> {
-    let mut outcome = EvaluationResult::valid_empty(alloc);
-    put_below(&mut outcome, children);
+    let mut outcome = EvaluationResult::from_children(alloc, children);
     let path = fill(alloc, &mut outcome, tree, place)?;
     push(nodes, EvaluationNode::new(place, path, outcome))
 }
@@ -532,9 +524,23 @@ fn parts<'a>(
 fn above_one(alloc: Global) -> Result<String, AllocError> {
     let mut nodes = Vec::new(alloc);
     push_node(alloc, &mut nodes, "node", "/oneOf/0", Vec::new(alloc))?;
+    parts(
+        alloc,
+        "/oneOf",
+        EvaluationResult::from_children(alloc, nodes),
+    )
+}
+
+/// A result below which an invalid node is put, and a valid one behind it.
+fn above_two(alloc: Global) -> Result<String, AllocError> {
+    let mut refused = EvaluationResult::valid_empty(alloc);
+    refused.mark_invalid();
+    let accepted = EvaluationResult::valid_empty(alloc);
     let mut outcome = EvaluationResult::valid_empty(alloc);
-    put_below(&mut outcome, nodes);
-    parts(alloc, "/oneOf", outcome)
+    outcome.reserve_children(2)?;
+    outcome.add_child(EvaluationNode::new("/allOf/0", String::new(alloc), refused))?;
+    outcome.add_child(EvaluationNode::new("/allOf/1", String::new(alloc), accepted))?;
+    parts(alloc, "/allOf", outcome)
 }
 
 fn invalid(alloc: Global) -> Result<String, AllocError> {
@@ -547,6 +553,7 @@ fn invalid(alloc: Global) -> Result<String, AllocError> {
 fn evaluation(alloc: Global, word: &str) -> Result<String, Fail> {
     let text = match word {
         "node" => above_one(alloc),
+        "two nodes" => above_two(alloc),
         "invalid" => invalid(alloc),
         "empty" => parts(alloc, "", EvaluationResult::valid_empty(alloc)),
         _ => entries(alloc, word),
@@ -555,13 +562,14 @@ fn evaluation(alloc: Global, word: &str) -> Result<String, Fail> {
 }
 
 // Four trees of three levels: whether the root is valid, and the places that err and that annotate,
-// parent first. Then three roots: whether it is valid, its places, whether it annotates, how many
+// parent first. Then four roots: whether it is valid, its places, whether it annotates, how many
 // errors and children it has, and how many errors the tree has.
 const EVALUATIONS: &str = r#"no error | true: : /allOf /allOf/0 /allOf/0/x /allOf/1 .
 four errors | false: /allOf /allOf/0 /allOf/0/x /allOf/1 : .
 inner error | false: /allOf/0/x : /allOf/1 .
 outer error | false: /allOf/0 : /allOf/0/x /allOf/1 .
 node | (true, "/oneOf", "") (false, 0, 1) 0
+two nodes | (false, "/allOf", "") (false, 0, 2) 0
 invalid | (false, "/oneOf", "") (false, 0, 0) 0
 empty | (true, "", "") (false, 0, 0) 0"#;
 

@@ -23,7 +23,7 @@ use Rattle.olk_tree.specs.AdditionalAgreement.{member_accepted}
 use Rattle.olk_tree.specs.AdditionalProperties.{additional_properties_answers}
 use Rattle.olk_tree.specs.Shown.{missing_trees}
 use Rattle.olk_tree.proofs.Members_met.{object_is}
-use Rattle.olk_reports.specs.Evaluations.{AddsErrors, Shown, shown, nothing_shown, shown_of, annotated, with_below, node_at}
+use Rattle.olk_reports.specs.Evaluations.{AddsErrors, Shown, shown, nothing_shown, shown_of, annotated, with_children, node_at}
 use Rattle.olk_reports.specs.declared.evaluation.EvaluationResult.{EvaluationResult}
 use Rattle.olk_check.proofs.Together.{each_is_all}
 use Rattle.olk_evaluate.specs.Shows.{Shows}
@@ -32,7 +32,7 @@ use Rattle.olk_evaluate.specs.Additional.{Collects, names_of, nodes_wanted, memb
 use Rattle.olk_evaluate.specs.declared.EvaluationContext.{EvaluationContext}
 use Rattle.olk_evaluate.specs.declared.additional_members.Collected.{Collected}
 use Rattle.olk_evaluate.specs.declared.sides.Beside.{Beside}
-use Rattle.olk_evaluate.proofs.Children.{trees_wanted, all_wanted, same_trees, shown_as, shows_nothing, shows_none, shows_both, shows_valid, from_nothing}
+use Rattle.olk_evaluate.proofs.Children.{trees_wanted, all_wanted, same_trees, shown_as, shows_nothing, shows_none, shows_both, shows_one, from_nothing}
 use Rattle.olk_evaluate.proofs.OwnErrors.{all_there, complete_shown}
 use Rattle.olk_evaluate.proofs.Shows.{shows_weaker}
 use Rattle.olk_evaluate.proofs.Patterns.{no_object, nothing_each}
@@ -70,12 +70,12 @@ pub no_match_shown : (ns : List Name) (P Q : Path) (s : Shown) → true ≡ is_e
 no_match_shown [] P Q s e = shows_none s
 no_match_shown (n ∷ ns) P Q s e = cc
 
--- a node is put below old, and its result annotated then
-pub some_matches_shown : (ns : List Name) (P Q R : Path) {s r old new : Shown} → Q ≡ R → false ≡ is_empty ns → s ≡ nothing_shown → r ≡ annotated ns s → new ≡ with_below (node_at P Q r ∷ []) old
-    → ShowsMore (accepted (matches_shown ns P R)) old new
-some_matches_shown [] P Q R same e none names below = cc
-some_matches_shown (n ∷ ns) P Q R {old = old} same e none names below =
-    shows_valid (record { like = (refl, refl, refl, refl, tt, tt); verdict = refl }) (below ∙ (λ i. with_below (node_at P (same i) ((names ∙ ap (annotated (n ∷ ns)) none) i) ∷ []) old)) refl
+pub some_matches_shown : (ns : List Name) (P Q : Path) {s r old new : Shown} → false ≡ is_empty ns → s ≡ nothing_shown → r ≡ annotated ns s → new ≡ with_children (node_at P Q r ∷ []) old
+    → ShowsMore (accepted (matches_shown ns P Q)) old new
+some_matches_shown [] P Q e none names below = cc
+some_matches_shown (n ∷ ns) P Q {old = old} e none names below =
+    let child : IsShown (node P Q true (Some (n ∷ ns)) [] no_tree, true) (node_at P Q (annotated (n ∷ ns) nothing_shown)) = record { like = (refl, refl, refl, refl, tt, tt); verdict = refl } in
+    shows_one child (below ∙ ap (λ r. with_children (node_at P Q r ∷ []) old) (names ∙ ap (annotated (n ∷ ns)) none))
 
 faults_emptiness : (b : Bool) (xs : List (Name × Data)) (v : Data) (P Q : Path) → is_empty (unexpected_faults b xs v P Q) ≡ is_empty xs
 faults_emptiness b [] v P Q = refl

@@ -1,17 +1,20 @@
 -- Branches that accept, and those that refuse.
 use Rattle.std.proofs.lemmas.List.{length-map}
-use Rattle.std.proofs.Common.{◌≡◌, ℕ, arith, length, vec_len, Bool, true, false, not, cond, ◌||◌, List, [], ◌∷◌, None, refl, sym, ap, ◌∙◌, ◌&&◌}
+use Rattle.std.proofs.Common.{◌≡◌, ℕ, arith, length, map, Bool, true, false, not, cond, ◌||◌, List, [], ◌∷◌, None, refl, sym, ap, ◌∙◌, ◌&&◌}
 use Rattle.serde_json.specs.Data.{Data}
 use Rattle.olk_spec.specs.Names.{Path, filter_once, put_if, is_empty}
 use Rattle.olk_spec.specs.Tree.{Tree, is_valid, plain, result}
 use Rattle.std.specs.List.{list_all}
-use Rattle.olk_reports.specs.Evaluations.{Shown, shown, shown_of, nothing_shown, called_invalid, node_at, tree_of}
-use Rattle.olk_reports.specs.declared.evaluation.EvaluationResult.{EvaluationResult, out-EvaluationResult}
-use Rattle.olk_reports.proofs.Evaluations.{parts_of_shown}
+use Rattle.olk_reports.specs.Evaluations.{Shown, shown, shown_children, nothing_shown, called_invalid, node_at, tree_of}
+use Rattle.olk_reports.specs.declared.evaluation.EvaluationNode.{EvaluationNode}
 use Rattle.olk_tree.specs.Questions.{Question, some}
 use Rattle.olk_tree.specs.Shown.{branch_trees, any_of_tree}
 use Rattle.olk_evaluate.specs.Wanted.{AreShown, IsShown, ShowsAccepting, ShowsMore, ShowsThese, each_wanted}
 use Rattle.olk_evaluate.proofs.Children.{all_wanted, shown_as, result_shown, plain_shown, branches_wanted, from_nothing}
+
+-- how many nodes stand below a result
+pub counted : (ns : List EvaluationNode) {ts : List Tree} {count : ℕ} → map tree_of ns ≡ ts → count ≡ length ns → count ≡ length ts
+counted ns below len = len ∙ sym (length-map ns tree_of) ∙ ap length below
 
 module _ {N : Type 0} (t : N → Bool → Data → Path → Tree) (m : N → Data → Question) (u : Bool) (v : Data) (P Q : Path) where
   abbrev pub accepts_here : N → Bool
@@ -41,27 +44,23 @@ module _ {N : Type 0} (t : N → Bool → Data → Path → Tree) (m : N → Dat
   some_accepts (n ∷ ms) = some_first n ms (accepts_here n) (some_accepts ms)
 
   -- a result that showed nothing shows those that accept, which are so many
-  module _ (ns : List N) {o : Shown} (none : o ≡ nothing_shown) (l : EvaluationResult) (h : ShowsMore (each_wanted t m u (filter_once accepts_here ns) v Q) o (shown_of l))
-      {count : ℕ} (len : count ≡ vec_len (out-EvaluationResult l).children) where
-    abbrev children_in : Shown → List Tree
-    children_in (shown b a es ts) = ts
-
+  module _ (ns : List N) {o : Shown} (none : o ≡ nothing_shown) (l : Shown) (h : ShowsMore (each_wanted t m u (filter_once accepts_here ns) v Q) o l)
+      {count : ℕ} (len : count ≡ length (shown_children l)) where
     as_counted : count ≡ length h.added
-    as_counted = len ∙ (out-EvaluationResult l).children.ok.0 ∙ sym (length-map (out-EvaluationResult l).children.items tree_of)
-        ∙ ap (λ s. length (children_in s)) (sym (parts_of_shown l) ∙ from_nothing none h)
+    as_counted = len ∙ ap (λ s. length (shown_children s)) (from_nothing none h)
 
-    pub accepting_alone : (count ≡ 0 → ⊥) → ShowsAccepting t m u ns v Q count (shown_of l)
+    pub accepting_alone : (count ≡ 0 → ⊥) → ShowsAccepting t m u ns v Q count l
     accepting_alone some = record { accepting = h.added; those = h.shown; number = as_counted; shown = by h.added as_counted (from_nothing none h) }
       where
-        by : (cs : List Tree) → count ≡ length cs → shown_of l ≡ shown (list_all is_valid cs) None [] cs → ShowsThese (each_wanted t m u ns v Q) cs (shown_of l)
+        by : (cs : List Tree) → count ≡ length cs → l ≡ shown (list_all is_valid cs) None [] cs → ShowsThese (each_wanted t m u ns v Q) cs l
         by [] number is = absurd (some number)
         by (c ∷ cs) number is = is
 
     -- where there is none, and then shows all, refused
-    pub all_refused : {s r : Shown} → count ≡ 0 → ShowsMore (each_wanted t m u ns v Q) (shown_of l) s → r ≡ called_invalid s → ShowsAccepting t m u ns v Q count r
+    pub all_refused : {s r : Shown} → count ≡ 0 → ShowsMore (each_wanted t m u ns v Q) l s → r ≡ called_invalid s → ShowsAccepting t m u ns v Q count r
     all_refused {s} {r} zero all is = record { accepting = h.added; those = h.shown; number = as_counted; shown = by h.added as_counted (from_nothing none h) }
       where
-        by : (cs : List Tree) → count ≡ length cs → shown_of l ≡ shown (list_all is_valid cs) None [] cs → ShowsThese (each_wanted t m u ns v Q) cs r
+        by : (cs : List Tree) → count ≡ length cs → l ≡ shown (list_all is_valid cs) None [] cs → ShowsThese (each_wanted t m u ns v Q) cs r
         by [] number nothing = record { children = all.added; is = is ∙ ap called_invalid (from_nothing nothing all); shown = all.shown }
         by (c ∷ cs) number some = absurd (omega arith)
 

@@ -1,26 +1,20 @@
 -- Children beside those that are wanted.
-use Rattle.std.proofs.Common.{Vec, vec_len, Global, ◌≡◌, ℕ, ◌<◌, ◌+◌, length-append, ◌==◌, arith, Bool, true, false, not, ◌&&◌, List, [], ◌∷◌, ◌++◌, map, length, get_or, Option, None, append_assoc, refl, sym, ap, subst, ◌∙◌}
+use Rattle.std.proofs.Common.{◌≡◌, ℕ, ◌==◌, arith, Bool, true, false, not, ◌&&◌, List, [], ◌∷◌, ◌++◌, map, length, Option, None, append_assoc, refl, sym, ap, subst, ◌∙◌}
 use Rattle.std.specs.List.{list_all}
-use Rattle.std.specs.Vec.{with_item}
 use Rattle.std.proofs.lemmas.Bool.Decides.{nat_tests}
-use Rattle.std.proofs.lemmas.List.{append-nil, map-append}
+use Rattle.std.proofs.lemmas.List.{append-nil}
 use Rattle.std.proofs.lemmas.List.Folds.{list_all-append}
 use Rattle.std.proofs.lemmas.Simd.{map-map}
-use Rattle.std.proofs.Math.Bool.{and-true, and-false, and_assoc}
-use Rattle.std.proofs.Math.ListN.{set}
-use Rattle.std.proofs.Math.Seq.{set-append_seam, get_or-append_seam}
+use Rattle.std.proofs.Math.Bool.{and-true, and_assoc}
 use Rattle.olk_spec.proofs.Refused_trees.{same_validity}
 use Rattle.olk_spec.specs.Names.{Name, Path, filter_once, put_if, is_empty}
 use Rattle.olk_spec.specs.Tree.{Tree, Trees, trees_from, IsLikeTree, AreLikeTrees, AreTold, Described, is_valid, result_node, result, plain}
-use Rattle.olk_reports.specs.Evaluations.{AddsEmptyAt, Shown, shown, shown_of, nothing_shown, called_invalid, node_at, result_of, tree_of, with_result, with_below, with_nodes, valid_if}
-use Rattle.olk_reports.proofs.Evaluations.{shown_over}
-use Rattle.olk_reports.specs.declared.evaluation.EvaluationNode.{EvaluationNode}
-use Rattle.olk_reports.specs.declared.evaluation.EvaluationResult.{EvaluationResult, out-EvaluationResult, out-roll-EvaluationResult}
+use Rattle.olk_reports.specs.Evaluations.{Shown, shown, nothing_shown, node_at, with_children}
 use Rattle.serde_json.specs.Data.{Data, string}
 use Rattle.olk_spec.specs.Schemas.{members}
 use Rattle.olk_tree.specs.Questions.{Question, every}
 use Rattle.olk_tree.specs.Shown.{branch_trees, name_trees}
-use Rattle.olk_evaluate.specs.Wanted.{Wanted, AreShown, IsShown, ShowsMore, wanted, each_wanted, with_children}
+use Rattle.olk_evaluate.specs.Wanted.{Wanted, AreShown, IsShown, ShowsMore, wanted, each_wanted}
 
 -- whether a list is empty, by its length
 pub emptiness_of : {X Y : Type 0} (f : X → Y) (xs : List X) {n : ℕ} {b : Bool} → n ≡ length xs → b ≡ (n == 0) → b ≡ is_empty (map f xs)
@@ -130,78 +124,22 @@ from_nothing none h = h.is ∙ ap (with_children h.added) none
 pub those_next : {X : Type 0} (f : X → Bool) {left rest : List X} {x : X} {b : Bool} → left ≡ x ∷ rest → b ≡ f x → filter_once f left ≡ put_if b x (filter_once f rest)
 those_next f {rest = rest} {x} next e = ap (filter_once f) next ∙ ap (λ b. put_if b x (filter_once f rest)) (sym e)
 
--- ---- a node that is put behind the others, and its result written then
+-- ---- one child more
 
 -- what is shown at places that have other names
 pub shown_there : {w : Wanted} {P R Q S : Path} (s : Shown) → P ≡ R → Q ≡ S → IsShown w (node_at R S s) → IsShown w (node_at P Q s)
 shown_there {w} s p q h = subst (IsShown w) (λ i. node_at (sym p i) (sym q i) s) h
 
-module _ {P Q : Path} {xs ys : List EvaluationNode} (h : AddsEmptyAt P Q xs ys) (i : ℕ) (at : EvaluationNode) (last : i ≡ length xs) (there : at ≡ get_or ys i at) where
-  last_is : at ≡ h.node
-  last_is = there ∙ (λ j. get_or (h.added j) (last j) at) ∙ get_or-append_seam xs h.node [] at
+-- a node that is made at a path, and put below
+pub put_at : (P : Path) (s o : Shown) {Q R : Path} {r : Shown} {t : Tree} → t ≡ node_at P Q s → Q ≡ R → r ≡ with_children (t ∷ []) o → r ≡ with_children (node_at P R s ∷ []) o
+put_at P s o made same added = added ∙ ap (λ t. with_children (t ∷ []) o) (made ∙ ap (λ Q. node_at P Q s) same)
 
-  empty_last : shown_of (result_of at) ≡ nothing_shown
-  empty_last = ap (λ n. shown_of (result_of n)) last_is ∙ h.empty
+pub shows_one : {w : Wanted} {t : Tree} {o r : Shown} → IsShown w t → r ≡ with_children (t ∷ []) o → ShowsMore (w ∷ []) o r
+shows_one {t = t} h is = record { added = t ∷ []; is = is; shown = (h, tt) }
 
-  written_last : (r : EvaluationResult) → set ys i (with_result at r) ≡ xs ++ with_result h.node r ∷ []
-  written_last r = (λ j. set (h.added j) (last j) (with_result (last_is j) r)) ∙ set-append_seam xs h.node [] (with_result h.node r)
-
--- where the others are the nodes below a result
-pub is_below : {P Q : Path} (o : EvaluationResult) (ns : Vec EvaluationNode Global) → AddsEmptyAt P Q (out-EvaluationResult o).children.items ns.items → {i : ℕ} → i ≡ vec_len (out-EvaluationResult o).children
-    → i < vec_len (out-EvaluationResult (with_nodes o ns)).children
-is_below o ns h {i} last =
-    let more : length ns.items ≡ length (out-EvaluationResult o).children.items + 1 = ap length h.added ∙ length-append (out-EvaluationResult o).children.items (h.node ∷ []) in
-    let ends : i ≡ length (out-EvaluationResult o).children.items = last ∙ (out-EvaluationResult o).children.ok.0 in
-    let len : vec_len ns ≡ length ns.items = ns.ok.0 in
-    let below : i < vec_len ns = omega arith in
-    subst (λ r. i < vec_len r.children) (sym (out-roll-EvaluationResult record (out-EvaluationResult o) { children = ns })) below
-
-module _ {P Q : Path} (o : EvaluationResult) (ns : Vec EvaluationNode Global) (h : AddsEmptyAt P Q (out-EvaluationResult o).children.items ns.items) (i : ℕ) (at : EvaluationNode)
-    (last : i ≡ length (out-EvaluationResult o).children.items) (there : at ≡ get_or (out-EvaluationResult (with_nodes o ns)).children.items i at) where
-  there_now : at ≡ get_or ns.items i at
-  there_now = there ∙ ap (λ x. get_or x.children.items i at) (out-roll-EvaluationResult record (out-EvaluationResult o) { children = ns })
-
-  pub empty_below : shown_of (result_of at) ≡ nothing_shown
-  empty_below = empty_last h i at last there_now
-
-  pub tree_written : (r : EvaluationResult) → tree_of (with_result at r) ≡ node_at P Q (shown_of r)
-  tree_written r = ap (λ n. tree_of (with_result n r)) (last_is h i at last there_now) ∙ h.places r
-
-  pub below_written : (r : EvaluationResult)
-      → shown_of (with_nodes (with_nodes o ns) (with_item (out-EvaluationResult (with_nodes o ns)).children i (with_result at r))) ≡ with_below (node_at P Q (shown_of r) ∷ []) (shown_of o)
-  below_written r = rw out-roll-EvaluationResult (shown_over o (with_item ns i (with_result at r)) (node_at P Q (shown_of r) ∷ []) (ap (map tree_of) (written_last h i at last there_now r)
-      ∙ map-append tree_of (out-EvaluationResult o).children.items (with_result h.node r ∷ []) ∙ ap (λ t. map tree_of (out-EvaluationResult o).children.items ++ t ∷ []) (h.places r)))
-
--- the same nodes, with more room
-module _ (o : EvaluationResult) (ns : Vec EvaluationNode Global) (same : ns.items ≡ (out-EvaluationResult o).children.items) where
-  nothing_below : (s : Shown) → with_below [] s ≡ s
-  nothing_below (shown b a es us) = λ i. shown b a es (append-nil us i)
-
-  pub same_shown : shown_of (with_nodes o ns) ≡ shown_of o
-  same_shown = shown_over o ns [] (ap (map tree_of) same ∙ sym (append-nil (map tree_of (out-EvaluationResult o).children.items))) ∙ nothing_below (shown_of o)
-
-  pub with_room : {ws : List Wanted} {r : Shown} → ShowsMore ws (shown_of (with_nodes o ns)) r → ShowsMore ws (shown_of o) r
-  with_room {ws} {r} h = subst (λ s. ShowsMore ws s r) same_shown h
-
--- it is a child once the result is as valid
-judged_below : (t : Tree) (o : Shown) (v : Bool) → v ≡ is_valid t → valid_if v (with_below (t ∷ []) o) ≡ with_children (t ∷ []) o
-judged_below t (shown b a es us) v e = λ i. shown (b && (e ∙ sym (and-true (is_valid t))) i) a es (us ++ t ∷ [])
-
-valid_below : (t : Tree) (o : Shown) → true ≡ is_valid t → with_below (t ∷ []) o ≡ with_children (t ∷ []) o
-valid_below t (shown b a es us) valid = λ i. shown ((sym (and-true b) ∙ ap (λ c. b && (c && true)) valid) i) a es (us ++ t ∷ [])
-
-invalid_below : (t : Tree) (o : Shown) → false ≡ is_valid t → with_below (t ∷ []) (called_invalid o) ≡ with_children (t ∷ []) o
-invalid_below t (shown b a es us) invalid = λ i. shown ((sym (and-false b) ∙ ap (λ c. b && (c && true)) invalid) i) a es (us ++ t ∷ [])
-
-module _ {w : Wanted} {t : Tree} {o r : Shown} (h : IsShown w t) where
-  pub shows_judged : {v : Bool} → r ≡ valid_if v (with_below (t ∷ []) o) → v ≡ is_valid t → ShowsMore (w ∷ []) o r
-  shows_judged {v} is valid = record { added = t ∷ []; is = is ∙ judged_below t o v valid; shown = (h, tt) }
-
-  pub shows_valid : r ≡ with_below (t ∷ []) o → true ≡ is_valid t → ShowsMore (w ∷ []) o r
-  shows_valid is valid = record { added = t ∷ []; is = is ∙ valid_below t o valid; shown = (h, tt) }
-
-  pub shows_invalid : {m : Shown} → m ≡ called_invalid o → r ≡ with_below (t ∷ []) m → false ≡ is_valid t → ShowsMore (w ∷ []) o r
-  shows_invalid first is invalid = record { added = t ∷ []; is = is ∙ ap (with_below (t ∷ [])) first ∙ invalid_below t o invalid; shown = (h, tt) }
+-- from what shows the same
+pub shows_from : {ws : List Wanted} {o m r : Shown} → m ≡ o → ShowsMore ws m r → ShowsMore ws o r
+shows_from {ws} {r = r} same h = subst (λ s. ShowsMore ws s r) same h
 
 -- valid exactly if all children are
 pub plain_shown : (P Q : Path) (ws : List Wanted) {cs : List Tree} {s : Shown} → AreShown ws cs → s ≡ shown (list_all is_valid cs) None [] cs

@@ -20,8 +20,8 @@ use Rattle.olk_tree.specs.Shown.{properties_tree, missing_trees}
 use Rattle.olk_tree.specs.Visited.{Declared, declared_as, members_declared}
 use Rattle.olk_tree.proofs.Members_met.{means_nothing, object_is}
 use Rattle.olk_check.proofs.Missing.{lacks_nothing}
-use Rattle.olk_reports.specs.Evaluations.{Shown, shown, nothing_shown, annotated, with_names, node_at}
-use Rattle.olk_evaluate.specs.Wanted.{Wanted, IsShown, AreShown, ShowsMore, refused, lacking_trees, with_children}
+use Rattle.olk_reports.specs.Evaluations.{Shown, shown, nothing_shown, annotated, with_children, with_names, node_at}
+use Rattle.olk_evaluate.specs.Wanted.{Wanted, IsShown, AreShown, ShowsMore, refused, lacking_trees}
 use Rattle.olk_evaluate.specs.Members.{HasMet, MeetsMore, wanted_at}
 use Rattle.olk_evaluate.proofs.Children.{trees_wanted, all_wanted, same_trees, shown_as, shown_append, result_shown, shows_nothing, all_valid, no_children, more_children}
 use Rattle.olk_evaluate.proofs.OwnErrors.{all_there}

@@ -20,10 +20,10 @@ use Rattle.olk_spec.specs.Schemas.{has, listed, members}
 use Rattle.olk_spec.specs.Accepts.{missing}
 use Rattle.olk_tree.specs.Maps.{texts_of}
 use Rattle.olk_tree.specs.OwnFaults.{fault_if_agrees, unless}
-use Rattle.olk_reports.specs.Evaluations.{Shown, shown, nothing_shown, called_invalid, errored, errored_by, with_below, AddsErrors, node_at}
+use Rattle.olk_reports.specs.Evaluations.{Shown, shown, nothing_shown, errored, errored_by, with_children, AddsErrors, node_at}
 use Rattle.olk_evaluate.specs.Wanted.{Wanted, IsShown, AreShown, ShowsMore, refused, lacking_trees, HasTexts}
 use Rattle.olk_evaluate.specs.Additional.{annotated_if, named_faults, names_of}
-use Rattle.olk_evaluate.proofs.Children.{emptiness_of, trees_wanted, all_wanted, shown_as, result_shown, valid_shown, shows_invalid, shows_none}
+use Rattle.olk_evaluate.proofs.Children.{emptiness_of, trees_wanted, all_wanted, shown_as, result_shown, valid_shown, shows_none, shows_one}
 
 -- ---- errors more
 
@@ -221,14 +221,12 @@ module _ (ns : List Name) (v w : Data) (P Q : Path) where
   pub none_lacking : (s : Shown) → false ≡ not (is_empty (missing ns w)) → ShowsMore (refused (lacking_trees ns v w P Q)) s s
   none_lacking s e = subst (λ b. ShowsMore (refused (put_if b (erring P Q lacking_faults) [])) s s) e (shows_none s)
 
-  -- old has been called invalid, and then a node put below, whose errors have been written
-  pub some_lacking : {s r old mid new : Shown} → true ≡ not (is_empty (missing ns w)) → s ≡ nothing_shown → AddsErrors lacking_faults s r
-      → mid ≡ called_invalid old → new ≡ with_below (node_at P Q r ∷ []) mid → ShowsMore (refused (lacking_trees ns v w P Q)) old new
-  some_lacking {r = r} {old} {new = new} e none h invalid below =
+  pub some_lacking : {s r old new : Shown} → true ≡ not (is_empty (missing ns w)) → s ≡ nothing_shown → AddsErrors lacking_faults s r
+      → new ≡ with_children (node_at P Q r ∷ []) old → ShowsMore (refused (lacking_trees ns v w P Q)) old new
+  some_lacking {r = r} {old} {new} e none h below =
       let child : IsShown (erring P Q lacking_faults, false) (node_at P Q r)
       = shown_as (erring_shown P Q lacking_faults none h) refl (same_emptiness (λ n. fault (Required n) v Q P) (missing ns w) ∙ taken (is_empty (missing ns w)) e) in
-      subst (λ b. ShowsMore (refused (put_if b (erring P Q lacking_faults) [])) old new) e
-      (shows_invalid child invalid below (sym child.verdict))
+      subst (λ b. ShowsMore (refused (put_if b (erring P Q lacking_faults) [])) old new) e (shows_one child below)
 
   lacking_wanted : (b : Bool) (t : Tree) → list_all (λ x. x.1) (refused (put_if (not b) t [])) ≡ b
   lacking_wanted true t = refl
@@ -245,8 +243,8 @@ module _ (n : Name) (v : Data) (ms : Members) (P Q : Path) where
   pub not_lacking : (s : Shown) → true ≡ has n (object ms) → ShowsMore (refused (lacking_trees (n ∷ []) v (object ms) P Q)) s s
   not_lacking s e = none_lacking (n ∷ []) v (object ms) P Q s (ap lacks_if e)
 
-  pub one_lacking : {s r old mid new : Shown} → false ≡ has n (object ms) → s ≡ nothing_shown → AddsErrors (fault (Required n) v Q P ∷ []) s r
-      → mid ≡ called_invalid old → new ≡ with_below (node_at P Q r ∷ []) mid → ShowsMore (refused (lacking_trees (n ∷ []) v (object ms) P Q)) old new
+  pub one_lacking : {s r old new : Shown} → false ≡ has n (object ms) → s ≡ nothing_shown → AddsErrors (fault (Required n) v Q P ∷ []) s r
+      → new ≡ with_children (node_at P Q r ∷ []) old → ShowsMore (refused (lacking_trees (n ∷ []) v (object ms) P Q)) old new
   one_lacking {s} {r} e none h = some_lacking (n ∷ []) v (object ms) P Q (ap lacks_if e) none (subst (λ b. AddsErrors (map (λ k. fault (Required k) v Q P) (put_if (not b) n [])) s r) e h)
 
 -- under other names

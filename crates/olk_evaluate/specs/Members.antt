@@ -4,10 +4,10 @@ use Rattle.std.specs.List.{list_all}
 use Rattle.serde_json.specs.Data.{Data}
 use Rattle.olk_spec.specs.Names.{Path, ◌//◌}
 use Rattle.olk_spec.specs.Tree.{Tree, is_valid}
-use Rattle.olk_reports.specs.Evaluations.{Shown, shown, with_names}
+use Rattle.olk_reports.specs.Evaluations.{Shown, shown, with_children, with_names}
 use Rattle.olk_tree.specs.Questions.{Question}
 use Rattle.olk_tree.specs.Visited.{Declared}
-use Rattle.olk_evaluate.specs.Wanted.{Wanted, AreShown, wanted, with_children}
+use Rattle.olk_evaluate.specs.Wanted.{Wanted, AreShown, wanted}
 
 module _ {N : Type 0} where
   -- what is wanted of the value of a declared member

@@ -6,7 +6,7 @@ use Rattle.olk_spec.specs.Names.{Name, Text, Path, filter_once, put_if, is_empty
 use Rattle.olk_spec.specs.Faults.{fault, Required}
 use Rattle.olk_spec.specs.Tree.{Tree, IsLikeTree, is_valid, Described, erring}
 use Rattle.olk_spec.specs.Accepts.{missing}
-use Rattle.olk_reports.specs.Evaluations.{Shown, shown, node_at}
+use Rattle.olk_reports.specs.Evaluations.{Shown, shown, node_at, with_children}
 use Rattle.olk_tree.specs.Bodies.{body_means, body_tree}
 use Rattle.olk_tree.specs.Questions.{Question}
 use Rattle.olk_tree.specs.declared.node.Body.{Body}
@@ -24,10 +24,6 @@ AreShown [] [] = ⊤
 AreShown [] (t ∷ ts) = ⊥
 AreShown (w ∷ ws) [] = ⊥
 AreShown (w ∷ ws) (t ∷ ts) = IsShown w t × AreShown ws ts
-
--- these children more, and invalid where one of them is
-abbrev pub with_children : List Tree → Shown → Shown
-with_children ts (shown b a es us) = shown (b && list_all is_valid ts) a es (us ++ ts)
 
 -- new is old with children more, which show what is wanted
 pub record ShowsMore (ws : List Wanted) (old new : Shown) : Type 0 where

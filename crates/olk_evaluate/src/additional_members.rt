@@ -57,7 +57,7 @@ pub(crate) fn collect<'a, R: RegexEngine, N: Located<'a>>(
         (listed (members_view members.now.entries))) c
         (shown_of outcome.old) (shown_of outcome.new)) }
 {
-    outcome.children.reserve_exact(members.len())?;
+    outcome.reserve_children(members.len())?;
     let alloc = outcome.allocator();
     let mut collected: Collected<'a> = Collected {
         additional: Vec::new(alloc),

@@ -73,7 +73,7 @@ pub(crate) fn show_accepting<'a, N: Located<'a>>(
         }
         add_child(schema, node, ctx, outcome)?;
     }
-    let count = outcome.children.len();
+    let count = outcome.children().len();
     if count == 0 {
         show_each(schemas, node, ctx, outcome)?;
         outcome.mark_invalid();

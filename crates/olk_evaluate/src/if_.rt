@@ -95,7 +95,7 @@ fn show_both<'a, N: Located<'a>>(
         (first.now ∷ second.now ∷ []) (subject_data node.entry) ctx.old.path)
         (shown_of outcome.old) (shown_of outcome.new)) }
 {
-    outcome.children.reserve_exact(2)?;
+    outcome.reserve_children(2)?;
     add_child(first, node, ctx, outcome)?;
     add_child(second, node, ctx, outcome)
 }

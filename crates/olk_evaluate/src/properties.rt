@@ -84,7 +84,7 @@ pub(crate) fn make_room(
     ensures { OnOk result (shown_of outcome.new ≡ annotated [] (shown_of outcome.old)) }
 {
     outcome.annotate(Vec::with_capacity(outcome.allocator(), members)?);
-    outcome.children.reserve_exact(members)
+    outcome.reserve_children(members)
 }
 
 /// The members that are declared, in the order of their names.

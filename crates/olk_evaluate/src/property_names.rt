@@ -24,7 +24,7 @@ impl<'a, N: Located<'a>> Show<'a> for PropertyNames<N> {
         let Some(members) = node.as_object() else {
             return Ok(());
         };
-        outcome.children.reserve_exact(members.len())?;
+        outcome.reserve_children(members.len())?;
         for (name, _) in members {
             let name = name.as_str();
             add_child(&self.node, Subject::Name(&name), ctx, outcome)?;

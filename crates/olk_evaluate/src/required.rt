@@ -10,11 +10,12 @@ ghost use Rattle.olk_tree.specs.Maps.{texts_of, two_texts};
 ghost use Rattle.olk_tree.specs.Visited.{object_of};
 ghost use Rattle.olk_evaluate.specs.Wanted.{ShowsMore, refused, lacking_trees};
 
+use crate::walk::add_child_at;
 use crate::{EvaluationContext, Show};
 use olk_base::Subject;
 use olk_meaning::has_member;
 use olk_paths::{InstancePath, Location};
-use olk_reports::{EvaluationNode, EvaluationResult, ValidationErrorKind};
+use olk_reports::{EvaluationResult, ValidationErrorKind};
 use olk_tree::properties::SmallPropertiesWithRequired2;
 use olk_tree::required::RequiredValidator;
 use serde_json::{Map, Value};
@@ -99,13 +100,10 @@ pub(crate) fn add_missing_child<'a, N>(
     if has_member(members, first) & has_member(members, second) {
         return Ok(());
     }
-    outcome.mark_invalid();
-    let last = outcome.children.len();
-    let location = keyword.required_location.as_str();
-    EvaluationNode::push_at(&mut outcome.children, location, path.as_str())?;
-    let result = &mut outcome.children[last].result;
-    add_error_if_missing(result, first, members, node)?;
-    add_error_if_missing(result, second, members, node)
+    let mut shown: EvaluationResult<'a> = EvaluationResult::valid_empty(outcome.allocator());
+    add_error_if_missing(&mut shown, first, members, node)?;
+    add_error_if_missing(&mut shown, second, members, node)?;
+    add_child_at(keyword.required_location.as_str(), path, shown, outcome)
 }
 
 /// A child more at the place of `required`, where the name is no member.
@@ -126,11 +124,8 @@ pub(crate) fn add_missing_name<'a>(
     if has_member(members, name) {
         return Ok(());
     }
-    outcome.mark_invalid();
-    let last = outcome.children.len();
-    EvaluationNode::push_at(&mut outcome.children, location.as_str(), path.as_str())?;
+    let mut shown: EvaluationResult<'a> = EvaluationResult::valid_empty(outcome.allocator());
     let kind: ValidationErrorKind<'a> = ValidationErrorKind::Required { property: name };
-    outcome.children[last]
-        .result
-        .mark_errored_by(kind, node.node())
+    shown.mark_errored_by(kind, node.node())?;
+    add_child_at(location.as_str(), path, shown, outcome)
 }

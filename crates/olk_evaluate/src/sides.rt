@@ -11,11 +11,12 @@ ghost use Rattle.olk_evaluate.specs.Wanted.{IsShown, ShowsMore, accepted};
 
 use crate::additional_members::collect;
 use crate::required::add_missing_name;
+use crate::walk::add_child_at;
 use crate::{EvaluationContext, Located};
 use olk_base::{RegexEngine, Subject};
 use olk_meaning::law_of_names;
 use olk_paths::{InstancePath, Location};
-use olk_reports::{EvaluationNode, EvaluationResult, ValidationErrorKind};
+use olk_reports::{EvaluationResult, ValidationErrorKind};
 use olk_tree::additional_properties::SidesOf;
 use serde_json::{Map, Value};
 use std::alloc::AllocError;
@@ -124,10 +125,9 @@ fn add_matches<'a>(
     if matched.is_empty() {
         return Ok(());
     }
-    let last = outcome.children.len();
-    EvaluationNode::push_at(&mut outcome.children, location, path.as_str())?;
-    outcome.children[last].result.annotate(matched);
-    Ok(())
+    let mut shown: EvaluationResult<'a> = EvaluationResult::valid_empty(outcome.allocator());
+    shown.annotate(matched);
+    add_child_at(location, path, shown, outcome)
 }
 
 /// Annotates the names that the rest is asked of; where just one neighbour stands there, only if

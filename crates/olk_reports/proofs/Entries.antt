@@ -1,17 +1,16 @@
 -- What a tree shows, node by node.
-use Rattle.std.proofs.Common.{◌≡◌, List, [], ◌∷◌, ◌++◌, map, refl, sym, ap, ◌∙◌, ◌<◌, ◌≤◌, ◌+◌, length, get_or, take, append_assoc, ℕ}
+use Rattle.std.proofs.Common.{◌≡◌, List, [], ◌∷◌, ◌++◌, map, refl, sym, ap, ◌∙◌, ◌<◌, ◌≤◌, ◌+◌, length, get_or, take, append_assoc, ℕ, zero, suc, arith}
 use Rattle.std.specs.List.{flat_map}
 use Rattle.std.proofs.lemmas.List.{append-nil, take_all, take_more, flat_map_more}
 use Rattle.std.proofs.lemmas.List.Folds.{flat_map-map}
 use Rattle.std.proofs.lemmas.Simd.{map-map}
 use Rattle.olk_spec.specs.Names.{Path}
 use Rattle.olk_reports.specs.declared.evaluation.ErrorDescription.{ErrorDescription}
-use Rattle.olk_spec.specs.Tree.{Described, Tree, node, leaf_node, Trees, no_tree, and_tree, errors, errors_of, annotations, annotations_of}
+use Rattle.olk_spec.specs.Tree.{Described, Tree, node, leaf_node, Trees, no_tree, and_tree, errors, errors_of, annotations, annotations_of, trees_from}
+use Rattle.olk_reports.specs.Shown.{tree_size, trees_size}
 use Rattle.olk_reports.specs.Evaluations.{tree_of, trees_in, tree_children, tree_errors, tree_schema_path, tree_instance_path, described_of}
 use Rattle.olk_reports.specs.Entries.{own_errors, own_annotations}
-use Rattle.olk_reports.specs.declared.evaluation.EvaluationNode.{EvaluationNode, out-EvaluationNode}
-use Rattle.olk_reports.specs.declared.evaluation.EvaluationResult.{out-EvaluationResult}
-use Rattle.olk_reports.proofs.Evaluations.{children_of}
+use Rattle.olk_reports.specs.declared.evaluation.EvaluationNode.{EvaluationNode}
 
 errors_of-each : (ts : Trees) → errors_of ts ≡ flat_map errors (trees_in ts)
 errors_of-each no_tree = refl
@@ -30,18 +29,18 @@ annotations_parts (node P Q b a es ts) = ap (λ l. own_annotations (node P Q b a
 annotations_parts (leaf_node P Q es) = refl
 
 -- its own errors, and then those of each node below
-pub errors_below : (n : EvaluationNode) → errors (tree_of n) ≡ own_errors (tree_of n) ++ flat_map (λ m. errors (tree_of m)) (out-EvaluationResult (out-EvaluationNode n).result).children.items
-errors_below n =
-    errors_parts (tree_of n)
-    ∙ ap (λ ts. own_errors (tree_of n) ++ flat_map errors ts) (children_of n)
-    ∙ ap (λ l. own_errors (tree_of n) ++ l) (flat_map-map errors tree_of _)
+module _ (t : Tree) (ns : List EvaluationNode) (below : map tree_of ns ≡ tree_children t) where
+  pub errors_below : errors t ≡ own_errors t ++ flat_map (λ m. errors (tree_of m)) ns
+  errors_below =
+      errors_parts t
+      ∙ ap (λ ts. own_errors t ++ flat_map errors ts) (sym below)
+      ∙ ap (λ l. own_errors t ++ l) (flat_map-map errors tree_of ns)
 
-pub annotations_below : (n : EvaluationNode) → annotations (tree_of n) ≡ own_annotations (tree_of n) ++ flat_map (λ m. annotations (tree_of m))
-    (out-EvaluationResult (out-EvaluationNode n).result).children.items
-annotations_below n =
-    annotations_parts (tree_of n)
-    ∙ ap (λ ts. own_annotations (tree_of n) ++ flat_map annotations ts) (children_of n)
-    ∙ ap (λ l. own_annotations (tree_of n) ++ l) (flat_map-map annotations tree_of _)
+  pub annotations_below : annotations t ≡ own_annotations t ++ flat_map (λ m. annotations (tree_of m)) ns
+  annotations_below =
+      annotations_parts t
+      ∙ ap (λ ts. own_annotations t ++ flat_map annotations ts) (sym below)
+      ∙ ap (λ l. own_annotations t ++ l) (flat_map-map annotations tree_of ns)
 
 -- a walk over the nodes below that has come to its end
 pub below_end : {X Y : Type 0} (f : X → List Y) (items below : List X) (i : ℕ) (before between after own all : List Y) →
@@ -71,3 +70,26 @@ own_end t items i before after past walked same =
     ∙ ap (λ xs. before ++ map (λ e. (tree_schema_path t, tree_instance_path t, described_of e)) xs) (take_all i items past)
     ∙ ap (λ l. before ++ l) (sym (map-map (λ e. (tree_schema_path t, tree_instance_path t, e)) described_of items))
     ∙ ap (λ es. before ++ map (λ e. (tree_schema_path t, tree_instance_path t, e)) es) same
+
+-- ---- a node has more nodes than each below it
+
+from-trees_in : (ts : Trees) → trees_from (trees_in ts) ≡ ts
+from-trees_in no_tree = refl
+from-trees_in (and_tree t ts) = ap (λ us. and_tree t us) (from-trees_in ts)
+
+no_more : (ns : List EvaluationNode) (i : ℕ) (n : EvaluationNode) → i < length ns → n ≡ get_or ns i n → tree_size (tree_of n) ≤ trees_size (trees_from (map tree_of ns))
+no_more [] i n inside is = absurd (omega (arith, inside))
+no_more (m ∷ ns) zero n inside is =
+    let same : tree_size (tree_of n) ≡ tree_size (tree_of m) = ap (λ k. tree_size (tree_of k)) is in
+    omega (arith, same)
+no_more (m ∷ ns) (suc i) n inside is =
+    let rest : tree_size (tree_of n) ≤ trees_size (trees_from (map tree_of ns)) = no_more ns i n (omega (arith, inside)) is in
+    omega (arith, rest)
+
+pub below_is_less : (t : Tree) (ns : List EvaluationNode) (i : ℕ) (n : EvaluationNode) → map tree_of ns ≡ tree_children t → i < length ns → n ≡ get_or ns i n → tree_size (tree_of n) < tree_size t
+below_is_less (node P Q b a es ts) ns i n below inside is =
+    let whole : trees_size (trees_from (map tree_of ns)) ≡ trees_size ts = ap (λ us. trees_size (trees_from us)) below ∙ ap trees_size (from-trees_in ts) in
+    let part : tree_size (tree_of n) ≤ trees_size (trees_from (map tree_of ns)) = no_more ns i n inside is in
+    omega (arith, whole, part)
+below_is_less (leaf_node P Q es) [] i n below inside is = absurd (omega (arith, inside))
+below_is_less (leaf_node P Q es) (m ∷ ns) i n below inside is = cc

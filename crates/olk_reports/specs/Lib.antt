@@ -1,4 +1,7 @@
 pub mod Errors
 pub mod Messages
+pub mod Shown
+pub mod Codes
 pub mod Evaluations
+pub mod Sizes
 pub mod Entries

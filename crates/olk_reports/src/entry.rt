@@ -110,7 +110,7 @@ fn push_errors<'b, 'a>(
         ≡ map error_of entries.old.items ++ errors (tree_of node.now)) }
 {
     push_own_errors(node, entries)?;
-    for child in &node.result.children {
+    for child in node.children() {
         push_errors(child, entries)?;
     }
     Ok(())
@@ -141,7 +141,7 @@ fn push_annotations<'b, 'a>(
         ≡ map annotation_of entries.old.items ++ annotations (tree_of node.now)) }
 {
     push_own_annotation(node, entries)?;
-    for child in &node.result.children {
+    for child in node.children() {
         push_annotations(child, entries)?;
     }
     Ok(())

@@ -11,6 +11,7 @@ use crate::error::{ValidationError, ValidationErrorKind};
 use olk_base::Node;
 use olk_paths::PathText;
 use std::alloc::{AllocError, Global};
+use std::marker::Model;
 
 /// An error as an evaluation shows it: the keyword and the message.
 #[derive(Drop)]
@@ -63,15 +64,39 @@ impl<'a> ErrorDescription<'a> {
 }
 
 /// What a validator shows of a value: whether it is valid, an annotation, errors of its own and the
-/// nodes below.
+/// nodes below. A valid one has only valid nodes below.
 #[derive(Drop)]
 #[cycle(evaluation)]
 pub struct EvaluationResult<'a> {
     valid: bool,
     annotation: Option<Vec<&'a str>>,
     errors: Vec<ErrorDescription<'a>>,
-    /// The nodes below, in order.
-    pub children: Vec<EvaluationNode<'a>>,
+    children: Vec<EvaluationNode<'a>>,
+}
+
+impl<'a> Model for EvaluationResult<'a> {
+    ghost use Rattle.std.specs.Prelude.{ℕ, map, option_map};
+    ghost use Rattle.olk_reports.specs.Shown.{Shown, shown, IsConsistent, described_of, shown_size};
+    ghost use Rattle.olk_reports.specs.Codes.{shown_code};
+
+    ghost Value = { Shown };
+
+    ghost coded = { shown_code };
+
+    ghost use Rattle.olk_reports.specs.Evaluations.{tree_of};
+
+    ghost view = { λ r. shown r.valid (option_map (λ ns. map (λ n. n.now) ns.items) r.annotation)
+        (map described_of r.errors.items) (map tree_of r.children.items) };
+
+    ghost invariant = { λ r. IsConsistent
+        (shown r.valid (option_map (λ ns. map (λ n. n.now) ns.items) r.annotation)
+        (map described_of r.errors.items) (map tree_of r.children.items)) };
+
+    ghost size = { shown_size };
+
+    ghost use Rattle.olk_reports.specs.Sizes.{children_are_less};
+
+    ghost size_decreases = { λ r h. children_are_less r.children.items };
 }
 
 /// A result with its place in the schema and in the instance.
@@ -79,8 +104,7 @@ pub struct EvaluationResult<'a> {
 pub struct EvaluationNode<'a> {
     schema_path: &'a str,
     instance_path: PathText,
-    /// What is shown there.
-    pub result: EvaluationResult<'a>,
+    result: EvaluationResult<'a>,
 }
 
 // By hand, so that the crates above drop a node by one call.
@@ -96,7 +120,7 @@ impl Drop for EvaluationNode<'_> {
 
 impl<'a> EvaluationResult<'a> {
     ghost use Rattle.olk_reports.specs.Errors.{kind_of};
-    ghost use Rattle.olk_reports.specs.Evaluations.{AddsErrors, shown, shown_of, tree_of, described_of, nothing_shown, annotated, errored, with_names, called_invalid, valid_if};
+    ghost use Rattle.olk_reports.specs.Evaluations.{AddsErrors, IsConsistent, shown, shown_of, shown_valid, shown_annotation, shown_errors, shown_children, tree_of, described_of, nothing_shown, annotated, errored, with_children, with_names, called_invalid};
 
     /// Valid, with nothing to show.
     pub fn valid_empty(alloc: Global) -> Self
@@ -164,12 +188,79 @@ impl<'a> EvaluationResult<'a> {
         self.valid = false;
     }
 
-    /// Is invalid unless this is so.
     #[inline(always)]
-    pub fn mark_invalid_unless(&mut self, valid: bool)
-        ensures { shown_of self.new ≡ valid_if valid (shown_of self.old) }
+    fn valid(&self) -> bool
+        ensures { result ≡ shown_valid (shown_of self.now) }
     {
+        self.valid
+    }
+
+    /// The names that a valid node annotates.
+    #[inline(always)]
+    fn annotation(&self) -> Option<&[&'a str]>
+        ensures { option_map (λ ns. map (λ n. n.now) ns.now) result
+            ≡ shown_annotation (shown_of self.now) }
+    {
+        self.annotation.as_deref()
+    }
+
+    #[inline(always)]
+    fn errors(&self) -> &[ErrorDescription<'a>]
+        ensures { map described_of result.now ≡ shown_errors (shown_of self.now) }
+    {
+        self.errors.as_slice()
+    }
+
+    /// The nodes below, in order; all are valid where the result is.
+    pub fn children(&self) -> &[EvaluationNode<'a>]
+        ensures nodes { map tree_of result.now ≡ shown_children (shown_of self.now) }
+        ensures validity { IsConsistent (shown_of self.now) }
+    {
+        self.children.as_slice()
+    }
+
+    /// Room for so many nodes more, and for no others.
+    ///
+    /// # Errors
+    ///
+    /// Out of memory.
+    pub fn reserve_children(&mut self, additional: usize) -> Result<(), AllocError>
+        ensures { shown_of self.new ≡ shown_of self.old }
+    {
+        self.children.reserve_exact(additional)
+    }
+
+    /// Puts the node behind the others; where it is invalid, the result is too.
+    ///
+    /// # Errors
+    ///
+    /// Out of memory. The result is then as it was.
+    #[inline(always)]
+    pub fn add_child(&mut self, child: EvaluationNode<'a>) -> Result<(), AllocError>
+        ensures added { OnOk result (shown_of self.new
+            ≡ with_children (tree_of child.entry ∷ []) (shown_of self.old)) }
+        ensures refused { OnErr result (shown_of self.new ≡ shown_of self.old) }
+    {
+        if self.children.len() == self.children.capacity() {
+            return self.add_child_growing(child);
+        }
+        self.valid &= child.valid();
+        self.children.push_reserved(child);
+        Ok(())
+    }
+
+    /// The same, where there is no room. Apart, so that a child is moved but once where there is.
+    #[cold]
+    #[inline(never)]
+    fn add_child_growing(&mut self, child: EvaluationNode<'a>) -> Result<(), AllocError>
+        ensures added { OnOk result (shown_of self.new
+            ≡ with_children (tree_of child.entry ∷ []) (shown_of self.old)) }
+        ensures refused { OnErr result (shown_of self.new ≡ shown_of self.old) }
+    {
+        let valid = child.valid();
+        self.children.push(child)?;
         self.valid &= valid;
+        Ok(())
     }
 
     /// Takes these names as the annotation, which only a valid node shows (JSON Schema 2020-12
@@ -185,11 +276,12 @@ impl<'a> EvaluationResult<'a> {
     ///
     /// # Errors
     ///
-    /// Out of memory.
+    /// Out of memory. The result is then as it was.
     #[inline(always)]
     pub fn annotate_also(&mut self, name: &'a str) -> Result<(), AllocError>
-        ensures { OnOk result (shown_of self.new
+        ensures added { OnOk result (shown_of self.new
             ≡ with_names (name.entry.now ∷ []) (shown_of self.old)) }
+        ensures refused { OnErr result (shown_of self.new ≡ shown_of self.old) }
     {
         if let Some(names) = &mut self.annotation {
             names.push(name)?;
@@ -199,7 +291,9 @@ impl<'a> EvaluationResult<'a> {
 
     /// Adds an error of its own, which makes the result invalid.
     ///
-    /// Without memory the result is left as it was.
+    /// # Errors
+    ///
+    /// Out of memory. The result is then as it was.
     pub fn mark_errored(&mut self, error: ErrorDescription<'a>) -> Result<(), AllocError>
         ensures ok { OnOk result (shown_of self.new
             ≡ errored (described_of error.entry) (shown_of self.old)) }
@@ -215,15 +309,16 @@ impl<'a> EvaluationResult<'a> {
     ///
     /// # Errors
     ///
-    /// Out of memory.
+    /// Out of memory. The result is then as it was.
     pub fn mark_errored_by(
         &mut self,
         kind: ValidationErrorKind<'a>,
         node: Node<'a>,
     ) -> Result<(), AllocError>
-        ensures { OnOk result ((P Q : Path) → AddsErrors
+        ensures added { OnOk result ((P Q : Path) → AddsErrors
             (fault (kind_of kind.entry) (data_of node.entry) Q P ∷ [])
             (shown_of self.old) (shown_of self.new)) }
+        ensures refused { OnErr result (shown_of self.new ≡ shown_of self.old) }
     {
         let alloc = self.allocator();
         let error = ValidationError::new(kind, node, String::new(alloc), "");
@@ -233,50 +328,34 @@ impl<'a> EvaluationResult<'a> {
 }
 
 impl<'a> EvaluationNode<'a> {
-    ghost use Rattle.olk_reports.specs.declared.evaluation.EvaluationResult.{EvaluationResult};
-    ghost use Rattle.olk_reports.specs.Evaluations.{shown_of, tree_of, described_of, node_at, AddsEmptyAt, tree_schema_path, tree_instance_path, tree_annotation, tree_errors, tree_children};
+    ghost use Rattle.olk_reports.specs.Evaluations.{shown_of, tree_of, described_of, node_at, tree_schema_path, tree_instance_path, tree_annotation, tree_errors, tree_children};
 
     /// The result at these places.
     pub fn new(schema_path: &'a str, instance_path: String, outcome: EvaluationResult<'a>) -> Self
         ensures { tree_of result ≡ node_at schema_path.now (string_bytes instance_path)
             (shown_of outcome.entry) }
     {
-        EvaluationNode {
-            schema_path,
-            instance_path: PathText::from(instance_path),
-            result: outcome,
-        }
+        EvaluationNode::at(schema_path, PathText::from(instance_path), outcome)
     }
 
-    /// Puts behind the nodes one that shows nothing yet, to which its result is written then.
-    ///
-    /// # Errors
-    ///
-    /// Out of memory.
+    /// The result at these places.
     #[inline(always)]
-    pub fn push_at(
-        nodes: &mut Vec<Self>,
-        schema_path: &'a str,
-        instance_path: &str,
-    ) -> Result<(), AllocError>
-        ensures { OnOk result (AddsEmptyAt schema_path.now instance_path.now
-            nodes.old.items nodes.new.items) }
+    pub fn at(schema_path: &'a str, instance_path: PathText, outcome: EvaluationResult<'a>) -> Self
+        ensures { tree_of result ≡ node_at schema_path.now instance_path
+            (shown_of outcome.entry) }
     {
-        let alloc = *nodes.allocator();
-        nodes.reserve(1)?;
-        nodes.push_reserved(EvaluationNode {
+        EvaluationNode {
             schema_path,
-            instance_path: PathText::from_str(alloc, instance_path)?,
-            result: EvaluationResult::valid_empty(alloc),
-        });
-        Ok(())
+            instance_path,
+            result: outcome,
+        }
     }
 
     /// Whether the value is valid here.
     pub fn valid(&self) -> bool
         ensures { result ≡ is_valid (tree_of self.now) }
     {
-        self.result.valid
+        self.result.valid()
     }
 
     /// The place in the schema, as a JSON pointer (RFC 6901).
@@ -299,7 +378,7 @@ impl<'a> EvaluationNode<'a> {
             ≡ tree_annotation (tree_of self.now) }
     {
         if self.valid() {
-            self.result.annotation.as_deref()
+            self.result.annotation()
         } else {
             None
         }
@@ -309,14 +388,16 @@ impl<'a> EvaluationNode<'a> {
     pub fn errors(&self) -> &[ErrorDescription<'a>]
         ensures { map described_of result.now ≡ tree_errors (tree_of self.now) }
     {
-        self.result.errors.as_slice()
+        self.result.errors()
     }
 
-    /// The nodes below, in order.
+    /// The nodes below, in order; all are valid where it is.
     pub fn children(&self) -> &[EvaluationNode<'a>]
-        ensures { map tree_of result.now ≡ tree_children (tree_of self.now) }
+        ensures nodes { map tree_of result.now ≡ tree_children (tree_of self.now) }
+        ensures validity { is_valid (tree_of self.now) ≡ true
+            → list_all is_valid (tree_children (tree_of self.now)) ≡ true }
     {
-        self.result.children.as_slice()
+        self.result.children()
     }
 }
 

@@ -5,13 +5,13 @@ use Rattle.olk_reports.specs.Evaluations.{shown_of}
 use Rattle.olk_tree.specs.Additional.{sides_seen}
 use Rattle.olk_tree.proofs.Due.{name_next, no_name_next}
 use Rattle.olk_evaluate.specs.Additional.{CollectsMore, member_found}
-use Rattle.olk_evaluate.proofs.Children.{with_room}
+use Rattle.olk_evaluate.proofs.Children.{shows_from}
 use Rattle.olk_evaluate.proofs.Collected.{collects_all, collects_both, collects_nothing}
 use Rattle.olk_evaluate.proofs.Shows.{kept_same, kept_then, shows_err, leaves_all, leaves_rest, leaves_none}
 use Rattle.olk_evaluate.proofs.additional_members.collect.Goals as goal
 
-pub returns-in_err-reserve_exact : goal.returns-in_err-reserve_exact
-returns-in_err-reserve_exact g c = shows_err c.from_residual.ensures.0 kept_same
+pub returns-in_err-reserve_children : goal.returns-in_err-reserve_children
+returns-in_err-reserve_children g c = shows_err c.from_residual.ensures.0 kept_same
 
 pub returns-in_err-collect_member : goal.returns-in_err-collect_member
 returns-in_err-collect_member g c = shows_err c.from_residual-in_err-collect_member.ensures.0 (kept_then c.loop-name.invariant.kept c.collect_member.ensures.kept)
@@ -29,6 +29,6 @@ pub returns : goal.returns
 returns g c =
     let found = leaves_none c.loop-name.invariant (no_name_next c.in-None.ensures.steps.0) (collects_nothing c.loop-name.collected (shown_of c.loop-name.outcome)) in
     record {
-      shown = collects_all c.new.ensures.items c.new-2.ensures.items found (with_room c.args.outcome.now c.reserve_exact.new.self c.in_ok-reserve_exact.ensures.items found.shown);
+      shown = collects_all c.new.ensures.items c.new-2.ensures.items found (shows_from c.reserve_children.ensures found.shown);
       kept = c.loop-name.invariant.kept;
     }

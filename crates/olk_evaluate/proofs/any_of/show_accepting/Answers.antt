@@ -4,7 +4,7 @@ use Rattle.olk_spec.specs.Names.{filter_once}
 use Rattle.olk_tree.proofs.Lists.{next_at, past_end}
 use Rattle.olk_reports.specs.Evaluations.{shown_of}
 use Rattle.olk_evaluate.specs.Wanted.{ShowsMore, each_wanted}
-use Rattle.olk_evaluate.proofs.Branches.{accepting_alone, all_refused}
+use Rattle.olk_evaluate.proofs.Branches.{accepting_alone, all_refused, counted}
 use Rattle.olk_evaluate.proofs.Children.{shows_none, shows_both, those_next}
 use Rattle.olk_evaluate.proofs.Shows.{as_before, kept_asked, kept_then, leaves_all, leaves_rest, leaves_same, leaves_none, shows_err}
 use Rattle.olk_evaluate.proofs.any_of.show_accepting.Goals as goal
@@ -33,7 +33,7 @@ returns-in_ok-show_each g c = record {
   shown =
       let found = leaves_none c.loop-schema.invariant (ap (filter_once (λ n. (g.N.Means.means n (subject_data c.args.node)).accepts c.args.ctx.now.validation.answer))
       (past_end c.deref-schema-items.ensures.value c.loop-schema-test.false)) (shows_none (shown_of c.loop-schema.outcome)) in
-      all_refused g.N.Show.tree g.N.Means.means c.args.ctx.now.validation.answer (subject_data c.args.node) c.args.ctx.now.path c.args.ctx.now.path c.args.schemas.now.items c.requires c.loop-schema.outcome found c.len-count.ensures
+      all_refused g.N.Show.tree g.N.Means.means c.args.ctx.now.validation.answer (subject_data c.args.node) c.args.ctx.now.path c.args.ctx.now.path c.args.schemas.now.items c.requires c.loop-schema.outcome found (counted _ c.children-count.ensures.nodes refl)
       c.if-count-eq0.true
       (as_before (λ u Q. ShowsMore (each_wanted g.N.Show.tree g.N.Means.means u c.args.schemas.now.items (subject_data c.args.node) Q) (shown_of c.loop-schema.outcome) (shown_of c.show_each.new.outcome))
       c.loop-schema.invariant.kept c.in_ok-show_each.ensures.shown) c.mark_invalid.ensures;
@@ -49,6 +49,6 @@ returns-else-count-eq0 g c = record {
       let found = leaves_none c.loop-schema.invariant (ap (filter_once (λ n. (g.N.Means.means n (subject_data c.args.node)).accepts c.args.ctx.now.validation.answer))
       (past_end c.deref-schema-items.ensures.value c.loop-schema-test.false)) (shows_none (shown_of c.loop-schema.outcome)) in
       accepting_alone g.N.Show.tree g.N.Means.means c.args.ctx.now.validation.answer (subject_data c.args.node) c.args.ctx.now.path c.args.ctx.now.path c.args.schemas.now.items c.requires c.loop-schema.outcome found
-      c.len-count.ensures c.if-count-eq0.false;
+      (counted _ c.children-count.ensures.nodes refl) c.if-count-eq0.false;
   kept = c.loop-schema.invariant.kept;
 }

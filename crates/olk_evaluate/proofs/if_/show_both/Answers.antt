@@ -1,4 +1,4 @@
-use Rattle.olk_evaluate.proofs.Children.{shows_both, with_room}
+use Rattle.olk_evaluate.proofs.Children.{shows_both, shows_from}
 use Rattle.olk_evaluate.proofs.Shows.{kept_same, as_before, shows_err, shows_then}
 use Rattle.olk_base.specs.Nodes.{subject_data}
 use Rattle.olk_reports.specs.Evaluations.{shown_of}
@@ -6,14 +6,14 @@ use Rattle.olk_evaluate.specs.Wanted.{ShowsMore, each_wanted}
 use Rattle.std.proofs.Common.{[], ◌∷◌}
 use Rattle.olk_evaluate.proofs.if_.show_both.Goals as goal
 
-pub returns-in_err-reserve_exact : goal.returns-in_err-reserve_exact
-returns-in_err-reserve_exact g c = shows_err c.from_residual.ensures.0 kept_same
+pub returns-in_err-reserve_children : goal.returns-in_err-reserve_children
+returns-in_err-reserve_children g c = shows_err c.from_residual.ensures.0 kept_same
 
 pub returns-in_err-add_child : goal.returns-in_err-add_child
 returns-in_err-add_child g c = shows_err c.from_residual-in_err-add_child.ensures.0 c.add_child.ensures.kept
 
 pub returns : goal.returns
-returns g c = shows_then c.add_child.ensures.kept c.add_child-2.ensures (λ _ more. with_room c.args.outcome.now c.reserve_exact.new.self c.in_ok-reserve_exact.ensures.items
+returns g c = shows_then c.add_child.ensures.kept c.add_child-2.ensures (λ _ more. shows_from c.reserve_children.ensures
     (shows_both c.in_ok-add_child.ensures.shown
     (as_before (λ u Q. ShowsMore (each_wanted g.N.Show.tree g.N.Means.means u (c.args.second.now ∷ []) (subject_data c.args.node) Q) (shown_of c.add_child.new.outcome) (shown_of c.add_child-2.new.outcome))
     c.add_child.ensures.kept more)))

@@ -21,7 +21,7 @@ returns-in-True g c = record {
 }
 
 pub returns-in-False : goal.returns-in-False
-returns-in-False g c = shows_by c.mark_errored_by.ensures kept_same (λ _ error.
+returns-in-False g c = shows_by c.mark_errored_by.ensures.added kept_same (λ _ error.
     subst (λ b. ShowsBody g.W.Show.tree g.W.Means.means c.args.ctx.now.validation.answer b (subject_data c.args.node) c.args.ctx.now.path (shown_of c.mark_errored_by.new.self)) (sym c.in-False.is)
     (λ P. erring_shown P c.args.ctx.now.path (fault FalseSchema (subject_data c.args.node) c.args.ctx.now.path P ∷ []) c.requires (adds_as kind_of_false_schema c.node.ensures (error P c.args.ctx.now.path))))
 

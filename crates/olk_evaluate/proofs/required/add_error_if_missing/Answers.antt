@@ -15,4 +15,4 @@ returns-then-has_member c P Q = subst (λ b. AddsErrors (fault_if (not b) (Requi
 pub returns : goal.returns
 returns c = on_ok_weaker c.mark_errored_by.result (λ added P Q.
     subst (λ b. AddsErrors (fault_if (not b) (Required c.args.name.now) (subject_data c.args.node) P Q) (shown_of c.args.outcome.now) (shown_of c.mark_errored_by.new.self))
-    c.if-has_member.ensures (adds_as (kind_of_required c.args.name) c.node.ensures (added P Q))) c.mark_errored_by.ensures
+    c.if-has_member.ensures (adds_as (kind_of_required c.args.name) c.node.ensures (added P Q))) c.mark_errored_by.ensures.added

@@ -7,4 +7,4 @@ use Rattle.olk_evaluate.proofs.sides.add_named.Goals as goal
 pub returns : goal.returns
 returns c = on_ok_weaker c.mark_errored_by.result
     (λ added P Q. names_told c.args.unexpected.items (subject_data c.args.node) P Q c.args.unexpected.ok.0 c.if-is_empty.ensures
-    (adds_as (kind_of_additional_properties c.args.unexpected) c.node.ensures (added P Q))) c.mark_errored_by.ensures
+    (adds_as (kind_of_additional_properties c.args.unexpected) c.node.ensures (added P Q))) c.mark_errored_by.ensures.added

@@ -1,12 +1,12 @@
 use Rattle.std.proofs.Common.{refl}
 use Rattle.olk_reports.specs.Evaluations.{shown_of}
 use Rattle.olk_tree.proofs.Lists.{next_at, past_end}
-use Rattle.olk_evaluate.proofs.Children.{shows_none, shows_both, with_room}
+use Rattle.olk_evaluate.proofs.Children.{shows_none, shows_both, shows_from}
 use Rattle.olk_evaluate.proofs.Shows.{kept_same, kept_then, shows_err, leaves_all, leaves_rest, leaves_none}
 use Rattle.olk_evaluate.proofs.walk.show_each.Goals as goal
 
-pub returns-in_err-reserve_exact : goal.returns-in_err-reserve_exact
-returns-in_err-reserve_exact g c = shows_err c.from_residual.ensures.0 kept_same
+pub returns-in_err-reserve_children : goal.returns-in_err-reserve_children
+returns-in_err-reserve_children g c = shows_err c.from_residual.ensures.0 kept_same
 
 pub loop-schema-init : goal.loop-schema-init
 loop-schema-init g c = leaves_all refl
@@ -20,7 +20,7 @@ returns-in_err-add_child g c = shows_err c.from_residual-in_err-add_child.ensure
 
 pub returns : goal.returns
 returns g c = record {
-  shown = with_room c.args.outcome.now c.reserve_exact.new.self c.in_ok-reserve_exact.ensures.items
+  shown = shows_from c.reserve_children.ensures
       (leaves_none c.loop-schema.invariant (past_end c.deref-schema-items.ensures.value c.loop-schema-test.false) (shows_none (shown_of c.loop-schema.outcome)));
   kept = c.loop-schema.invariant.kept;
 }

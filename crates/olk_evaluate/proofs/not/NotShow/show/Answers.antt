@@ -16,6 +16,6 @@ returns-then-not-accepts g c = record {
 }
 
 pub returns : goal.returns
-returns g c = shows_by c.mark_errored_by.ensures (kept_asked c.if-not-accepts.ensures.only) (λ _ added.
+returns g c = shows_by c.mark_errored_by.ensures.added (kept_asked c.if-not-accepts.ensures.only) (λ _ added.
     refusal_shown (Refuses (view c.args.self.now.original)) (subject_data c.args.node) c.args.self.now.location c.args.ctx.now.path true c.if-not-accepts.ensures.verdict c.requires
     (adds_as (kind_of_not _) c.node.ensures (added c.args.self.now.location c.args.ctx.now.path)))

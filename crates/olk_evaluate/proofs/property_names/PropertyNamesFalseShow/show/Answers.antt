@@ -25,7 +25,7 @@ returns-then-is_empty c = record {
 }
 
 pub returns-else-is_empty : goal.returns-else-is_empty
-returns-else-is_empty c = shows_by c.mark_errored_by.ensures kept_same (λ _ added.
+returns-else-is_empty c = shows_by c.mark_errored_by.ensures.added kept_same (λ _ added.
     members_shown (subject_data c.args.node) c.args.self.now.location c.args._ctx.now.path false
     (sym c.if-is_empty.false ∙ has_none (subject_data c.args.node) c.in-Some.members.now.entries c.in-Some.ensures c.is_empty.result c.is_empty.ensures.0 c.is_empty.ensures.1) c.requires
     (adds_as kind_of_false_schema c.node.ensures (added c.args.self.now.location c.args._ctx.now.path)))

@@ -1,7 +1,9 @@
-use Rattle.std.proofs.Common.{◌∙◌, sym, ap}
+use Rattle.std.proofs.Common.{ap}
 use Rattle.olk_reports.specs.Evaluations.{called_invalid}
-use Rattle.olk_reports.proofs.Evaluations.{parts_of_shown, shown_of_parts}
 use Rattle.olk_reports.proofs.evaluation.EvaluationResult.mark_invalid.Goals as goal
 
+pub invariant_of-self : goal.invariant_of-self
+invariant_of-self c valid = cc
+
 pub returns : goal.returns
-returns c = shown_of_parts _ _ _ _ ∙ sym (ap called_invalid (parts_of_shown c.args.self.now))
+returns c = ap called_invalid c.self.view_is
