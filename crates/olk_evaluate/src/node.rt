@@ -29,7 +29,8 @@ impl<'a, K: Leaf, R: RegexEngine, N: Located<'a>> Show<'a> for KeywordOver<K, R,
         outcome: &mut EvaluationResult<'a>,
     ) -> Result<(), AllocError> {
         match self {
-            KeywordOver::Properties(keyword) => keyword.show(node, ctx, outcome),
+            KeywordOver::SmallProperties(keyword) => keyword.show(node, ctx, outcome),
+            KeywordOver::BigProperties(keyword) => keyword.show(node, ctx, outcome),
             KeywordOver::PropertiesWithRequired2(keyword) => { keyword.show(node, ctx, outcome) }
             KeywordOver::Required(keyword) => keyword.show(node, ctx, outcome),
             KeywordOver::AllOf(keyword) => keyword.show(node, ctx, outcome),
@@ -43,6 +44,8 @@ impl<'a, K: Leaf, R: RegexEngine, N: Located<'a>> Show<'a> for KeywordOver<K, R,
             KeywordOver::IfElse(keyword) => keyword.show(node, ctx, outcome),
             KeywordOver::IfThenElse(keyword) => keyword.show(node, ctx, outcome),
             KeywordOver::Dependencies(keyword) => keyword.show(node, ctx, outcome),
+            KeywordOver::DependentRequired(keyword) => keyword.show(node, ctx, outcome),
+            KeywordOver::DependentSchemas(keyword) => keyword.show(node, ctx, outcome),
             KeywordOver::PropertyNames(keyword) => keyword.show(node, ctx, outcome),
             KeywordOver::PropertyNamesFalse(keyword) => keyword.show(node, ctx, outcome),
             KeywordOver::PropertyDependencies(keyword) => keyword.show(node, ctx, outcome),

@@ -1,14 +1,17 @@
 //! `properties`: what it shows.
 ghost use Rattle.std.specs.Prelude.{◌≡◌, ◌∷◌, [], OnOk};
 ghost use Rattle.serde_json.specs.View.{view, members_view};
+ghost use Rattle.olk_base.specs.Nodes.{subject_data};
+ghost use Rattle.olk_spec.specs.Names.{Path};
 ghost use Rattle.olk_spec.specs.Schemas.{listed};
 ghost use Rattle.olk_paths.specs.Paths.{one_below};
-ghost use Rattle.olk_reports.specs.Evaluations.{annotated, nothing_shown, shown_of};
+ghost use Rattle.olk_reports.specs.Evaluations.{annotated, node_at, nothing_shown, shown_of};
 ghost use Rattle.olk_tree.specs.Properties.{properties_mean};
+ghost use Rattle.olk_tree.specs.Shown.{properties_tree};
 ghost use Rattle.olk_tree.specs.Visited.{declared_as, members_declared, object_of};
 ghost use Rattle.olk_evaluate.specs.Members.{HasMet, MeetsMore, wanted_at};
 ghost use Rattle.olk_evaluate.specs.Shows.{Shows};
-ghost use Rattle.olk_evaluate.specs.Wanted.{ShowsMore, wanted};
+ghost use Rattle.olk_evaluate.specs.Wanted.{IsShown, ShowsMore, wanted};
 
 use crate::required::add_missing_child;
 use crate::walk::add_child;
@@ -16,37 +19,46 @@ use crate::{EvaluationContext, Located, Show};
 use olk_base::Subject;
 use olk_reports::EvaluationResult;
 use olk_tree::declared::DeclaredMembers;
-use olk_tree::entries::SortedEntries;
-use olk_tree::properties::{Properties, SmallPropertiesWithRequired2};
-use olk_tree::validators_map::PropertiesValidatorsMap;
+use olk_tree::entries::Entries;
+use olk_tree::properties::{BigProperties, SmallProperties, SmallPropertiesWithRequired2};
 use serde_json::{Map, Value};
 use std::alloc::AllocError;
 
 /// A child for each member whose name is declared; where the value is an object, these names are
 /// annotated (JSON Schema 2020-12 Core, 10.3.2.1).
-impl<'a, N: Located<'a>> Show<'a> for Properties<N> {
-    ghost use Rattle.olk_tree.specs.Properties.{properties_answers};
+impl<'a, N: Located<'a>> Show<'a> for SmallProperties<N> {
+    ghost use Rattle.olk_tree.specs.Properties.{small_properties_answers};
 
     ghost place = { λ k. k.location };
 
-    ghost tree = { λ k. (properties_answers k).tree N.means N.tree };
+    ghost tree = { λ k. (small_properties_answers k).tree N.means N.tree };
 
-    #[inline(never)]
     fn show(
         &'a self,
         node: Subject<'_, 'a>,
         ctx: &mut EvaluationContext,
         outcome: &mut EvaluationResult<'a>,
     ) -> Result<(), AllocError> {
-        match node.as_object() {
-            Some(members) => show_declared_members(
-                self.properties.entries(),
-                members,
-                ctx,
-                outcome,
-            ),
-            None => Ok(()),
-        }
+        show_properties(self.properties.entries(), node, ctx, outcome)
+    }
+}
+
+/// A child for each member whose name is declared; where the value is an object, these names are
+/// annotated (JSON Schema 2020-12 Core, 10.3.2.1).
+impl<'a, N: Located<'a>> Show<'a> for BigProperties<N> {
+    ghost use Rattle.olk_tree.specs.Properties.{big_properties_answers};
+
+    ghost place = { λ k. k.location };
+
+    ghost tree = { λ k. (big_properties_answers k).tree N.means N.tree };
+
+    fn show(
+        &'a self,
+        node: Subject<'_, 'a>,
+        ctx: &mut EvaluationContext,
+        outcome: &mut EvaluationResult<'a>,
+    ) -> Result<(), AllocError> {
+        show_properties(self.properties.entries(), node, ctx, outcome)
     }
 }
 
@@ -68,11 +80,34 @@ impl<'a, N: Located<'a>> Show<'a> for SmallPropertiesWithRequired2<N> {
     ) -> Result<(), AllocError> {
         match node.as_object() {
             Some(members) => {
-                show_declared_members(&self.properties.entries, members, ctx, outcome)?;
+                show_declared_members(self.properties.entries(), members, ctx, outcome)?;
                 add_missing_child(self, members, node, &ctx.path, outcome)
             }
             None => Ok(()),
         }
+    }
+}
+
+/// A child for each member whose name is declared, and these names annotated, where the value is an
+/// object.
+#[inline(never)]
+fn show_properties<'a, N: Located<'a> + 'a>(
+    properties: Entries<'a, N>,
+    node: Subject<'_, 'a>,
+    ctx: &mut EvaluationContext,
+    outcome: &mut EvaluationResult<'a>,
+) -> Result<(), AllocError>
+    requires { shown_of outcome.old ≡ nothing_shown }
+    ensures { Shows result ctx.old ctx.new (λ _. (P : Path) → IsShown
+        (properties_tree (λ n. N.tree n ctx.old.validation.answer) (subject_data node.entry)
+        ctx.old.path P properties.entry [],
+        (properties_mean N.means properties.entry (subject_data node.entry)).accepts
+        ctx.old.validation.answer)
+        (node_at P ctx.old.path (shown_of outcome.new))) }
+{
+    match node.as_object() {
+        Some(members) => show_declared_members(properties, members, ctx, outcome),
+        None => Ok(()),
     }
 }
 
@@ -89,7 +124,7 @@ pub(crate) fn make_room(
 
 /// The members that are declared, in the order of their names.
 fn show_declared_members<'a, N: Located<'a> + 'a>(
-    properties: &'a SortedEntries<N>,
+    properties: Entries<'a, N>,
     members: &'a Map<String, Value>,
     ctx: &mut EvaluationContext,
     outcome: &mut EvaluationResult<'a>,
@@ -97,8 +132,8 @@ fn show_declared_members<'a, N: Located<'a> + 'a>(
     requires { shown_of outcome.old ≡ nothing_shown }
     ensures { Shows result ctx.old ctx.new (λ _. HasMet
         (wanted_at N.tree N.means ctx.old.validation.answer ctx.old.path)
-        (members_declared properties.now (listed (members_view members.now.entries)))
-        ((properties_mean N.means properties.now
+        (members_declared properties.entry (listed (members_view members.now.entries)))
+        ((properties_mean N.means properties.entry
         (object_of members.now.entries)).accepts ctx.old.validation.answer)
         (shown_of outcome.new)) }
 {

@@ -4,7 +4,6 @@ use crate::{EvaluationContext, Located, Show};
 use olk_base::Subject;
 use olk_reports::EvaluationResult;
 use olk_tree::property_dependencies::PropertyDependencies;
-use olk_tree::validators_map::PropertiesValidatorsMap;
 use std::alloc::AllocError;
 
 /// A child for each key at whose text there is a subschema. The keyword is in no published version

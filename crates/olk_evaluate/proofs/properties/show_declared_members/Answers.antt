@@ -23,7 +23,7 @@ pub returns : goal.returns
 returns g c = record {
   shown = all_met g.N.Show.tree g.N.Means.means c.args.ctx.now.validation.answer c.args.ctx.now.path
       (ap left_of c.into_iter-name-iterator.ensures.into_iter_gives ∙ c.of-name-items.ensures.by_members)
-      (means_of_walk (members_view c.args.members.now.entries) c.args.properties.now c.into_iter-name-iterator.ensures.into_iter_gives c.of-name-items.ensures.by_names g.N.Means.means)
+      (means_of_walk (members_view c.args.members.now.entries) c.args.properties c.into_iter-name-iterator.ensures.into_iter_gives c.of-name-items.ensures.by_names g.N.Means.means)
       c.requires c.in_ok-make_room.ensures (leaves_none c.loop-name.invariant c.in-None.ensures.steps (meets_nothing (shown_of c.loop-name.outcome)));
   kept = c.loop-name.invariant.kept;
 }

@@ -14,9 +14,13 @@ pub returns-in-AdditionalProperties : goal.returns-in-AdditionalProperties
 unfolding answers_of
 returns-in-AdditionalProperties g c = rw c.in-AdditionalProperties.is c.show-in-AdditionalProperties.ensures
 
-pub returns-in-Properties : goal.returns-in-Properties
+pub returns-in-SmallProperties : goal.returns-in-SmallProperties
 unfolding answers_of
-returns-in-Properties g c = rw c.in-Properties.is c.show.ensures
+returns-in-SmallProperties g c = rw c.in-SmallProperties.is c.show.ensures
+
+pub returns-in-BigProperties : goal.returns-in-BigProperties
+unfolding answers_of
+returns-in-BigProperties g c = rw c.in-BigProperties.is c.show-in-BigProperties.ensures
 
 pub returns-in-PropertiesWithRequired2 : goal.returns-in-PropertiesWithRequired2
 unfolding answers_of
@@ -69,6 +73,14 @@ returns-in-IfThenElse g c = rw c.in-IfThenElse.is (rw (sym c.deref-in-IfThenElse
 pub returns-in-Dependencies : goal.returns-in-Dependencies
 unfolding answers_of
 returns-in-Dependencies g c = rw c.in-Dependencies.is c.show-in-Dependencies.ensures
+
+pub returns-in-DependentRequired : goal.returns-in-DependentRequired
+unfolding answers_of
+returns-in-DependentRequired g c = rw c.in-DependentRequired.is c.show-in-DependentRequired.ensures
+
+pub returns-in-DependentSchemas : goal.returns-in-DependentSchemas
+unfolding answers_of
+returns-in-DependentSchemas g c = rw c.in-DependentSchemas.is c.show-in-DependentSchemas.ensures
 
 pub returns-in-PropertyNames : goal.returns-in-PropertyNames
 unfolding answers_of

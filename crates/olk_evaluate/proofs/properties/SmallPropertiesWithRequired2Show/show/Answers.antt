@@ -4,6 +4,10 @@ use Rattle.serde_json.specs.View.{members_view}
 use Rattle.olk_base.specs.Nodes.{subject_data}
 use Rattle.olk_reports.specs.Evaluations.{shown_of}
 use Rattle.olk_tree.specs.Maps.{named, two_texts}
+use Rattle.olk_spec.specs.Schemas.{listed}
+use Rattle.olk_tree.specs.Properties.{properties_mean}
+use Rattle.olk_tree.specs.Visited.{members_declared, object_of}
+use Rattle.olk_evaluate.specs.Members.{HasMet, wanted_at}
 use Rattle.olk_evaluate.specs.Wanted.{ShowsMore, lacking_trees, refused}
 use Rattle.olk_evaluate.proofs.Members.{beside_shown, nothing_missing_shown}
 use Rattle.olk_evaluate.proofs.Shows.{kept_same, shows_by, shows_err}
@@ -18,7 +22,8 @@ returns-in_ok-show_declared_members-in-Some g c =
     let place = c.args.self.now.required_location in
     shows_by c.add_missing_child.ensures c.show_declared_members.ensures.kept (λ _ more.
     beside_shown g.N.Show.tree g.N.Means.means c.args.ctx.now.validation.answer c.args.ctx.now.path (named c.args.self.now.properties) c.args.self.now.location (subject_data c.args.node)
-    (members_view c.in-Some.members.now.entries) c.in-Some.ensures c.in_ok-show_declared_members-in-Some.ensures.shown required place
+    (members_view c.in-Some.members.now.entries) c.in-Some.ensures (subst (λ es. HasMet (wanted_at g.N.Show.tree g.N.Means.means c.args.ctx.now.validation.answer c.args.ctx.now.path) (members_declared es (listed (members_view c.in-Some.members.now.entries)))
+    ((properties_mean g.N.Means.means es (object_of c.in-Some.members.now.entries)).accepts c.args.ctx.now.validation.answer) (shown_of c.show_declared_members.new.outcome)) c.entries.ensures c.in_ok-show_declared_members-in-Some.ensures.shown) required place
     (subst (λ Q. ShowsMore (refused (lacking_trees required (subject_data c.args.node) (object (members_view c.in-Some.members.now.entries)) place Q))
     (shown_of c.show_declared_members.new.outcome) (shown_of c.add_missing_child.new.outcome)) c.show_declared_members.ensures.kept.path more))
 

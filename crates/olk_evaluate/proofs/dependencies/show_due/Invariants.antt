@@ -4,7 +4,7 @@ use Rattle.olk_reports.specs.Evaluations.{shown_of}
 use Rattle.olk_tree.specs.Visited.{left_of}
 use Rattle.olk_evaluate.specs.Wanted.{ShowsMore, wanted}
 use Rattle.olk_evaluate.proofs.Shows.{Leaves}
-use Rattle.olk_evaluate.proofs.dependencies.DependenciesShow.show.Given as goal
+use Rattle.olk_evaluate.proofs.dependencies.show_due.Given as goal
 
 abbrev pub invariant-loop-dependency : goal.invariant-loop-dependency
 invariant-loop-dependency g l =
