@@ -8,7 +8,7 @@ use olk_build::Context;
 use olk_keywords::{pattern_properties, properties};
 use olk_reports::BuildError;
 use olk_tree::built_node::BuiltNode;
-use olk_tree::{BigMap, SmallMap, SortedEntries};
+use olk_tree::{BigMap, Entries, SmallMap};
 use serde_json::{Map, Value};
 use std::alloc::{AllocError, Global};
 use std::test::Fail;
@@ -24,7 +24,7 @@ fn refused_line(alloc: Global, error: &BuildError<'_>) -> Result<String, AllocEr
 }
 
 /// Names, each with its node.
-fn nodes_line<N: Shown>(alloc: Global, entries: &SortedEntries<N>) -> Result<String, AllocError> {
+fn nodes_line<N: Shown>(alloc: Global, entries: Entries<'_, N>) -> Result<String, AllocError> {
     let mut text = String::new(alloc);
     push_nodes(&mut text, entries)?;
     Ok(text)
@@ -35,7 +35,7 @@ fn small_map_line<N: Shown>(
     built: &Result<SmallMap<N>, BuildError<'_>>,
 ) -> Result<String, AllocError> {
     match built {
-        Ok(map) => nodes_line(alloc, &map.entries),
+        Ok(map) => nodes_line(alloc, map.entries()),
         Err(error) => refused_line(alloc, error),
     }
 }
@@ -45,7 +45,7 @@ fn big_map_line<N: Shown>(
     built: &Result<BigMap<N>, BuildError<'_>>,
 ) -> Result<String, AllocError> {
     match built {
-        Ok(map) => nodes_line(alloc, &map.entries),
+        Ok(map) => nodes_line(alloc, map.entries()),
         Err(error) => refused_line(alloc, error),
     }
 }

@@ -73,7 +73,7 @@ fn is_fused<N>(made: &Made<'_, N>) -> Result<bool, Fail> {
                     && keyword.required_location.as_str() == "/required",
             )
         }
-        Some(Ok(KeywordOver::Properties(_))) => Ok(false),
+        Some(Ok(KeywordOver::SmallProperties(_) | KeywordOver::BigProperties(_))) => Ok(false),
         _ => Err(Fail::from("not built")),
     }
 }

@@ -23,7 +23,7 @@ use std::test::Fail;
 // ---- a keyword as text
 
 fn push_small_map<N: Shown>(text: &mut String, map: &SmallMap<N>) -> Result<(), AllocError> {
-    push_nodes(text, &map.entries)
+    push_nodes(text, map.entries())
 }
 
 /// A name with the texts that choose, each with its node.
@@ -41,17 +41,14 @@ fn push_choices<N: Shown>(
     text: &mut String,
     map: &SmallMap<SmallMap<N>>,
 ) -> Result<(), AllocError> {
-    for entry in map.entries.as_slice() {
-        push_choice(text, entry.name.as_str(), &entry.node)?;
+    for (name, chosen) in map.entries().iter() {
+        push_choice(text, name, chosen)?;
     }
     Ok(())
 }
 
 fn push_map<N: Shown>(text: &mut String, map: &PropertiesMap<N>) -> Result<(), AllocError> {
-    match map {
-        PropertiesMap::Small(map) => push_small_map(text, map),
-        PropertiesMap::Big(map) => push_nodes(text, &map.entries),
-    }
+    push_nodes(text, map.entries())
 }
 
 /// The declared names, the patterns, and the node for the rest.
@@ -132,6 +129,8 @@ fn place_of<K, R, N>(keyword: &KeywordOver<K, R, N>) -> &str {
     match keyword {
         KeywordOver::Not(keyword) => keyword.location.as_str(),
         KeywordOver::Dependencies(keyword) => keyword.location.as_str(),
+        KeywordOver::DependentRequired(keyword) => keyword.location.as_str(),
+        KeywordOver::DependentSchemas(keyword) => keyword.location.as_str(),
         KeywordOver::PropertyNames(keyword) => keyword.location.as_str(),
         KeywordOver::PropertyNamesFalse(keyword) => keyword.location.as_str(),
         KeywordOver::PropertyDependencies(keyword) => keyword.location.as_str(),
@@ -164,6 +163,8 @@ fn push_held<K, R, N: Shown>(
     match keyword {
         KeywordOver::Not(_) => Ok(()),
         KeywordOver::Dependencies(keyword) => push_small_map(text, &keyword.dependencies),
+        KeywordOver::DependentRequired(keyword) => push_small_map(text, &keyword.dependencies),
+        KeywordOver::DependentSchemas(keyword) => push_small_map(text, &keyword.dependencies),
         KeywordOver::PropertyNames(keyword) => push_named(text, &keyword.node),
         KeywordOver::PropertyNamesFalse(_) => text.push_str(" no name"),
         KeywordOver::PropertyDependencies(keyword) => push_choices(text, &keyword.dependencies),

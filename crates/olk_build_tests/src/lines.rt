@@ -1,7 +1,7 @@
 //! Nodes and what holds them, as text.
 use crate::shown::Shown;
 use olk_base::CompiledPattern;
-use olk_tree::{RequiredValidator, SortedEntries};
+use olk_tree::{Entries, RequiredValidator};
 use std::alloc::AllocError;
 
 /// Adds these parts in turn.
@@ -37,10 +37,10 @@ fn push_named<N: Shown>(text: &mut String, name: &str, node: &N) -> Result<(), A
 /// Each name with its node.
 pub(crate) fn push_nodes<N: Shown>(
     text: &mut String,
-    entries: &SortedEntries<N>,
+    entries: Entries<'_, N>,
 ) -> Result<(), AllocError> {
-    for entry in entries.as_slice() {
-        push_named(text, entry.name.as_str(), &entry.node)?;
+    for (name, node) in entries.iter() {
+        push_named(text, name, node)?;
     }
     Ok(())
 }

@@ -9,7 +9,7 @@ use olk_reports::BuildError;
 use olk_tree::additional_properties::Restriction;
 use olk_tree::built_node::BuiltNode;
 use olk_tree::properties_map::PropertiesMap;
-use olk_tree::{Body, KeywordOver, SmallMap, SortedEntries};
+use olk_tree::{Body, Entries, KeywordOver, SmallMap};
 use serde_json::Value;
 use std::alloc::{AllocError, Global};
 use std::test::Fail;
@@ -103,6 +103,8 @@ fn variant_of_condition<K, R, N>(keyword: &KeywordOver<K, R, N>) -> &'static str
         KeywordOver::IfElse(_) => " IfElse",
         KeywordOver::IfThenElse(_) => " IfThenElse",
         KeywordOver::Dependencies(_) => " Dependencies",
+        KeywordOver::DependentRequired(_) => " DependentRequired",
+        KeywordOver::DependentSchemas(_) => " DependentSchemas",
         KeywordOver::PropertyDependencies(_) => " PropertyDependencies",
         _ => variant_of_members(keyword),
     }
@@ -111,6 +113,8 @@ fn variant_of_condition<K, R, N>(keyword: &KeywordOver<K, R, N>) -> &'static str
 /// The variant alone, of a keyword that speaks of members, and of a leaf.
 fn variant_of_members<K, R, N>(keyword: &KeywordOver<K, R, N>) -> &'static str {
     match keyword {
+        KeywordOver::SmallProperties(_) => " SmallProperties",
+        KeywordOver::BigProperties(_) => " BigProperties",
         KeywordOver::Required(_) => " Required",
         KeywordOver::PropertyNames(_) => " PropertyNames",
         KeywordOver::PropertyNamesFalse(_) => " PropertyNamesFalse",
@@ -127,9 +131,6 @@ fn push_variant<K, R, N>(
     keyword: &KeywordOver<K, R, N>,
 ) -> Result<(), AllocError> {
     match keyword {
-        KeywordOver::Properties(keyword) => {
-            push_all(text, &[" Properties", form_of_map(&keyword.properties)])
-        }
         KeywordOver::PropertiesWithRequired2(keyword) => {
             let (first, second) = (keyword.first.as_str(), keyword.second.as_str());
             push_all(text, &[" PropertiesWithRequired2 ", first, " ", second])
@@ -141,17 +142,10 @@ fn push_variant<K, R, N>(
 
 // ---- the first node that a keyword holds; of `additionalProperties` that for the rest
 
-fn first_of<N>(entries: &SortedEntries<N>) -> Option<&N> {
-    match entries.as_slice().first() {
-        Some(entry) => Some(&entry.node),
+fn first_of<'a, N>(entries: Entries<'a, N>) -> Option<&'a N> {
+    match entries.iter().next() {
+        Some((_, node)) => Some(node),
         None => None,
-    }
-}
-
-fn first_declared<N>(map: &PropertiesMap<N>) -> Option<&N> {
-    match map {
-        PropertiesMap::Small(map) => first_of(&map.entries),
-        PropertiesMap::Big(map) => first_of(&map.entries),
     }
 }
 
@@ -163,8 +157,8 @@ fn first_matched<R, N>(patterns: &[(CompiledPattern<R>, N)]) -> Option<&N> {
 }
 
 fn first_chosen<N>(map: &SmallMap<SmallMap<N>>) -> Option<&N> {
-    match map.entries.as_slice().first() {
-        Some(chosen) => first_of(&chosen.node.entries),
+    match first_of(map.entries()) {
+        Some(chosen) => first_of(chosen.entries()),
         None => None,
     }
 }
@@ -188,7 +182,9 @@ fn first_node_of_condition<K, R, N>(keyword: &KeywordOver<K, R, N>) -> Option<&N
         KeywordOver::IfThen(keyword) => Some(&keyword.schema),
         KeywordOver::IfElse(keyword) => Some(&keyword.schema),
         KeywordOver::IfThenElse(keyword) => Some(&keyword.schema),
-        KeywordOver::Dependencies(keyword) => first_of(&keyword.dependencies.entries),
+        KeywordOver::Dependencies(keyword) => first_of(keyword.dependencies.entries()),
+        KeywordOver::DependentRequired(keyword) => first_of(keyword.dependencies.entries()),
+        KeywordOver::DependentSchemas(keyword) => first_of(keyword.dependencies.entries()),
         KeywordOver::PropertyDependencies(keyword) => first_chosen(&keyword.dependencies),
         _ => first_node_of_members(keyword),
     }
@@ -197,8 +193,9 @@ fn first_node_of_condition<K, R, N>(keyword: &KeywordOver<K, R, N>) -> Option<&N
 /// The first node of a keyword that speaks of members.
 fn first_node_of_members<K, R, N>(keyword: &KeywordOver<K, R, N>) -> Option<&N> {
     match keyword {
-        KeywordOver::Properties(keyword) => first_declared(&keyword.properties),
-        KeywordOver::PropertiesWithRequired2(keyword) => first_of(&keyword.properties.entries),
+        KeywordOver::SmallProperties(keyword) => first_of(keyword.properties.entries()),
+        KeywordOver::BigProperties(keyword) => first_of(keyword.properties.entries()),
+        KeywordOver::PropertiesWithRequired2(keyword) => first_of(keyword.properties.entries()),
         KeywordOver::PropertyNames(keyword) => Some(&keyword.node),
         KeywordOver::PatternProperties(keyword) => first_matched(keyword.patterns.as_slice()),
         KeywordOver::SingleValuePatternProperties(keyword) => Some(&keyword.node),
@@ -315,27 +312,27 @@ fn variants(alloc: Global, json: &str) -> Result<String, Fail> {
 // A schema, and the variants of its keywords, in their order; behind each the variants of the first
 // node that it holds, of `additionalProperties` those of the node for the rest. From `a` to `n` are
 // 14 names, and from `a` to `o` 15.
-const VARIANTS: &str = r#"{"properties":{}} | { Properties small }
-{"properties":{"a":true,"b":true,"c":true,"d":true,"e":true,"f":true,"g":true,"h":true,"i":true,"j":true,"k":true,"l":true,"m":true,"n":true}} | { Properties small }
-{"properties":{"a":true,"b":true,"c":true,"d":true,"e":true,"f":true,"g":true,"h":true,"i":true,"j":true,"k":true,"l":true,"m":true,"n":true,"o":true}} | { Properties big }
+const VARIANTS: &str = r#"{"properties":{}} | { SmallProperties }
+{"properties":{"a":true,"b":true,"c":true,"d":true,"e":true,"f":true,"g":true,"h":true,"i":true,"j":true,"k":true,"l":true,"m":true,"n":true}} | { SmallProperties }
+{"properties":{"a":true,"b":true,"c":true,"d":true,"e":true,"f":true,"g":true,"h":true,"i":true,"j":true,"k":true,"l":true,"m":true,"n":true,"o":true}} | { BigProperties }
 {"properties":{},"required":["a","b"]} | { PropertiesWithRequired2 a b }
 {"properties":{"a":true,"b":true,"c":true,"d":true,"e":true,"f":true,"g":true,"h":true,"i":true,"j":true,"k":true,"l":true,"m":true,"n":true},"required":["a","b"]} | { PropertiesWithRequired2 a b }
-{"properties":{"a":true,"b":true,"c":true,"d":true,"e":true,"f":true,"g":true,"h":true,"i":true,"j":true,"k":true,"l":true,"m":true,"n":true,"o":true},"required":["a","b"]} | { Properties big Required }
+{"properties":{"a":true,"b":true,"c":true,"d":true,"e":true,"f":true,"g":true,"h":true,"i":true,"j":true,"k":true,"l":true,"m":true,"n":true,"o":true},"required":["a","b"]} | { BigProperties Required }
 {"additionalProperties":true,"properties":{"a":true,"b":true,"c":true,"d":true,"e":true,"f":true,"g":true,"h":true,"i":true,"j":true,"k":true,"l":true,"m":true,"n":true},"required":["y","z"]} | { PropertiesWithRequired2 y z }
-{"additionalProperties":true,"properties":{"a":true,"b":true,"c":true,"d":true,"e":true,"f":true,"g":true,"h":true,"i":true,"j":true,"k":true,"l":true,"m":true,"n":true,"o":true},"required":["y","z"]} | { Properties big Required }
-{"properties":{"a":true},"required":[]} | { Properties small Required }
-{"properties":{"a":true},"required":["a"]} | { Properties small Required }
-{"properties":{"a":true},"required":["a","a"]} | { Properties small Required }
-{"properties":{"a":true},"required":["a","b","c"]} | { Properties small Required }
-{"properties":{"a":true},"required":["a","b","b"]} | { Properties small Required }
+{"additionalProperties":true,"properties":{"a":true,"b":true,"c":true,"d":true,"e":true,"f":true,"g":true,"h":true,"i":true,"j":true,"k":true,"l":true,"m":true,"n":true,"o":true},"required":["y","z"]} | { BigProperties Required }
+{"properties":{"a":true},"required":[]} | { SmallProperties Required }
+{"properties":{"a":true},"required":["a"]} | { SmallProperties Required }
+{"properties":{"a":true},"required":["a","a"]} | { SmallProperties Required }
+{"properties":{"a":true},"required":["a","b","c"]} | { SmallProperties Required }
+{"properties":{"a":true},"required":["a","b","b"]} | { SmallProperties Required }
 {"required":["a","b"]} | { Required }
 {"patternProperties":{}} | { PatternProperties }
 {"patternProperties":{"a":true}} | { SingleValuePatternProperties }
 {"patternProperties":{"a":true,"^b":true}} | { PatternProperties }
-{"patternProperties":{},"properties":{"a":true},"required":["a","b"]} | { PatternProperties Properties small Required }
-{"patternProperties":{"^a":true},"properties":{"a":true,"b":true,"c":true,"d":true,"e":true,"f":true,"g":true,"h":true,"i":true,"j":true,"k":true,"l":true,"m":true,"n":true}} | { SingleValuePatternProperties Properties small }
-{"patternProperties":{"^a":true},"properties":{"a":true,"b":true,"c":true,"d":true,"e":true,"f":true,"g":true,"h":true,"i":true,"j":true,"k":true,"l":true,"m":true,"n":true,"o":true}} | { SingleValuePatternProperties Properties big }
-{"additionalProperties":true,"patternProperties":{"^a":true},"properties":{"a":true},"required":["a","b"]} | { SingleValuePatternProperties Properties small Required }
+{"patternProperties":{},"properties":{"a":true},"required":["a","b"]} | { PatternProperties SmallProperties Required }
+{"patternProperties":{"^a":true},"properties":{"a":true,"b":true,"c":true,"d":true,"e":true,"f":true,"g":true,"h":true,"i":true,"j":true,"k":true,"l":true,"m":true,"n":true}} | { SingleValuePatternProperties SmallProperties }
+{"patternProperties":{"^a":true},"properties":{"a":true,"b":true,"c":true,"d":true,"e":true,"f":true,"g":true,"h":true,"i":true,"j":true,"k":true,"l":true,"m":true,"n":true,"o":true}} | { SingleValuePatternProperties BigProperties }
+{"additionalProperties":true,"patternProperties":{"^a":true},"properties":{"a":true},"required":["a","b"]} | { SingleValuePatternProperties SmallProperties Required }
 {"additionalProperties":true} | { }
 {"additionalProperties":false} | { AdditionalPropertiesFalse }
 {"additionalProperties":{}} | { AdditionalProperties { } }
@@ -369,21 +366,21 @@ const VARIANTS: &str = r#"{"properties":{}} | { Properties small }
 {"else":true,"if":true,"then":true} | { IfThenElse }
 {"propertyNames":{}} | { PropertyNames { } }
 {"propertyNames":false} | { PropertyNamesFalse }
-{"dependentRequired":{"a":["b"]}} | { Dependencies }
-{"dependentSchemas":{"a":true}} | { Dependencies }
+{"dependentRequired":{"a":["b"]}} | { DependentRequired }
+{"dependentSchemas":{"a":true}} | { DependentSchemas }
 {"dependencies":{"a":["b"],"b":true}} | { Dependencies }
 {"propertyDependencies":{"a":{"b":true}}} | { PropertyDependencies }
 {"not":true} | { Not }
 {"text":false} | { Leaf }
 {} | { }
 {"other":{"not":true}} | { }
-{"allOf":[true],"anyOf":[],"dependencies":{},"dependentRequired":{},"dependentSchemas":{},"else":true,"if":true,"not":true,"oneOf":[true],"patternProperties":{"a":true},"properties":{},"propertyDependencies":{},"propertyNames":false,"required":["a","b"],"text":false,"then":true} | { SingleValueAllOf AnyOf Dependencies Dependencies Dependencies IfThenElse Not SingleOneOf SingleValuePatternProperties Properties small PropertyDependencies PropertyNamesFalse Required Leaf }
+{"allOf":[true],"anyOf":[],"dependencies":{},"dependentRequired":{},"dependentSchemas":{},"else":true,"if":true,"not":true,"oneOf":[true],"patternProperties":{"a":true},"properties":{},"propertyDependencies":{},"propertyNames":false,"required":["a","b"],"text":false,"then":true} | { SingleValueAllOf AnyOf Dependencies DependentRequired DependentSchemas IfThenElse Not SingleOneOf SingleValuePatternProperties SmallProperties PropertyDependencies PropertyNamesFalse Required Leaf }
 {"additionalProperties":false,"allOf":[],"anyOf":[true],"not":true,"oneOf":[],"properties":{"a":true},"propertyNames":{},"required":["a"],"text":false} | { AdditionalPropertiesNotEmptyFalseWithRequired1 small requires a AllOf SingleAnyOf Not OneOf PropertyNames { } Leaf }
 {"not":true,"properties":{},"propertyNames":false,"required":["a","b"],"text":false} | { Not PropertiesWithRequired2 a b PropertyNamesFalse Leaf }
-{"not":{"properties":{"a":true,"b":true,"c":true,"d":true,"e":true,"f":true,"g":true,"h":true,"i":true,"j":true,"k":true,"l":true,"m":true,"n":true}}} | { Not { Properties small } }
-{"not":{"properties":{"a":true,"b":true,"c":true,"d":true,"e":true,"f":true,"g":true,"h":true,"i":true,"j":true,"k":true,"l":true,"m":true,"n":true,"o":true}}} | { Not { Properties big } }
+{"not":{"properties":{"a":true,"b":true,"c":true,"d":true,"e":true,"f":true,"g":true,"h":true,"i":true,"j":true,"k":true,"l":true,"m":true,"n":true}}} | { Not { SmallProperties } }
+{"not":{"properties":{"a":true,"b":true,"c":true,"d":true,"e":true,"f":true,"g":true,"h":true,"i":true,"j":true,"k":true,"l":true,"m":true,"n":true,"o":true}}} | { Not { BigProperties } }
 {"allOf":[{"properties":{"a":true,"b":true,"c":true,"d":true,"e":true,"f":true,"g":true,"h":true,"i":true,"j":true,"k":true,"l":true,"m":true,"n":true},"required":["a","b"]}]} | { SingleValueAllOf { PropertiesWithRequired2 a b } }
-{"allOf":[{"properties":{"a":true,"b":true,"c":true,"d":true,"e":true,"f":true,"g":true,"h":true,"i":true,"j":true,"k":true,"l":true,"m":true,"n":true,"o":true},"required":["a","b"]}]} | { SingleValueAllOf { Properties big Required } }
+{"allOf":[{"properties":{"a":true,"b":true,"c":true,"d":true,"e":true,"f":true,"g":true,"h":true,"i":true,"j":true,"k":true,"l":true,"m":true,"n":true,"o":true},"required":["a","b"]}]} | { SingleValueAllOf { BigProperties Required } }
 {"allOf":[{"additionalProperties":false,"properties":{"a":true,"b":true,"c":true,"d":true,"e":true,"f":true,"g":true,"h":true,"i":true,"j":true,"k":true,"l":true,"m":true,"n":true}},true]} | { AllOf { AdditionalPropertiesNotEmptyFalse small } }
 {"allOf":[{"additionalProperties":false,"properties":{"a":true,"b":true,"c":true,"d":true,"e":true,"f":true,"g":true,"h":true,"i":true,"j":true,"k":true,"l":true,"m":true,"n":true,"o":true}},true]} | { AllOf { AdditionalPropertiesNotEmptyFalse big } }
 {"anyOf":[{"allOf":[],"anyOf":[true],"oneOf":[true,true]}]} | { SingleAnyOf { AllOf SingleAnyOf OneOf } }
@@ -393,14 +390,14 @@ const VARIANTS: &str = r#"{"properties":{}} | { Properties small }
 {"if":{"if":true,"then":true},"then":true} | { IfThen { IfThen } }
 {"else":true,"if":{"else":true,"if":true}} | { IfElse { IfElse } }
 {"else":true,"if":{"else":true,"if":true,"then":true},"then":true} | { IfThenElse { IfThenElse } }
-{"properties":{"a":{"patternProperties":{"a":true,"b":true}}}} | { Properties small { PatternProperties } }
-{"properties":{"a":{"dependentRequired":{},"propertyNames":false},"b":true,"c":true,"d":true,"e":true,"f":true,"g":true,"h":true,"i":true,"j":true,"k":true,"l":true,"m":true,"n":true,"o":true}} | { Properties big { Dependencies PropertyNamesFalse } }
+{"properties":{"a":{"patternProperties":{"a":true,"b":true}}}} | { SmallProperties { PatternProperties } }
+{"properties":{"a":{"dependentRequired":{},"propertyNames":false},"b":true,"c":true,"d":true,"e":true,"f":true,"g":true,"h":true,"i":true,"j":true,"k":true,"l":true,"m":true,"n":true,"o":true}} | { BigProperties { DependentRequired PropertyNamesFalse } }
 {"properties":{"a":{"dependencies":{"a":[]}}},"required":["a","b"]} | { PropertiesWithRequired2 a b { Dependencies } }
-{"patternProperties":{"a":{"dependentSchemas":{}}}} | { SingleValuePatternProperties { Dependencies } }
+{"patternProperties":{"a":{"dependentSchemas":{}}}} | { SingleValuePatternProperties { DependentSchemas } }
 {"patternProperties":{"a":{"text":false},"b":true}} | { PatternProperties { Leaf } }
 {"additionalProperties":{"additionalProperties":false,"properties":{"a":true},"required":["a"]}} | { AdditionalProperties { AdditionalPropertiesNotEmptyFalseWithRequired1 small requires a } }
 {"propertyNames":{"propertyNames":{}}} | { PropertyNames { PropertyNames } }
-{"dependentSchemas":{"a":{"propertyDependencies":{}}}} | { Dependencies { PropertyDependencies } }
+{"dependentSchemas":{"a":{"propertyDependencies":{}}}} | { DependentSchemas { PropertyDependencies } }
 {"propertyDependencies":{"a":{"b":{"not":true}}}} | { PropertyDependencies { Not } }"#;
 
 #[test]

@@ -15,7 +15,7 @@ use Rattle.olk_spec.specs.Faults.{Fault, ◌∼◌}
 use Rattle.olk_spec.specs.Malformed.{has_repeat}
 use Rattle.olk_spec.specs.Meaning.{meaning_step}
 use Rattle.olk_spec.specs.Tree.{Tree}
-use Rattle.olk_spec.proofs.Truth.{and_from, and_first, and_second}
+use Rattle.olk_spec.proofs.Truth.{and_from}
 use Rattle.olk_base.specs.Kit.{Kit}
 use Rattle.olk_base.specs.Compiled.{pattern_answers}
 use Rattle.olk_base.specs.declared.pattern.CompiledPattern.{CompiledPattern}
@@ -45,19 +45,18 @@ use Rattle.olk_tree.specs.declared.node.KeywordOver.{KeywordOver}
 use Rattle.olk_tree.specs.declared.node.KeywordOver.TheVariants as keyword
 use Rattle.olk_tree.specs.Answers.{Answers}
 use Rattle.olk_tree.specs.Places.{Stands}
-use Rattle.olk_read.specs.Patterns.{ArePatterns}
 use Rattle.olk_read.specs.declared.shape.Shape.TheVariants as shape
 use Rattle.olk_make.specs.Forms.{IsMapOf, IsRestriction, HasMapFor, IsFormOfAdditionalProperties, IsAdditionalProperties}
 use Rattle.olk_make.specs.Holding.{StandEach, which}
 use Rattle.olk_make.specs.Making.{KeywordsMean, MakesRestriction, MakesPart}
-use Rattle.olk_make.specs.Standing.{Fills, DeclaredStand, PatternsStand, RestStands, BesideStands}
+use Rattle.olk_make.specs.Standing.{Fills, EntriesStand, DeclaredStand, PatternsStand, RestStands, BesideStands}
 use Rattle.olk_make.specs.declared.part.Beside.{Beside}
 use Rattle.olk_make.specs.declared.part.DeclaredNodes.{DeclaredNodes}
 use Rattle.olk_make.specs.declared.part.Patterns.{Patterns}
 use Rattle.olk_make.specs.declared.part.Taken.{Taken}
 use Rattle.olk_make.proofs.Together.{MeanClaim, claim_by_name, means_nothing}
-use Rattle.olk_make.proofs.Entries.{Rows, AnswerEach, last_stands, schema_answers, schemas_answer}
-use Rattle.olk_make.proofs.Formed.{has_form, is_formed, just_one_formed, stand_formed, each_keys, each_nodes, each_long, each_held_formed, map_formed, entry_formed, case_formed}
+use Rattle.olk_make.proofs.Entries.{Rows, AnswerEach, each_count, last_stands, schema_answers, schemas_answer}
+use Rattle.olk_make.proofs.Formed.{has_form, is_formed, just_one_formed, each_keys, each_nodes, each_held_formed, map_zipped, map_formed, entry_formed, case_formed}
 use Rattle.olk_tree.specs.AdditionalProperties.{additional_properties_answers}
 use Rattle.olk_tree.specs.Formed.{is_map_formed, names_beside, is_table_formed}
 use Rattle.olk_tree.specs.Validators.{answers_of}
@@ -106,21 +105,10 @@ module _ {K R N : Type 0} (o : Kit K R) (answers : N → Answers) where
   entries_answer (n ∷ ns) (e ∷ es) L h = (answers_as n e.1 (L // e.0) h.0, entries_answer ns es L h.1)
   entries_answer _ _ L h = absurd h
 
-  patterns_answer : (ps : List (CompiledPattern R)) (ns : List N) (es : Rows) (L : Path) → ArePatterns o ps es → StandEach o answers ns es L
-      → PatternsAnswer o means report tree (zip ps ns) es L
-  patterns_answer [] [] [] L h k = tt
-  patterns_answer (p ∷ ps) (n ∷ ns) (e ∷ es) L h k = (record { answers = h.0.answers; costs = h.0.costs }, answers_as n e.1 (L // e.0) k.0, patterns_answer ps ns es L h.1 k.1)
-  patterns_answer [] ns (e ∷ es) L h k = absurd h
-  patterns_answer (p ∷ ps) ns [] L h k = absurd h
-  patterns_answer ps _ _ L h k = absurd k
-
-  -- as many patterns stand there as nodes
-  patterns_kept : (ps : List (CompiledPattern R)) (ns : List N) (es : Rows) (L : Path) → ArePatterns o ps es → StandEach o answers ns es L → map (λ e. e.0) (zip ps ns) ≡ ps
-  patterns_kept [] [] [] L h k = refl
-  patterns_kept (p ∷ ps) (n ∷ ns) (e ∷ es) L h k = ap (λ l. p ∷ l) (patterns_kept ps ns es L h.1 k.1)
-  patterns_kept [] ns (e ∷ es) L h k = absurd h
-  patterns_kept (p ∷ ps) ns [] L h k = absurd h
-  patterns_kept ps _ _ L h k = absurd k
+  patterns_answer : (ps : List (CompiledPattern R × N)) (es : Rows) (L : Path) → EntriesStand o answers ps es L → PatternsAnswer o means report tree ps es L
+  patterns_answer [] [] L h = tt
+  patterns_answer (p ∷ ps) (e ∷ es) L h = (record { answers = h.0.answers; costs = h.0.costs }, answers_as p.1 e.1 (L // e.0) h.1, patterns_answer ps es L h.2)
+  patterns_answer _ _ L h = absurd h
 
   rest_answers : (x : Option N) (d : Data) (L : Path) → RestStands o answers x d L → RestAnswers o means report tree x d L
   rest_answers None d L h = h
@@ -139,7 +127,7 @@ module _ {K R N : Type 0} (o : Kit K R) (answers : N → Answers) where
   -- nodes for what is declared at L, held in a map
   module _ (b : DeclaredNodes N) (m : PropertiesMap N) (d : Data) (L : Path) (form : IsMapOf (Some b) (Some m)) (h : DeclaredStand o answers b L d) where
     all_mapped : mapped m ≡ zip (keys_in (members d)) b.nodes.items
-    all_mapped = form.0 ∙ ap (λ ks. zip ks b.nodes.items) h.names
+    all_mapped = map_zipped b.names b.nodes.items m form.0 ∙ ap (λ ks. zip ks b.nodes.items) h.names
 
     each : AnswerEach o answers (schema_answers o answers) b.nodes.items (members d) L
     each = schemas_answer o answers b.nodes.items (members d) L h.nodes
@@ -163,7 +151,7 @@ module _ {K R N : Type 0} (o : Kit K R) (answers : N → Answers) where
   -- ---- what is held
 
   abbrev entries : Patterns R N → List (CompiledPattern R × N)
-  entries x = zip x.patterns.items x.nodes.items
+  entries x = x.patterns.items
 
   -- a table stands where names are declared
   abbrev table_beside : Option (PropertiesMap N) → Option (Patterns R N) → Option Table
@@ -204,13 +192,13 @@ module _ {K R N : Type 0} (o : Kit K R) (answers : N → Answers) where
     held_as None (Some m) None (Some n) (by.NotEmptyFalseWithRequired1 k) h =
         λ i. record { properties = Some (h.0 i); patterns = None; table = None; rest = None; required = Some (h.1 i, h.3 i); location = h.2 i; patterns_location = [] }
     held_as (Some r) None (Some x) n (by.WithPatterns k) h =
-        λ i. record { properties = None; patterns = Some (h.0 i); table = None; rest = Some (h.1 i); required = None; location = h.2 i; patterns_location = h.3 i }
+        λ i. record { properties = None; patterns = Some ((h.0 i).items); table = None; rest = Some (h.1 i); required = None; location = h.2 i; patterns_location = h.3 i }
     held_as None None (Some x) n (by.WithPatternsFalse k) h =
-        λ i. record { properties = None; patterns = Some (h.0 i); table = None; rest = None; required = None; location = h.1 i; patterns_location = h.2 i }
+        λ i. record { properties = None; patterns = Some ((h.0 i).items); table = None; rest = None; required = None; location = h.1 i; patterns_location = h.2 i }
     held_as (Some r) (Some m) (Some x) n (by.WithPatternsNotEmpty k) h =
-        λ i. record { properties = Some (h.0 i); patterns = Some (h.1 i); table = Some (h.2 i); rest = Some (h.3 i); required = None; location = h.4 i; patterns_location = [] }
+        λ i. record { properties = Some (h.0 i); patterns = Some ((h.1 i).items); table = Some (h.2 i); rest = Some (h.3 i); required = None; location = h.4 i; patterns_location = [] }
     held_as None (Some m) (Some x) n (by.WithPatternsNotEmptyFalse k) h =
-        λ i. record { properties = Some (h.0 i); patterns = Some (h.1 i); table = Some (h.2 i); rest = None; required = None; location = h.3 i; patterns_location = [] }
+        λ i. record { properties = Some (h.0 i); patterns = Some ((h.1 i).items); table = Some (h.2 i); rest = None; required = None; location = h.3 i; patterns_location = [] }
     held_as rest m x n k h = absurd h
 
   -- ---- the patterns beside it
@@ -232,14 +220,11 @@ module _ {K R N : Type 0} (o : Kit K R) (answers : N → Answers) where
       names_kept : x.table.names ≡ keys_in (declared_beside ms)
       names_kept = h.names ∙ ap (λ b. keys_in (cond b (declared_beside ms) [])) restricted
 
-      all_kept : map (λ e. e.0) (entries x) ≡ x.patterns.items
-      all_kept = patterns_kept x.patterns.items x.nodes.items (members d) L h.patterns h.nodes
-
       -- what is known of a pattern and a declared name
       all_known : (m : Option (PropertiesMap N)) → is_some m ≡ declares_beside ms → (p i : ℕ) (n : Name) (c : CompiledPattern R) → slice_get (keys_in (declared_beside ms)) p ≡ Some n
           → slice_get (map (λ e. e.0) (entries x)) i ≡ Some c → known_by (table_beside m (Some x)) p i ≡ pattern_answers o.answers c n
       all_known (Some m) e p i n c at_name at_pattern =
-          h.table.says p i n c (ap (λ ns. slice_get ns p) names_kept ∙ at_name) (ap (λ ps. slice_get ps i) (sym all_kept) ∙ at_pattern)
+          h.table.says p i n c (ap (λ ns. slice_get ns p) names_kept ∙ at_name) at_pattern
       all_known None e p i n c at_name at_pattern = absurd (true≢false (sym (ap is_some at_name) ∙ ap (λ es. is_some (slice_get (keys_in es) p)) (none_there _ e)))
 
       all_placed : (m : Option (PropertiesMap N)) → is_some m ≡ false → place_alone m (Some x) ≡ L
@@ -255,7 +240,7 @@ module _ {K R N : Type 0} (o : Kit K R) (answers : N → Answers) where
       place = λ e. absurd (true≢false (sym e));
     }
     patterns_side m declares (Some x) (Some d) L h = record {
-      patterns = patterns_answer x.patterns.items x.nodes.items (members d) L h.patterns h.nodes;
+      patterns = patterns_answer x.patterns.items (members d) L h.entries;
       known = all_known x d L h m declares;
       there = refl;
       place = λ e. all_placed x d L h m;
@@ -276,17 +261,16 @@ module _ {K R N : Type 0} (o : Kit K R) (answers : N → Answers) where
       → option_map_or (λ m. is_map_formed m && list_all (has_form o answers) (nodes_in (mapped m))) x true ≡ true
   declared_formed None None None L form h = refl
   declared_formed (Some b) (Some m) (Some d) L form h =
-      and_from _ _ (map_formed m (length b.names) (each_long o answers (mapped m) _ _ _ (all_mapped b m d L form h) _ (each b m d L form h) ∙ ap length (sym h.names)) form.1)
+      and_from _ _ (map_formed b.names b.nodes.items (each_count o answers _ _ _ _ (each b m d L form h) ∙ ap length (sym h.names)) m form.0 form.1)
       (each_held_formed o answers (mapped m) _ _ _ (all_mapped b m d L form h) _ (each b m d L form h))
   declared_formed None (Some m) a L form h = absurd form
   declared_formed (Some b) None a L form h = absurd form
   declared_formed _ x _ L form h = absurd h
 
-  zipped_formed : (ps : List (CompiledPattern R)) (ns : List N) → list_all (has_form o answers) ns ≡ true → list_all (entry_formed o answers) (zip ps ns) ≡ true
-  zipped_formed (p ∷ ps) (n ∷ ns) h =
-      and_from (has_form o answers n) (list_all (entry_formed o answers) (zip ps ns)) (and_first (has_form o answers n) (list_all (has_form o answers) ns) h)
-      (zipped_formed ps ns (and_second (has_form o answers n) (list_all (has_form o answers) ns) h))
-  zipped_formed _ _ h = refl
+  kept_formed : (ps : List (CompiledPattern R × N)) (es : Rows) (L : Path) → EntriesStand o answers ps es L → list_all (entry_formed o answers) ps ≡ true
+  kept_formed [] [] L h = refl
+  kept_formed (p ∷ ps) (e ∷ es) L h = and_from (entry_formed o answers p) (list_all (entry_formed o answers) ps) h.1.formed (kept_formed ps es L h.2)
+  kept_formed _ _ L h = absurd h
 
   module _ (ms : Members) (restricted : is_restricted ms ≡ true) where
     table_beside_formed : (m : Option (PropertiesMap N)) (x : Option (Patterns R N)) (a : Option Data) (L : Path) → names_beside m ≡ keys_in (declared_beside ms)
@@ -295,14 +279,13 @@ module _ {K R N : Type 0} (o : Kit K R) (answers : N → Answers) where
     table_beside_formed None x a L declared h = refl
     table_beside_formed (Some m) None a L declared h = refl
     table_beside_formed (Some m) (Some x) (Some d) L declared h =
-        ap (λ ps. is_table_formed o.answers (names_beside (Some m)) ps x.table) (all_kept ms restricted x d L h)
-        ∙ table_formed o.answers (names_beside (Some m)) x.patterns.items x.table (names_kept ms restricted x d L h ∙ sym declared) h.table
+        table_formed o.answers (names_beside (Some m)) (map (λ e. e.0) x.patterns.items) x.table (names_kept ms restricted x d L h ∙ sym declared) h.table
     table_beside_formed (Some m) (Some x) None L declared h = absurd h
 
     entries_formed : (x : Option (Patterns R N)) (a : Option Data) (L : Path) → Fills (λ x. PatternsStand o answers (known_of ms) x L) x a
         → list_all (entry_formed o answers) (patterns_in (option_map entries x)) ≡ true
     entries_formed None a L h = refl
-    entries_formed (Some x) (Some d) L h = zipped_formed x.patterns.items x.nodes.items (stand_formed o answers x.nodes.items (members d) L h.nodes)
+    entries_formed (Some x) (Some d) L h = kept_formed x.patterns.items (members d) L h.entries
     entries_formed (Some x) None L h = absurd h
 
   rest_formed : (x : Option N) (d : Data) (L : Path) → RestStands o answers x d L → case_formed o answers x ≡ true
@@ -414,7 +397,7 @@ module _ {K R N : Type 0} (o : Kit K R) (answers : N → Answers) where
 
   pub is_additional_properties : (k : Restriction R N) (P L : Path) (rest : Option N) (b : Beside R N) (n : Option Name) → IsFormOfAdditionalProperties P L rest b n k
       → IsAdditionalProperties {K = K} P L (is_some rest) (option_map (λ (m : DeclaredNodes N). length m.names) b.properties)
-      (option_map (λ (x : Patterns R N). length (zip x.patterns.items x.nodes.items)) b.patterns) n (keyword.AdditionalProperties k)
+      (option_map (λ (x : Patterns R N). length x.patterns.items) b.patterns) n (keyword.AdditionalProperties k)
   is_additional_properties k P L rest b n form = (rest, form.0, b.patterns, refl, map_for b.properties form.0 form.1, refl, form.2)
 
   -- ---- the parts

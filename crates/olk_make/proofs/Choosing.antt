@@ -26,10 +26,10 @@ use Rattle.olk_tree.specs.Answers.{Answers}
 use Rattle.olk_tree.specs.declared.node.KeywordOver.{KeywordOver}
 use Rattle.olk_tree.specs.declared.node.KeywordOver.TheVariants as keyword
 use Rattle.olk_make.specs.Chooser.{IsLeafAt, HasForm, IsChosen}
-use Rattle.olk_make.specs.Forms.{IsFormOfAllOf, IsFormOfAnyOf, IsFormOfOneOf, IsAllOf, IsAnyOf, IsOneOf, IsNot, IsRequired, IsIf, IsProperties, IsPatternProperties, IsAdditionalProperties, IsDependencies, IsPropertyNames, IsPropertyNamesFalse, IsPropertyDependencies}
+use Rattle.olk_make.specs.Forms.{IsFormOfAllOf, IsFormOfAnyOf, IsFormOfOneOf, IsAllOf, IsAnyOf, IsOneOf, IsNot, IsRequired, IsIf, IsProperties, IsPatternProperties, IsAdditionalProperties, IsDependencies, IsDependentRequired, IsDependentSchemas, IsPropertyNames, IsPropertyNamesFalse, IsPropertyDependencies}
 use Rattle.olk_make.specs.Holding.{StandEach}
 use Rattle.olk_make.specs.Made.{IsMade, MakesOthers}
-use Rattle.olk_make.specs.Standing.{StandAt, Fills, is_taken, is_if_shape, is_restriction_shape, CasesStand, BesideStands}
+use Rattle.olk_make.specs.Standing.{StandAt, EntriesStand, Fills, is_taken, is_if_shape, is_restriction_shape, CasesStand, BesideStands}
 use Rattle.olk_make.specs.declared.part.DeclaredNodes.{DeclaredNodes}
 use Rattle.olk_make.specs.declared.part.Patterns.{Patterns}
 use Rattle.olk_make.specs.declared.part.Taken.{Taken}
@@ -68,6 +68,11 @@ module _ {K R N : Type 0} (o : Kit K R) (answers : N → Answers) where
   zip_length (p ∷ ps) [] (e ∷ es) L h s = absurd s
   zip_length (p ∷ ps) (n ∷ ns) (e ∷ es) L h s = ap (λ k. suc k) (zip_length ps ns es L h.1 s.1)
   zip_length _ ns _ L h s = absurd h
+
+  entries_length : (ps : List (CompiledPattern R × N)) (es : List (Name × Data)) (L : Path) → EntriesStand o answers ps es L → length ps ≡ length es
+  entries_length [] [] L h = refl
+  entries_length (p ∷ ps) (e ∷ es) L h = ap (λ k. suc k) (entries_length ps es L h.2)
+  entries_length _ _ L h = absurd h
 
 module _ {X : Type 0} (Means : X → Data → Type 0) where
   filled_as : (t : Option X) (a : Option Data) → Fills Means t a → is_some t ≡ is_some a
@@ -120,8 +125,8 @@ module _ {K R N : Type 0} (o : Kit K R) (answers : N → Answers) (ms : Members)
         → HasForm ms P additional_properties k d x
     others rest kind stand x form = subst (λ T. T) (λ i. IsAdditionalProperties P (place i) (kind i)
         (counted_as _ (λ (m : DeclaredNodes N). length m.names) (λ m d s. ap length s.names ∙ length-map (members d) (λ e. e.0)) t.beside.properties _ stand.0 i)
-        (counted_as _ (λ (p : Patterns R N). length (zip p.patterns.items p.nodes.items))
-        (λ p d s. zip_length o answers p.patterns.items p.nodes.items (members d) (P // codes "patternProperties") s.patterns s.nodes) t.beside.patterns _ stand.1 i)
+        (counted_as _ (λ (p : Patterns R N). length p.patterns.items)
+        (λ p d s. entries_length o answers p.patterns.items (members d) (P // codes "patternProperties") s.entries) t.beside.patterns _ stand.1 i)
         (plan_of ms).fused_one x) form
 
     neither : (c x y : Bool) → (c && (x || y)) ≡ true → x ≡ false → y ≡ false → ⊥
@@ -147,7 +152,7 @@ module _ {K R N : Type 0} (o : Kit K R) (answers : N → Answers) (ms : Members)
       unrestricted (is_restricted ms) (is_condition ms) (subst (λ n. is_taken (plan_of ms) n ≡ false) s.0 free),
       subst (λ T. T) (λ i. IsProperties P (place i) ((ap length s.2 ∙ length-map (members d) (λ e. e.0)) i) (plan_of ms).fused_pair x) form,
     )
-    chosen (shape.PatternProperties v w) s f stand cases beside free (Some x) form = named pattern_properties (Some x) (ap (keyword_named o.world) s.0) (
+    chosen (shape.PatternProperties v) s f stand cases beside free (Some x) form = named pattern_properties (Some x) (ap (keyword_named o.world) s.0) (
       unrestricted (is_restricted ms) (is_condition ms) (subst (λ n. is_taken (plan_of ms) n ≡ false) s.0 free),
       subst (λ T. T) (λ i. IsPatternProperties (place i) (zip_length o answers v.items ns (members d) L s.2 stand i) x) form,
     )
@@ -167,8 +172,8 @@ module _ {K R N : Type 0} (o : Kit K R) (answers : N → Answers) (ms : Members)
     chosen shape.AnyNames s f stand cases beside free None form = named property_names None (ap (keyword_named o.world) s.0) (λ i. not (s.1 i || s.2 i))
     chosen (shape.Required v) s f stand cases beside free (Some x) form = named required (Some x) (ap (keyword_named o.world) s.0) (form.0, subst (IsRequired (P // k) d) (sym form.1) (s.2, place))
     chosen (shape.Required v) s f stand cases beside free None form = named required None (ap (keyword_named o.world) s.0) form
-    chosen (shape.DependentRequired n v) s f stand cases beside free (Some x) form = named dependent_required (Some x) (ap (keyword_named o.world) s.0) (refl, at_place (λ M x. IsDependencies M (map (λ e. e.0) (members d)) x) x (form (k, d) s refl))
-    chosen (shape.DependentSchemas n) s f stand cases beside free (Some x) form = named dependent_schemas (Some x) (ap (keyword_named o.world) s.0) (refl, at_place (λ M x. IsDependencies M (map (λ e. e.0) (members d)) x) x (form (k, d) s stand))
+    chosen (shape.DependentRequired n v) s f stand cases beside free (Some x) form = named dependent_required (Some x) (ap (keyword_named o.world) s.0) (refl, at_place (λ M x. IsDependentRequired M (map (λ e. e.0) (members d)) x) x (form (k, d) s refl))
+    chosen (shape.DependentSchemas n) s f stand cases beside free (Some x) form = named dependent_schemas (Some x) (ap (keyword_named o.world) s.0) (refl, at_place (λ M x. IsDependentSchemas M (map (λ e. e.0) (members d)) x) x (form (k, d) s stand))
     chosen (shape.Dependencies n v) s f stand cases beside free (Some x) form = named dependencies (Some x) (ap (keyword_named o.world) s.0) (refl, at_place (λ M x. IsDependencies M (map (λ e. e.0) (members d)) x) x (form (k, d) s stand))
     chosen (shape.PropertyDependencies n v) s f stand cases beside free (Some x) form = named property_dependencies (Some x) (ap (keyword_named o.world) s.0) (
       refl,

@@ -17,27 +17,28 @@ use Rattle.olk_spec.specs.Accepts.{missing}
 use Rattle.olk_spec.specs.Reports.{required_faults}
 use Rattle.olk_spec.specs.Tree.{plain, erring}
 use Rattle.olk_spec.proofs.Order.{∼_same, ∼_sym}
+use Rattle.olk_spec.proofs.Truth.{and_from}
 use Rattle.olk_base.specs.Kit.{Kit}
 use Rattle.olk_meaning.specs.Dependencies.{due_entries, are_lists, dependency_accepts, dependency_asks, dependency_report, dependency_shown}
 use Rattle.olk_meaning.proofs.Dependencies as fact
 use Rattle.olk_tree.specs.Questions.{always, every}
-use Rattle.olk_tree.specs.Dependencies.{due_nodes}
+use Rattle.olk_tree.specs.Dependencies.{due_nodes, due_answers}
 use Rattle.olk_tree.specs.declared.map.SmallMap.{SmallMap}
-use Rattle.olk_tree.specs.Maps.{keys_in, nodes_in, named}
+use Rattle.olk_tree.specs.Maps.{keys_in, named}
 use Rattle.olk_tree.specs.Validators.{answers_of}
 use Rattle.olk_tree.specs.declared.node.KeywordOver.{KeywordOver}
 use Rattle.olk_tree.specs.declared.node.KeywordOver.TheVariants as keyword
 use Rattle.olk_tree.specs.Answers.{Answers}
 use Rattle.olk_tree.specs.Places.{Stands}
 use Rattle.olk_read.specs.Lists.{list_of, names_in, names_in_list}
-use Rattle.olk_make.specs.Forms.{IsListAt, AreListsAt, AreInOrder, IsDependencies, IsFormOfDependencies}
+use Rattle.olk_make.specs.Forms.{IsListAt, AreListsAt, AreInOrder, IsDependencies, IsDependentRequired, IsDependentSchemas}
 use Rattle.olk_make.specs.Holding.{StandEach}
 use Rattle.olk_read.specs.declared.shape.Shape.TheVariants as shape
 use Rattle.olk_make.specs.Made.{MakesDependencies}
 use Rattle.olk_make.specs.Making.{KeywordMeans, MakesMember}
-use Rattle.olk_make.proofs.Entries.{Rows, EntryAnswers, AnswersFor, AnswerEach, each_accept, each_ask, each_find, each_show, schema_answers, schema_answer, schemas_answer}
+use Rattle.olk_make.proofs.Entries.{Rows, EntryAnswers, AnswersFor, AnswerEach, each_count, each_accept, each_ask, each_find, each_show, schema_answers, schema_answer, schemas_answer}
 use Rattle.olk_make.proofs.Held.{question, shown, found, one, same_within}
-use Rattle.olk_make.proofs.Formed.{has_form, is_formed, just_one_formed, each_keys, each_held_formed}
+use Rattle.olk_make.proofs.Formed.{has_form, is_formed, just_one_formed, entries_zipped, paired, each_keys, each_held_formed}
 
 -- an entry that is a list of names wants each of them, at the keyword itself
 abbrev list_answers : EntryAnswers
@@ -73,54 +74,55 @@ module _ {K R N : Type 0} (o : Kit K R) (answers : N → Answers) where
 
   -- ---- the validator
 
-  abbrev dependencies_of : SmallMap N → Path → KeywordOver K R N
-  dependencies_of m L = keyword.Dependencies (record { dependencies = m; location = L })
+  -- one that answers as this map of what is due
+  module _ (k : KeywordOver K R N) (m : SmallMap N) (ns : List N) (L : Path) (d : Data) (same : answers_of o k ≡ due_answers m L) (names : m.names ≡ keys_in (members d)) (nodes : m.nodes.items ≡ ns) where
+    held : named m ≡ zip (keys_in (members d)) ns
+    held = entries_zipped (keys_in (members d)) ns m (names, nodes)
 
-  dependencies_formed : (m : SmallMap N) (L : Path) → list_all (has_form o answers) (nodes_in (named m)) ≡ true → is_formed o answers (dependencies_of m L) ≡ true
-  unfolding answers_of
-  dependencies_formed m L h = h
+    module _ (w : EntryAnswers) (each : AnswerEach o answers w ns (members d) L) where
+      due_formed : is_formed o answers k ≡ true
+      due_formed = ap (λ a. a.formed (has_form o answers)) same
+          ∙ and_from _ _ (paired (keys_in (members d)) ns (each_count o answers w ns (members d) L each) m.names m.nodes names nodes) (each_held_formed o answers (named m) ns (members d) L held w each)
 
-  module _ (m : SmallMap N) (ns : List N) (L : Path) (d : Data) (held : named m ≡ zip (keys_in (members d)) ns) where
-    module _ (w : EntryAnswers) (each : AnswerEach o answers w ns (members d) L) (u : Bool) (v : Data) where
-      abbrev due_here : List N
-      due_here = due_nodes (zip (keys_in (members d)) ns) v
+      module _ (u : Bool) (v : Data) where
+        abbrev due_here : List N
+        due_here = due_nodes (zip (keys_in (members d)) ns) v
 
-      dues : AnswerEach o answers w due_here (due_entries d v) L
-      dues = due_answer w v ns (members d) L each
+        dues : AnswerEach o answers w due_here (due_entries d v) L
+        dues = due_answer w v ns (members d) L each
 
-      due_accept : (question o answers (dependencies_of m L) v).accepts u ≡ list_all (λ e. w.verdict u e v) (due_entries d v)
-      unfolding answers_of
-      due_accept = ap (λ ds. (every (λ n. (answers n).means v) (due_nodes ds v)).accepts u) held ∙ each_accept o answers w u v _ _ _ dues
+        due_accept : (question o answers k v).accepts u ≡ list_all (λ e. w.verdict u e v) (due_entries d v)
+        due_accept = ap (λ a. (a.means (λ n. (answers n).means) v).accepts u) same
+            ∙ ap (λ ds. (every (λ n. (answers n).means v) (due_nodes ds v)).accepts u) held ∙ each_accept o answers w u v _ _ _ dues
 
-      due_ask : (question o answers (dependencies_of m L) v).asks u ≤ sum_by (λ e. w.asked u e v) (due_entries d v)
-      unfolding answers_of
-      due_ask = subst (λ ds. (every (λ n. (answers n).means v) (due_nodes ds v)).asks u ≤ sum_by (λ e. w.asked u e v) (due_entries d v)) (sym held) (each_ask o answers w u v _ _ _ dues)
+        due_ask : (question o answers k v).asks u ≤ sum_by (λ e. w.asked u e v) (due_entries d v)
+        due_ask = subst (λ a. (a.means (λ n. (answers n).means) v).asks u ≤ sum_by (λ e. w.asked u e v) (due_entries d v)) (sym same)
+            (subst (λ ds. (every (λ n. (answers n).means v) (due_nodes ds v)).asks u ≤ sum_by (λ e. w.asked u e v) (due_entries d v)) (sym held) (each_ask o answers w u v _ _ _ dues))
 
-      due_find : (Q : Path) → found o answers u (dependencies_of m L) v Q ∼ flat_map (λ e. w.faults u e v L Q) (due_entries d v)
-      unfolding answers_of
-      due_find Q =
-          subst (λ ds. flat_map (λ n. (answers n).report u v Q) (due_nodes ds v) ∼ flat_map (λ e. w.faults u e v L Q) (due_entries d v)) (sym held) (each_find o answers w u v _ Q _ _ dues)
+        due_find : (Q : Path) → found o answers u k v Q ∼ flat_map (λ e. w.faults u e v L Q) (due_entries d v)
+        due_find Q = subst (λ a. a.report (λ n. (answers n).means) (λ n. (answers n).report) u v Q ∼ flat_map (λ e. w.faults u e v L Q) (due_entries d v)) (sym same)
+            (subst (λ ds. flat_map (λ n. (answers n).report u v Q) (due_nodes ds v) ∼ flat_map (λ e. w.faults u e v L Q) (due_entries d v)) (sym held) (each_find o answers w u v _ Q _ _ dues))
 
-      due_show : (Q : Path) → shown o answers u (dependencies_of m L) v Q ≡ plain L Q (map (λ e. w.shown u e v L Q) (due_entries d v))
-      unfolding answers_of
-      due_show Q = ap (λ ds. plain L Q (map (λ n. (answers n).tree u v Q) (due_nodes ds v))) held ∙ ap (plain L Q) (each_show o answers w u v _ Q _ _ dues)
+        due_show : (Q : Path) → shown o answers u k v Q ≡ plain L Q (map (λ e. w.shown u e v L Q) (due_entries d v))
+        due_show Q = ap (λ a. a.tree (λ n. (answers n).means) (λ n. (answers n).tree) u v Q) same
+            ∙ ap (λ ds. plain L Q (map (λ n. (answers n).tree u v Q) (due_nodes ds v))) held ∙ ap (plain L Q) (each_show o answers w u v _ Q _ _ dues)
 
     -- ---- the three keywords
 
     module _ (ms : Members) (P : Path) where
       pub means_dependent_required : are_lists d ≡ true → AnswerEach o answers list_answers ns (members d) L → L ≡ P // codes "dependentRequired"
-          → KeywordMeans o answers ms (dependencies_of m L ∷ []) (codes "dependentRequired", d) P
+          → KeywordMeans o answers ms (k ∷ []) (codes "dependentRequired", d) P
       means_dependent_required lists each p = record {
-        holds = one o answers ms (dependencies_of m L) (codes "dependentRequired", d) dependent_required P
+        holds = one o answers ms k (codes "dependentRequired", d) dependent_required P
             (λ u v. due_accept list_answers each u v ∙ sym (fact.dependent_required_accepts o.world ms d u v lists))
             (λ u v. same_within _ _ _ (due_ask list_answers each u v) (fact.dependent_required_asks o.world ms d u v ∙ sym (no_sum (due_entries d v))))
-            (λ u v Q. subst (λ fs. found o answers u (dependencies_of m L) v Q ∼ fs)
+            (λ u v Q. subst (λ fs. found o answers u k v Q ∼ fs)
             (ap (λ M. flat_map (λ e. required_faults (texts e.1) v M Q) (due_entries d v)) p ∙ sym (fact.dependent_required_report o.world ms d u v lists P Q))
             (due_find list_answers each u v Q));
         shows =
             λ u h v Q. ap (λ t. t ∷ []) (due_show list_answers each u v Q
             ∙ ap (λ M. plain M Q (map (λ e. erring M Q (required_faults (texts e.1) v M Q)) (due_entries d v))) p) ∙ sym (fact.dependent_required_child o.world ms d u v lists P Q);
-        formed = just_one_formed o answers (dependencies_of m L) (dependencies_formed m L (each_held_formed o answers (named m) _ _ _ held _ each));
+        formed = just_one_formed o answers k (due_formed list_answers each);
       }
         where
           no_sum : (es : Rows) → sum_by (λ e. 0) es ≡ 0
@@ -128,32 +130,32 @@ module _ {K R N : Type 0} (o : Kit K R) (answers : N → Answers) where
           no_sum (e ∷ es) = sum_by-cons (λ e. 0) e es ∙ ap (λ n. 0 + n) (no_sum es)
 
       pub means_dependent_schemas : AnswerEach o answers (schema_answers o answers) ns (members d) L → L ≡ P // codes "dependentSchemas"
-          → KeywordMeans o answers ms (dependencies_of m L ∷ []) (codes "dependentSchemas", d) P
+          → KeywordMeans o answers ms (k ∷ []) (codes "dependentSchemas", d) P
       means_dependent_schemas each p = record {
-        holds = one o answers ms (dependencies_of m L) (codes "dependentSchemas", d) dependent_schemas P
+        holds = one o answers ms k (codes "dependentSchemas", d) dependent_schemas P
             (λ u v. due_accept (schema_answers o answers) each u v ∙ sym (fact.dependent_schemas_accepts o.world ms d u v))
             (λ u v. same_within _ _ _ (due_ask (schema_answers o answers) each u v) (fact.dependent_schemas_asks o.world ms d u v))
-            (λ u v Q. subst (λ fs. found o answers u (dependencies_of m L) v Q ∼ fs)
+            (λ u v Q. subst (λ fs. found o answers u k v Q ∼ fs)
             (ap (λ M. flat_map (λ e. report o.world u e.1 v (M // e.0) Q) (due_entries d v)) p ∙ sym (fact.dependent_schemas_report o.world ms d u v P Q))
             (due_find (schema_answers o answers) each u v Q));
         shows =
             λ u h v Q. ap (λ t. t ∷ []) (due_show (schema_answers o answers) each u v Q
             ∙ ap (λ M. plain M Q (map (λ e. tree o.world u e.1 v (M // e.0) Q) (due_entries d v))) p) ∙ sym (fact.dependent_schemas_child o.world ms d u v P Q);
-        formed = just_one_formed o answers (dependencies_of m L) (dependencies_formed m L (each_held_formed o answers (named m) _ _ _ held _ each));
+        formed = just_one_formed o answers k (due_formed (schema_answers o answers) each);
       }
 
       pub means_dependencies : AnswerEach o answers dependency_answers ns (members d) L → L ≡ P // codes "dependencies"
-          → KeywordMeans o answers ms (dependencies_of m L ∷ []) (codes "dependencies", d) P
+          → KeywordMeans o answers ms (k ∷ []) (codes "dependencies", d) P
       means_dependencies each p = record {
-        holds = one o answers ms (dependencies_of m L) (codes "dependencies", d) dependencies P
+        holds = one o answers ms k (codes "dependencies", d) dependencies P
             (λ u v. due_accept dependency_answers each u v ∙ sym (fact.dependencies_accepts o.world ms d u v))
             (λ u v. same_within _ _ _ (due_ask dependency_answers each u v) (fact.dependencies_asks o.world ms d u v))
-            (λ u v Q. like_through (subst (λ fs. found o answers u (dependencies_of m L) v Q ∼ fs) (ap (λ M. flat_map (λ e. dependency_report o.world u e v M Q) (due_entries d v)) p)
+            (λ u v Q. like_through (subst (λ fs. found o answers u k v Q ∼ fs) (ap (λ M. flat_map (λ e. dependency_report o.world u e v M Q) (due_entries d v)) p)
             (due_find dependency_answers each u v Q)) (∼_sym (fact.dependencies_report o.world ms d u v P Q)));
         shows =
             λ u h v Q. ap (λ t. t ∷ []) (due_show dependency_answers each u v Q
             ∙ ap (λ M. plain M Q (map (λ e. dependency_shown o.world u e v M Q) (due_entries d v))) p) ∙ sym (fact.dependencies_child o.world ms d u v P Q);
-        formed = just_one_formed o answers (dependencies_of m L) (dependencies_formed m L (each_held_formed o answers (named m) _ _ _ held _ each));
+        formed = just_one_formed o answers k (due_formed dependency_answers each);
       }
 
   -- ---- what is made of lists and nodes
@@ -223,49 +225,49 @@ module _ {K R N : Type 0} (o : Kit K R) (answers : N → Answers) where
       by (Some v) false a schemas ns h same stand later = absurd (true≢false (ap is_some same))
       by None true a schemas ns h same stand later = absurd (true≢false (sym (ap is_some same)))
 
-  -- ---- the keyword of these keys, each with its node
+  -- ---- what is made of these keys, each with its node
 
-  module _ (keys : List Name) (ns : List N) (L : Path) (k : KeywordOver K R N) (form : IsFormOfDependencies L (zip keys ns) k) where
-    -- over the entries of a value
-    module _ (d : Data) (named_keys : keys ≡ keys_in (members d)) where
-      keyword_means : (ms : Members) (n : Name) (P : Path) → ((m : SmallMap N) → named m ≡ zip (keys_in (members d)) ns
-          → KeywordMeans o answers ms (dependencies_of m L ∷ []) (n, d) P) → KeywordMeans o answers ms (k ∷ []) (n, d) P
-      keyword_means ms n P means = by k form
-        where
-          by : (k : KeywordOver K R N) → IsFormOfDependencies L (zip keys ns) k → KeywordMeans o answers ms (k ∷ []) (n, d) P
-          by (keyword.Dependencies x) f =
-              subst (λ M. KeywordMeans o answers ms (dependencies_of x.dependencies M ∷ []) (n, d) P) (sym f.1) (means x.dependencies (f.0 ∙ ap (λ ks. zip ks ns) named_keys))
-          by x f = absurd f
+  module _ (keys : List Name) (nodes : Vec N Global) (L : Path) where
+    abbrev due : SmallMap N
+    due = record { names = keys; nodes = nodes }
 
-      keys_are : (w : EntryAnswers) → AnswerEach o answers w ns (members d) L → IsDependencies L (keys_in (members d)) k
-      keys_are w each = by k form
-        where
-          by : (k : KeywordOver K R N) → IsFormOfDependencies L (zip keys ns) k → IsDependencies L (keys_in (members d)) k
-          by (keyword.Dependencies x) f = (each_keys o answers (named x.dependencies) ns (members d) L (f.0 ∙ ap (λ ks. zip ks ns) named_keys) w each, f.1)
-          by x f = absurd f
+    required_answers : answers_of o (keyword.DependentRequired (record { dependencies = due; location = L })) ≡ due_answers due L
+    unfolding answers_of
+    required_answers = refl
 
-    module _ (lists : Vec (Vec (String Global) Global) Global) (is : AreListsAt o answers L lists.items ns) where
-      pub makes_dependent_required : MakesMember o answers (shape.DependentRequired keys lists) L [] (k ∷ [])
-      makes_dependent_required ms x P p s h = by_its_name o answers s.0 p (λ place. keyword_means x.1 s.2 ms (codes "dependentRequired") P
-          (λ m held. means_dependent_required m ns L x.1 held ms P s.3 (lists_answer lists.items ns (members x.1) L is s.4) place))
+    schemas_answers : answers_of o (keyword.DependentSchemas (record { dependencies = due; location = L })) ≡ due_answers due L
+    unfolding answers_of
+    schemas_answers = refl
 
-      pub keys_of_dependent_required : MakesDependencies o answers (shape.DependentRequired keys lists) L [] k
-      keys_of_dependent_required x s h = keys_are x.1 s.2 list_answers (lists_answer lists.items ns (members x.1) L is s.4)
+    both_answers : answers_of o (keyword.Dependencies (record { dependencies = due; location = L })) ≡ due_answers due L
+    unfolding answers_of
+    both_answers = refl
 
-    pub makes_dependent_schemas : MakesMember o answers (shape.DependentSchemas keys) L ns (k ∷ [])
-    makes_dependent_schemas ms x P p s h = by_its_name o answers s.0 p (λ place. keyword_means x.1 s.2 ms (codes "dependentSchemas") P
-        (λ m held. means_dependent_schemas m ns L x.1 held ms P (schemas_answer o answers ns (members x.1) L h) place))
+    keys_are : (d : Data) → keys ≡ keys_in (members d) → (w : EntryAnswers) → AnswerEach o answers w nodes.items (members d) L → keys_in (named due) ≡ keys_in (members d)
+    keys_are d names w each = each_keys o answers (named due) nodes.items (members d) L (ap (λ ks. zip ks nodes.items) names) w each
 
-    pub keys_of_dependent_schemas : MakesDependencies o answers (shape.DependentSchemas keys) L ns k
-    keys_of_dependent_schemas x s h = keys_are x.1 s.2 (schema_answers o answers) (schemas_answer o answers ns (members x.1) L h)
+    module _ (lists : Vec (Vec (String Global) Global) Global) (is : AreListsAt o answers L lists.items nodes.items) where
+      pub makes_dependent_required : MakesMember o answers (shape.DependentRequired keys lists) L [] (keyword.DependentRequired (record { dependencies = due; location = L }) ∷ [])
+      makes_dependent_required ms x P p s h = by_its_name o answers s.0 p
+          (means_dependent_required _ due nodes.items L x.1 required_answers s.2 refl ms P s.3 (lists_answer lists.items nodes.items (members x.1) L is s.4))
 
-    module _ (lists : Vec (Option (Vec (String Global) Global)) Global) (schemas : List N) (is : AreInOrder o answers L lists.items schemas ns) where
-      pub makes_dependencies : MakesMember o answers (shape.Dependencies keys lists) L schemas (k ∷ [])
-      makes_dependencies ms x P p s h = by_its_name o answers s.0 p (λ place. keyword_means x.1 s.2 ms (codes "dependencies") P
-          (λ m held. means_dependencies m ns L x.1 held ms P (dependencies_answer lists.items schemas ns (members x.1) L is s.3 h) place))
+      pub keys_of_dependent_required : MakesDependencies o answers (shape.DependentRequired keys lists) L [] IsDependentRequired (keyword.DependentRequired (record { dependencies = due; location = L }))
+      keys_of_dependent_required x s h = (keys_are x.1 s.2 list_answers (lists_answer lists.items nodes.items (members x.1) L is s.4), refl)
 
-      pub keys_of_dependencies : MakesDependencies o answers (shape.Dependencies keys lists) L schemas k
-      keys_of_dependencies x s h = keys_are x.1 s.2 dependency_answers (dependencies_answer lists.items schemas ns (members x.1) L is s.3 h)
+    pub makes_dependent_schemas : MakesMember o answers (shape.DependentSchemas keys) L nodes.items (keyword.DependentSchemas (record { dependencies = due; location = L }) ∷ [])
+    makes_dependent_schemas ms x P p s h = by_its_name o answers s.0 p
+        (means_dependent_schemas _ due nodes.items L x.1 schemas_answers s.2 refl ms P (schemas_answer o answers nodes.items (members x.1) L h))
+
+    pub keys_of_dependent_schemas : MakesDependencies o answers (shape.DependentSchemas keys) L nodes.items IsDependentSchemas (keyword.DependentSchemas (record { dependencies = due; location = L }))
+    keys_of_dependent_schemas x s h = (keys_are x.1 s.2 (schema_answers o answers) (schemas_answer o answers nodes.items (members x.1) L h), refl)
+
+    module _ (lists : Vec (Option (Vec (String Global) Global)) Global) (schemas : List N) (is : AreInOrder o answers L lists.items schemas nodes.items) where
+      pub makes_dependencies : MakesMember o answers (shape.Dependencies keys lists) L schemas (keyword.Dependencies (record { dependencies = due; location = L }) ∷ [])
+      makes_dependencies ms x P p s h = by_its_name o answers s.0 p
+          (means_dependencies _ due nodes.items L x.1 both_answers s.2 refl ms P (dependencies_answer lists.items schemas nodes.items (members x.1) L is s.3 h))
+
+      pub keys_of_dependencies : MakesDependencies o answers (shape.Dependencies keys lists) L schemas IsDependencies (keyword.Dependencies (record { dependencies = due; location = L }))
+      keys_of_dependencies x s h = (keys_are x.1 s.2 dependency_answers (dependencies_answer lists.items schemas nodes.items (members x.1) L is s.3 h), refl)
 
 -- ---- nodes in order, made one after the other
 

@@ -1,11 +1,11 @@
 -- What is made has the form that is chosen for what it holds.
-use Rattle.std.specs.Prelude.{◌≡◌, ◌≢◌, ℕ, Bool, true, false, not, ◌&&◌, List, [], ◌∷◌, length, zip, bytes_eq, string_bytes, Option, Some, None}
+use Rattle.std.specs.Prelude.{◌≡◌, ◌≢◌, Bool, true, false, not, ◌&&◌, nat_lt, List, [], ◌∷◌, length, zip, bytes_eq, string_bytes, Option, Some, None, Vec}
 use Rattle.std.specs.List.{list_all}
 use Rattle.std.specs.Option.{option_map_or}
 use Rattle.std.specs.declared.alloc.Global.{Global}
 use Rattle.std.specs.declared.boxed.Box.{Box}
-use Rattle.std.proofs.Common.{refl, sym, ◌∙◌, ap, arith}
-use Rattle.std.proofs.lemmas.Bool.{lt-ltb, le-ltb, ne_eqb}
+use Rattle.std.proofs.Common.{refl, sym, ◌∙◌, ap}
+use Rattle.std.proofs.lemmas.Bool.{lt-ltb, le-ltb, eq-eqb, ne_eqb}
 use Rattle.std.proofs.lemmas.List.{length-map}
 use Rattle.std.proofs.lemmas.Slice.Zip.{firsts-zip, seconds-zip}
 use Rattle.std.proofs.Math.Bool.{and-true}
@@ -15,15 +15,16 @@ use Rattle.olk_spec.proofs.Truth.{and_from}
 use Rattle.olk_base.specs.Kit.{Kit}
 use Rattle.olk_base.specs.declared.pattern.CompiledPattern.{CompiledPattern}
 use Rattle.olk_tree.specs.Maps.{keys_in, nodes_in, mapped, named}
-use Rattle.olk_tree.specs.Formed.{is_one, is_map_formed}
+use Rattle.olk_tree.specs.Formed.{is_one, is_paired, is_map_formed}
 use Rattle.olk_tree.specs.Validators.{answers_of, validator_formed}
 use Rattle.olk_tree.specs.Answers.{Answers}
 use Rattle.olk_tree.specs.declared.properties.SmallPropertiesWithRequired2.{SmallPropertiesWithRequired2}
+use Rattle.olk_tree.specs.declared.map.SmallMap.{SmallMap}
 use Rattle.olk_tree.specs.declared.properties_map.PropertiesMap.{PropertiesMap}
 use Rattle.olk_tree.specs.declared.properties_map.PropertiesMap.TheVariants.{Small, Big}
 use Rattle.olk_tree.specs.declared.node.KeywordOver.{KeywordOver}
 use Rattle.olk_tree.specs.declared.node.KeywordOver.TheVariants as keyword
-use Rattle.olk_make.specs.Forms.{IsMapFor, IsFormOfAllOf, IsFormOfAnyOf, IsFormOfOneOf, IsFormOfPatternProperties, IsFormOfIf}
+use Rattle.olk_make.specs.Forms.{HasEntries, IsMapOver, IsMapFor, IsFormOfAllOf, IsFormOfAnyOf, IsFormOfOneOf, IsFormOfPatternProperties, IsFormOfIf}
 use Rattle.olk_make.specs.Holding.{StandEach}
 use Rattle.olk_make.proofs.Entries.{Rows, EntryAnswers, AnswerEach, each_count, schema_answers, schemas_answer}
 
@@ -36,9 +37,24 @@ module _ {X : Type 0} (f : X → Bool) where
   pub single_formed : (x : X) (ys : List X) → ys ≡ x ∷ [] → list_all f ys ≡ true → f x ≡ true
   single_formed x ys e h = sym (and-true (f x)) ∙ ap (list_all f) (sym e) ∙ h
 
-pub map_formed : {N : Type 0} (m : PropertiesMap N) (n : ℕ) → length (mapped m) ≡ n → IsMapFor n m → is_map_formed m ≡ true
-map_formed (Small m) n e h = lt-ltb (length m.entries) HASHMAP_THRESHOLD (omega (arith, e, h))
-map_formed (Big m) n e h = ap not (le-ltb (length m.entries) HASHMAP_THRESHOLD (omega (arith, e, h)))
+-- ---- maps of these names, and beside them these nodes
+
+module _ {N : Type 0} (names : List Name) (ns : List N) where
+  pub entries_zipped : (m : SmallMap N) → HasEntries names ns m → named m ≡ zip names ns
+  entries_zipped m h = λ i. zip (h.0 i) (h.1 i)
+
+  pub map_zipped : (m : PropertiesMap N) → IsMapOver names ns m → mapped m ≡ zip names ns
+  map_zipped (Small m) h = entries_zipped m h
+  map_zipped (Big m) h = λ i. zip (h.0 i) (h.1 i)
+
+  -- as many nodes as names
+  module _ (count : length ns ≡ length names) where
+    pub paired : (ks : List Name) (v : Vec N Global) → ks ≡ names → v.items ≡ ns → is_paired ks v ≡ true
+    paired ks v e h = eq-eqb (length ks) (length v.items) (ap length e ∙ sym count ∙ sym (ap length h))
+
+    pub map_formed : (m : PropertiesMap N) → IsMapOver names ns m → IsMapFor (length names) m → is_map_formed m ≡ true
+    map_formed (Small m) h size = and_from _ _ (ap (λ ks. nat_lt (length ks) HASHMAP_THRESHOLD) h.0 ∙ lt-ltb (length names) HASHMAP_THRESHOLD size) (paired m.names m.nodes h.0 h.1)
+    map_formed (Big m) h size = and_from _ _ (ap (λ ks. not (nat_lt (length ks) HASHMAP_THRESHOLD)) h.0 ∙ ap not (le-ltb (length names) HASHMAP_THRESHOLD size)) (paired m.names m.nodes h.0 h.1)
 
 module _ {K R N : Type 0} (o : Kit K R) (answers : N → Answers) where
   abbrev pub has_form : N → Bool
@@ -77,11 +93,6 @@ module _ {K R N : Type 0} (o : Kit K R) (answers : N → Answers) where
       each_held_formed = ap (list_all has_form) each_nodes ∙ each_formed w ns es L each
 
   -- ---- validators
-
-  pub properties_formed : (m : PropertiesMap N) (L : Path) → is_map_formed m ≡ true → list_all has_form (nodes_in (mapped m)) ≡ true
-      → is_formed (keyword.Properties (record { properties = m; location = L })) ≡ true
-  unfolding answers_of
-  properties_formed m L sized nodes = and_from (is_map_formed m) (list_all has_form (nodes_in (mapped m))) sized nodes
 
   pub required2_formed : (k : Box (SmallPropertiesWithRequired2 N) Global) → is_map_formed (Small k.value.properties) ≡ true → bytes_eq (string_bytes k.value.first) (string_bytes k.value.second) ≡ false
       → list_all has_form (nodes_in (named k.value.properties)) ≡ true → is_formed (keyword.PropertiesWithRequired2 k) ≡ true

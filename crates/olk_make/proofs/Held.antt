@@ -31,6 +31,7 @@ use Rattle.olk_spec.specs.Trees.{missing_child}
 use Rattle.olk_spec.proofs.Named.{Named, named as is_named}
 use Rattle.olk_spec.proofs.Order.{∼_same, ∼_append, ∼_behind, ∼_swap, ∼_flat_map_any, faults_in-from}
 use Rattle.olk_spec.proofs.Walks.{same_name}
+use Rattle.olk_spec.proofs.Truth.{and_from}
 use Rattle.olk_base.specs.Kit.{Kit}
 use Rattle.olk_tree.specs.Questions.{Question, every, some}
 use Rattle.olk_tree.specs.Maps.{keys_in, named, mapped}
@@ -41,18 +42,21 @@ use Rattle.olk_tree.specs.Places.{Stands}
 use Rattle.olk_meaning.specs.Conditions.{is_condition, is_restricted}
 use Rattle.olk_meaning.specs.Members.{member_accepts, member_asks, member_report, member_child, StandsAlone}
 use Rattle.olk_meaning.specs.Plans.{Planned, plan_of, is_case, tells_members, head, claims}
-use Rattle.olk_make.specs.Forms.{IsFormOfProperties, IsFormOfAllOf, IsFormOfAnyOf}
+use Rattle.olk_make.specs.Forms.{IsMapOver, IsMapFor, IsFormOfProperties, IsFormOfAllOf, IsFormOfAnyOf}
 use Rattle.olk_meaning.specs.Fused.{fused_pair, fused_one, declares_few}
 use Rattle.olk_make.specs.Holding.{StandEach, which, all_malformed, Holds, Covers}
 use Rattle.olk_make.specs.Standing.{is_taken}
 use Rattle.olk_make.specs.Making.{KeywordMeans, KeywordsMean}
 use Rattle.olk_tree.specs.declared.properties_map.PropertiesMap.{PropertiesMap}
-use Rattle.olk_tree.specs.declared.properties_map.PropertiesMap.TheVariants.{Small}
+use Rattle.olk_tree.specs.declared.properties_map.PropertiesMap.TheVariants.{Small, Big}
+use Rattle.olk_tree.specs.declared.map.SmallMap.{SmallMap}
+use Rattle.olk_tree.specs.declared.big_map.BigMap.{BigMap}
+use Rattle.olk_tree.specs.Properties.{properties_answers}
 use Rattle.olk_tree.specs.declared.properties.SmallPropertiesWithRequired2.{SmallPropertiesWithRequired2}
 use Rattle.olk_tree.specs.declared.node.KeywordOver.{KeywordOver}
 use Rattle.olk_tree.specs.declared.node.KeywordOver.TheVariants as keyword
 use Rattle.olk_meaning.proofs.Facts as fact
-use Rattle.olk_make.proofs.Entries.{Rows, AnswerEach, each_accept, each_ask, each_find, each_show, schema_answers, schemas_answer}
+use Rattle.olk_make.proofs.Entries.{Rows, AnswerEach, each_count, each_accept, each_ask, each_find, each_show, schema_answers, schemas_answer}
 use Rattle.olk_make.proofs.Together.{MeanClaim, means_alone, means_permuted}
 use Rattle.olk_meaning.proofs.Claims.{listing, fuses, claims_itself, claims_both, claims_nothing, head_itself, head_of_required, heads_elsewhere, plan_fusing, IsNoCase}
 use Rattle.olk_meaning.proofs.TakenOver.{IsNotTaken, free_takes_nothing, free_fuses_none, fusing_is_free, fused_is_restricted}
@@ -64,7 +68,7 @@ use Rattle.olk_meaning.proofs.Heads.{names_of}
 use Rattle.olk_meaning.proofs.Clean.{fused, names_fused}
 use Rattle.olk_meaning.proofs.Children.{shown_at, shown_declared, branches_shown, accepting_branches, any_shown, properties_child, required_child, no_required_child, all_of_child, any_of_child, not_child, leaf_child}
 use Rattle.olk_spec.proofs.Maps.{is_empty-map}
-use Rattle.olk_make.proofs.Formed.{has_form, just_one_formed, stand_formed, each_held_formed, each_long, map_formed, properties_formed, required2_formed, all_of_formed, any_of_formed}
+use Rattle.olk_make.proofs.Formed.{has_form, just_one_formed, stand_formed, each_held_formed, entries_zipped, map_zipped, paired, map_formed, required2_formed, all_of_formed, any_of_formed}
 use Rattle.olk_tree.specs.Formed.{is_map_formed}
 use Rattle.olk_spec.specs.declared.TheConstants.{HASHMAP_THRESHOLD}
 
@@ -247,31 +251,43 @@ module _ {K R N : Type 0} (o : Kit K R) (answers : N → Answers) where
       → (u : Bool) (v : Data) (Q : Path) (more : List Tree) → properties_tree (λ n. (answers n).tree u) v Q L (mapped m) more ≡ shown_declared o.world u v L Q es more
   properties_show m ns L es held stand u v Q more = ap (λ ds. properties_tree (λ n. (answers n).tree u) v Q L ds more) held ∙ declared_show u v L Q more ns es stand
 
-  pub means_properties : (m : PropertiesMap N) (ns : List N) (L : Path) (fs : Members) (d : Data) → d ≡ object fs → is_map_formed m ≡ true
-      → mapped m ≡ zip (keys_in (listed fs)) ns → StandEach o answers ns (listed fs) L → (ms : Members) (P : Path) → L ≡ P // codes "properties" → KeywordMeans o answers ms
-      (keyword.Properties (record { properties = m; location = L }) ∷ []) (codes "properties", d) P
-  unfolding answers_of
-  means_properties m ns L fs d q sized held stand ms P p = subst
-      (λ x. KeywordMeans o answers ms (keyword.Properties (record { properties = m; location = L }) ∷ []) (codes "properties", x) P) (sym q) (record {
-        holds = one ms (keyword.Properties (record { properties = m; location = L })) (codes "properties", object fs) properties P
-            (λ u v. ap (λ ds. (every (each_at u v) ds).accepts u) held ∙ members_accept u v _ _ _ stand ∙ sym (fact.properties_accepts o.world ms fs u v))
-            (λ u v. subst₂ (λ ds n. (every (each_at u v) ds).asks u ≤ n) (sym held) (sym (fact.properties_asks o.world ms fs u v)) (members_ask u v _ _ _ stand))
-            (λ u v Q. subst₂ (λ ds l. flat_map (λ e. flat_map (λ x. (answers e.1).report u x (Q // e.0)) (at e.0 v)) ds ∼ l) (sym held)
+  -- a validator that answers as `properties` with this map
+  pub means_properties : (k : KeywordOver K R N) (m : PropertiesMap N) (ns : List N) (L : Path) → answers_of o k ≡ properties_answers m L → (fs : Members) (d : Data) → d ≡ object fs
+      → is_map_formed m ≡ true → mapped m ≡ zip (keys_in (listed fs)) ns → StandEach o answers ns (listed fs) L → (ms : Members) (P : Path) → L ≡ P // codes "properties"
+      → KeywordMeans o answers ms (k ∷ []) (codes "properties", d) P
+  means_properties k m ns L same fs d q sized held stand ms P p = subst
+      (λ x. KeywordMeans o answers ms (k ∷ []) (codes "properties", x) P) (sym q) (record {
+        holds = one ms k (codes "properties", object fs) properties P
+            (λ u v. ap (λ a. (a.means (λ n. (answers n).means) v).accepts u) same
+            ∙ ap (λ ds. (every (each_at u v) ds).accepts u) held ∙ members_accept u v _ _ _ stand ∙ sym (fact.properties_accepts o.world ms fs u v))
+            (λ u v. subst (λ a. (a.means (λ n. (answers n).means) v).asks u ≤ member_asks o.world ms (codes "properties", object fs) properties u v) (sym same)
+            (subst₂ (λ ds n. (every (each_at u v) ds).asks u ≤ n) (sym held) (sym (fact.properties_asks o.world ms fs u v)) (members_ask u v _ _ _ stand)))
+            (λ u v Q. subst (λ a. a.report (λ n. (answers n).means) (λ n. (answers n).report) u v Q ∼ member_report o.world ms (codes "properties", object fs) properties u v P Q) (sym same)
+            (subst₂ (λ ds l. flat_map (λ e. flat_map (λ x. (answers e.1).report u x (Q // e.0)) (at e.0 v)) ds ∼ l) (sym held)
             (ap (λ M. flat_map (λ e. flat_map (λ x. report o.world u e.1 x (M // e.0) (Q // e.0)) (at e.0 v)) (listed fs)) p ∙ sym (fact.properties_report o.world ms fs u v P Q))
-            (members_find u v _ Q _ _ stand));
+            (members_find u v _ Q _ _ stand)));
         shows = λ u h v Q.
-            ap (λ t. t ∷ []) (properties_show m ns L (listed fs) held stand u v Q [] ∙ ap (λ M. shown_declared o.world u v M Q (listed fs) []) p)
+            ap (λ t. t ∷ []) (ap (λ a. a.tree (λ n. (answers n).means) (λ n. (answers n).tree) u v Q) same
+            ∙ properties_show m ns L (listed fs) held stand u v Q [] ∙ ap (λ M. shown_declared o.world u v M Q (listed fs) []) p)
             ∙ ap (λ b. shown_declared o.world u v (P // codes "properties") Q (listed fs) (missing_child o.world u (read_members (meaning_step o.world u) ms) v P Q b) ∷ []) (sym h.2)
             ∙ sym (properties_child o.world u v ms P Q fs h.0 h.1);
-        formed = just_one_formed o answers (keyword.Properties (record { properties = m; location = L })) (properties_formed o answers m L sized (each_held_formed o answers (mapped m) _ _ _ held _ (schemas_answer o answers _ _ _ stand)));
+        formed = just_one_formed o answers k (ap (λ a. a.formed (has_form o answers)) same ∙ and_from _ _ sized (each_held_formed o answers (mapped m) _ _ _ held _ (schemas_answer o answers _ _ _ stand)));
       })
+
+  small_answers : (m : SmallMap N) (L : Path) → answers_of o (keyword.SmallProperties (record { properties = m; location = L })) ≡ properties_answers (Small m) L
+  unfolding answers_of
+  small_answers m L = refl
+
+  big_answers : (m : BigMap N) (L : Path) → answers_of o (keyword.BigProperties (record { properties = m; location = L })) ≡ properties_answers (Big m) L
+  unfolding answers_of
+  big_answers m L = refl
 
   -- ---- properties, with required or alone
 
   module _ (ms : Members) (L P : Path) (k : Box (SmallPropertiesWithRequired2 N) Global) (t : Name × Name) (names : List Name) (ns : List N)
       (form : IsFormOfProperties {K = K} {R = R} P L names ns (Some t) (keyword.PropertiesWithRequired2 k)) where
     abbrev alone : KeywordOver K R N
-    alone = keyword.Properties (record { properties = Small k.value.properties; location = L })
+    alone = keyword.SmallProperties (record { properties = k.value.properties; location = L })
 
     abbrev lacking : Data → List Name
     lacking v = missing (t.0 ∷ t.1 ∷ []) v
@@ -327,33 +343,45 @@ module _ {K R N : Type 0} (o : Kit K R) (answers : N → Answers) where
       by false h = refl
       by true h = h
 
-  few_formed : (k : SmallPropertiesWithRequired2 N) (fs : Members) (d : Data) → d ≡ object fs → length (named k.properties) ≡ length (keys_in (listed fs))
-      → declares_few (Some d) ≡ true → is_map_formed (Small k.properties) ≡ true
-  few_formed k fs d q count few = ap (λ n. nat_lt n HASHMAP_THRESHOLD) (count ∙ length-map (listed fs) (λ e. e.0)) ∙ ap (λ x. declares_few (Some x)) (sym q) ∙ few
+  -- as many nodes as names
+  counted : (names : List Name) (ns : List N) (L : Path) (fs : Members) → names ≡ keys_in (listed fs) → StandEach o answers ns (listed fs) L → length ns ≡ length names
+  counted names ns L fs declared stand = each_count o answers (schema_answers o answers) ns (listed fs) L (schemas_answer o answers ns (listed fs) L stand) ∙ ap length (sym declared)
+
+  few_declared : (names : List Name) (fs : Members) (d : Data) → d ≡ object fs → names ≡ keys_in (listed fs) → declares_few (Some d) ≡ true → nat_lt (length names) HASHMAP_THRESHOLD ≡ true
+  few_declared names fs d q declared few = ap (λ n. nat_lt n HASHMAP_THRESHOLD) (ap length declared ∙ length-map (listed fs) (λ e. e.0)) ∙ ap (λ x. declares_few (Some x)) (sym q) ∙ few
+
+  -- of the names alone
+  means_alone_form : (k : KeywordOver K R N) (m : PropertiesMap N) (names : List Name) (ns : List N) (L P : Path) (fs : Members) (d : Data)
+      → d ≡ object fs → names ≡ keys_in (listed fs) → StandEach o answers ns (listed fs) L → answers_of o k ≡ properties_answers m L → IsMapOver names ns m → IsMapFor (length names) m
+      → (ms : Members) → L ≡ P // codes "properties" → has_repeat (names_of (listed ms)) ≡ false → lookup_name (codes "properties") (listed ms) ≡ Some d
+      → None ≡ fused_pair ms → is_restricted ms ≡ false → MeanClaim o answers ms (plan_of ms) (k ∷ []) (codes "properties", d) P
+  means_alone_form k m names ns L P fs d q declared stand same over size ms p distinct there chosen unrestricted =
+      subst (λ rows. KeywordsMean o answers ms (k ∷ []) rows ((codes "properties", d) ∷ []) P)
+      (sym (claims_itself ms distinct (head (plan_of ms)) (codes "properties", d)
+      (head_itself (plan_of ms) (codes "properties") (λ e. absurd (true≢false (sym e ∙ ap is_some (sym chosen)))) (λ e. (refl, refl))
+      (free_takes_nothing ms (codes "properties") unrestricted)) there))
+      (means_alone o answers ms P _ (codes "properties", d) (ap (λ b. b && true) unrestricted)
+      (λ clean u. (there, restricted_read (meaning_step o.world u) ms ∙ unrestricted, fused o.world ms P clean (meaning_step o.world u) ∙ ap is_some (sym chosen)))
+      (means_properties k m ns L same fs d q (map_formed names ns (counted names ns L fs declared stand) m over size) (map_zipped names ns m over ∙ ap (λ ks. zip ks ns) declared) stand ms P p))
 
   pub means_form : (k : KeywordOver K R N) (names : List Name) (ns : List N) (L P : Path) (t : Option (Name × Name)) (fs : Members) (d : Data)
       → d ≡ object fs → names ≡ keys_in (listed fs) → StandEach o answers ns (listed fs) L → IsFormOfProperties P L names ns t k
       → (ms : Members) → L ≡ P // codes "properties" → has_repeat (names_of (listed ms)) ≡ false → lookup_name (codes "properties") (listed ms) ≡ Some d
       → t ≡ fused_pair ms → is_restricted ms ≡ false → MeanClaim o answers ms (plan_of ms) (k ∷ []) (codes "properties", d) P
-  means_form (keyword.Properties k) names ns L P None fs d q declared stand form ms p distinct there chosen unrestricted =
-      subst (λ rows. KeywordsMean o answers ms (keyword.Properties k ∷ []) rows ((codes "properties", d) ∷ []) P)
-      (sym (claims_itself ms distinct (head (plan_of ms)) (codes "properties", d)
-      (head_itself (plan_of ms) (codes "properties") (λ e. absurd (true≢false (sym e ∙ ap is_some (sym chosen)))) (λ e. (refl, refl))
-      (free_takes_nothing ms (codes "properties") unrestricted)) there))
-      (subst (λ M. KeywordsMean o answers ms (keyword.Properties (record { properties = k.properties; location = M }) ∷ []) ((codes "properties", d) ∷ [])
-      ((codes "properties", d) ∷ []) P) (sym form.2)
-      (means_alone o answers ms P _ (codes "properties", d) (ap (λ b. b && true) unrestricted)
-      (λ clean u. (there, restricted_read (meaning_step o.world u) ms ∙ unrestricted, fused o.world ms P clean (meaning_step o.world u) ∙ ap is_some (sym chosen)))
-      (means_properties k.properties ns L fs d q (map_formed k.properties (length names) (each_long o answers (mapped k.properties) _ _ _ held _ (schemas_answer o answers _ _ _ stand) ∙ ap length (sym declared)) form.1) held stand ms P p)))
-    where
-      held : mapped k.properties ≡ zip (keys_in (listed fs)) ns
-      held = form.0 ∙ ap (λ ks. zip ks ns) declared
+  means_form (keyword.SmallProperties k) names ns L P None fs d q declared stand form ms p distinct there chosen unrestricted =
+      means_alone_form (keyword.SmallProperties k) (Small k.properties) names ns L P fs d q declared stand
+      (small_answers k.properties k.location ∙ ap (properties_answers (Small k.properties)) form.2) form.0 form.1 ms p distinct there chosen unrestricted
+  means_form (keyword.BigProperties k) names ns L P None fs d q declared stand form ms p distinct there chosen unrestricted =
+      means_alone_form (keyword.BigProperties k) (Big k.properties) names ns L P fs d q declared stand
+      (big_answers k.properties k.location ∙ ap (properties_answers (Big k.properties)) form.2) form.0 form.1 ms p distinct there chosen unrestricted
   means_form (keyword.PropertiesWithRequired2 k) names ns L P (Some t) fs d q declared stand form ms p distinct there chosen unrestricted =
       let both = fuses ms distinct t chosen in
-      let held : named k.value.properties ≡ zip (keys_in (listed fs)) ns = form.0 ∙ ap (λ ks. zip ks ns) declared in
-      let count = each_long o answers (named k.value.properties) _ _ _ held _ (schemas_answer o answers _ _ _ stand) in
-      let few : is_map_formed (Small k.value.properties) ≡ true = few_formed k.value fs d q count (ap declares_few (sym there ∙ both.declared) ∙ both.few) in
-      let plain = means_properties (Small k.value.properties) ns L fs d q few held stand ms P p in
+      let held : named k.value.properties ≡ zip (keys_in (listed fs)) ns = entries_zipped names ns k.value.properties form.0 ∙ ap (λ ks. zip ks ns) declared in
+      let count = counted names ns L fs declared stand in
+      let few : is_map_formed (Small k.value.properties) ≡ true = and_from _ _
+      (ap (λ ks. nat_lt (length ks) HASHMAP_THRESHOLD) form.0.0 ∙ few_declared names fs d q declared (ap declares_few (sym there ∙ both.declared) ∙ both.few))
+      (paired names ns count k.value.properties.names k.value.properties.nodes form.0.0 form.0.1) in
+      let plain = means_properties (alone ms L P k t names ns form) (Small k.value.properties) ns L (small_answers k.value.properties L) fs d q few held stand ms P p in
       means_permuted o answers ms P (keyword.PropertiesWithRequired2 k ∷ []) ((codes "properties", d) ∷ (codes "required", listing t) ∷ [])
       (claims (head (plan_of ms)) (listed ms) (codes "properties", d)) ((codes "properties", d) ∷ [])
       (subst (λ s. IsPermutation ((codes "properties", d) ∷ (codes "required", listing t) ∷ []) (claims (head s) (listed ms) (codes "properties", d)))

@@ -28,7 +28,6 @@ use Rattle.olk_read.specs.Reading.{reads_of, IsShape}
 use Rattle.olk_make.specs.Standing.{StandAt, is_taken, is_restriction_shape}
 use Rattle.olk_make.specs.Making.{MakesMember, MakesClaims, MakesPart}
 use Rattle.olk_make.specs.declared.part.Taken.{Taken}
-use Rattle.olk_tree.specs.Tables.{Table}
 use Rattle.olk_tree.specs.declared.node.KeywordOver.{KeywordOver}
 use Rattle.olk_tree.specs.declared.node.KeywordOver.TheVariants as keyword
 use Rattle.olk_read.specs.declared.shape.Shape.{Shape}
@@ -138,9 +137,9 @@ module _ {K R N : Type 0} (o : Kit K R) (answers : N → Answers) where
       (told_by_none ms p m.0 chosen untaken) (make ms m P l s h)))
 
   -- `patternProperties` does where nothing is restricted
-  pub patterns_claim_own : {x : Shape K R} {v : Vec (CompiledPattern R) Global} {t : Table} {L P : Path} {ks : List (KeywordOver K R N)} {p : Planned} (ns : List N)
-      → x ≡ shape.PatternProperties v t → MakesMember o answers (shape.PatternProperties v t) L ns ks → MakesClaims o answers x L ns P p ks
-  patterns_claim_own {x} {v} {t} {L} {P} {ks} {p} ns e make = subst (λ z. MakesClaims o answers z L ns P p ks) (sym e) (λ ms m l s h distinct there chosen untaken.
+  pub patterns_claim_own : {x : Shape K R} {v : Vec (CompiledPattern R) Global} {L P : Path} {ks : List (KeywordOver K R N)} {p : Planned} (ns : List N)
+      → x ≡ shape.PatternProperties v → MakesMember o answers (shape.PatternProperties v) L ns ks → MakesClaims o answers x L ns P p ks
+  patterns_claim_own {x} {v} {L} {P} {ks} {p} ns e make = subst (λ z. MakesClaims o answers z L ns P p ks) (sym e) (λ ms m l s h distinct there chosen untaken.
       subst (λ q. MeanClaim o answers ms q ks m P) (sym chosen)
       (means_own o answers ks ms m P distinct there (ap (bytes_eq (codes "properties")) s.0) (ap (bytes_eq (codes "required")) s.0)
       (λ read_here. (ap (λ n. bytes_eq n (codes "if")) s.0, ap is_case s.0))

@@ -29,7 +29,6 @@ use Rattle.olk_meaning.specs.PatternProperties.{matched_members, pattern_asks}
 use Rattle.olk_meaning.proofs.Conditions.{restricted_read}
 use Rattle.olk_meaning.proofs.PatternProperties as fact
 use Rattle.olk_tree.specs.Matched.{matched, match_question}
-use Rattle.olk_tree.specs.Tables.{Table}
 use Rattle.olk_tree.specs.Questions.{Question, every, conditional, always}
 use Rattle.olk_tree.specs.Shown.{match_trees, match_names, patterns_tree}
 use Rattle.olk_tree.specs.PatternProperties.{matched_mean, patterns_mean, matched_report, patterns_report}
@@ -235,9 +234,9 @@ module _ {K R N : Type 0} (o : Kit K R) (answers : N → Answers) where
       formed = just_one_formed o answers k (patterns_formed o answers k L es form (entries_formed es (members d) L stand));
     }
 
-  pub makes_pattern_properties : (k : KeywordOver K R N) (L : Path) (v : Vec (CompiledPattern R) Global) (t : Table) (ns : List N) (es : List Entry)
-      → es ≡ zip v.items ns → IsFormOfPatternProperties L es k → MakesMember o answers (shape.PatternProperties v t) L ns (k ∷ [])
-  makes_pattern_properties k L v t ns es e form ms m P p s h = by_its_name o answers s.0 p
+  pub makes_pattern_properties : (k : KeywordOver K R N) (L : Path) (v : Vec (CompiledPattern R) Global) (ns : List N) (es : List Entry)
+      → es ≡ zip v.items ns → IsFormOfPatternProperties L es k → MakesMember o answers (shape.PatternProperties v) L ns (k ∷ [])
+  makes_pattern_properties k L v ns es e form ms m P p s h = by_its_name o answers s.0 p
       (means_patterns k L es form m.1 (subst (λ l. EntriesStand o answers l (members m.1) L) (sym e) (both_stand v.items ns (members m.1) L s.2 h)) ms P)
 
 -- ---- the form, by how many patterns there are

@@ -29,6 +29,7 @@ use Rattle.olk_base.specs.Kit.{Kit}
 use Rattle.olk_meaning.specs.PropertyDependencies.{chosen, chosen_by}
 use Rattle.olk_meaning.proofs.PropertyDependencies as fact
 use Rattle.olk_tree.specs.Questions.{every}
+use Rattle.olk_tree.specs.Formed.{is_paired}
 use Rattle.olk_tree.specs.Maps.{keys_in, nodes_in, named}
 use Rattle.olk_tree.specs.PropertyDependencies.{chosen_at, chosen_nodes}
 use Rattle.olk_tree.specs.Validators.{answers_of}
@@ -39,13 +40,13 @@ use Rattle.olk_tree.specs.declared.node.KeywordOver.TheVariants as keyword
 use Rattle.olk_tree.specs.Answers.{Answers}
 use Rattle.olk_read.specs.Lists.{names_of}
 use Rattle.olk_read.specs.declared.shape.Shape.TheVariants as shape
-use Rattle.olk_make.specs.Forms.{AreCut, IsPropertyDependencies}
+use Rattle.olk_make.specs.Forms.{HasEntries, AreCut, IsPropertyDependencies}
 use Rattle.olk_make.specs.Holding.{StandInner}
 use Rattle.olk_make.specs.Made.{MakesPropertyDependencies}
 use Rattle.olk_make.specs.Making.{KeywordMeans, MakesMember}
 use Rattle.olk_make.proofs.Entries.{Rows, AnswersFor, AnswerEach, each_count, each_accept, each_ask, each_find, each_show, schema_answers, schemas_answer}
 use Rattle.olk_make.proofs.Held.{one}
-use Rattle.olk_make.proofs.Formed.{has_form, just_one_formed, each_keys, each_held_formed}
+use Rattle.olk_make.proofs.Formed.{has_form, just_one_formed, entries_zipped, paired, each_keys, each_held_formed}
 use Rattle.olk_spec.proofs.Truth.{and_from}
 
 -- maps, made of the lists of names and the nodes that are left
@@ -61,10 +62,10 @@ module _ {N : Type 0} (n : ℕ) (ns taken left : List N) (parts : ns ≡ taken +
   left_behind = sym (drop_at taken left (length taken) refl) ∙ (λ i. drop (count i) (sym parts i)) ∙ drop_min n ns
 
   -- with names beside the nodes that are taken, one map more is cut
-  pub one_cut : (names : List Name) → length names ≡ n → (m : SmallMap N) → named m ≡ zip names taken → (ts : List (List Name)) (maps : List (SmallMap N))
+  pub one_cut : (names : List Name) → length names ≡ n → (m : SmallMap N) → HasEntries names taken m → (ts : List (List Name)) (maps : List (SmallMap N))
       → AreCut ts left maps → AreCut (names ∷ ts) ns (m ∷ maps)
   one_cut names len m held ts maps h =
-      (held ∙ ap (zip names) (taken_first ∙ ap (λ k. take k ns) (sym len)), subst (λ l. AreCut ts l maps) (left_behind ∙ ap (λ k. drop k ns) (sym len)) h)
+      ((held.0, held.1 ∙ taken_first ∙ ap (λ k. take k ns) (sym len)), subst (λ l. AreCut ts l maps) (left_behind ∙ ap (λ k. drop k ns) (sym len)) h)
 
 module _ {K R N : Type 0} (o : Kit K R) (answers : N → Answers) where
   abbrev SchemaFor : N → Name × Data → Path → Type 0
@@ -101,6 +102,7 @@ module _ {K R N : Type 0} (o : Kit K R) (answers : N → Answers) where
   -- a map whose nodes stand for what is in the entry
   record MapAnswers (m : SmallMap N) (e : Name × Data) (L : Path) : Type 0 where
     nodes : List N
+    entries : HasEntries (names_of e.1) nodes m
     held : named m ≡ zip (names_of e.1) nodes
     each : SchemaEach nodes (members e.1) (L // e.0)
 
@@ -110,9 +112,11 @@ module _ {K R N : Type 0} (o : Kit K R) (answers : N → Answers) where
   MapsAnswer (m ∷ maps) (e ∷ es) L = MapAnswers m e L × MapsAnswer maps es L
   MapsAnswer _ _ L = ⊥
 
-  maps_formed : (maps : List (SmallMap N)) (es : Rows) (L : Path) → MapsAnswer maps es L → list_all (λ m. list_all (has_form o answers) (nodes_in (named m))) maps ≡ true
+  maps_formed : (maps : List (SmallMap N)) (es : Rows) (L : Path) → MapsAnswer maps es L → list_all (λ m. is_paired m.names m.nodes && list_all (has_form o answers) (nodes_in (named m))) maps ≡ true
   maps_formed [] [] L h = refl
-  maps_formed (m ∷ maps) (e ∷ es) L h = and_from _ _ (each_held_formed o answers (named m) _ _ _ h.0.held _ h.0.each) (maps_formed maps es L h.1)
+  maps_formed (m ∷ maps) (e ∷ es) L h = and_from _ _
+      (and_from _ _ (paired (names_of e.1) h.0.nodes (each_count o answers _ _ _ _ h.0.each) m.names m.nodes h.0.entries.0 h.0.entries.1) (each_held_formed o answers (named m) _ _ _ h.0.held _ h.0.each))
+      (maps_formed maps es L h.1)
   maps_formed _ _ L h = absurd h
 
   -- the names of each
@@ -181,7 +185,10 @@ module _ {K R N : Type 0} (o : Kit K R) (answers : N → Answers) where
   abbrev choices_of : SmallMap (SmallMap N) → Path → KeywordOver K R N
   choices_of m L = keyword.PropertyDependencies (record { dependencies = m; location = L })
 
-  module _ (m : SmallMap (SmallMap N)) (maps : List (SmallMap N)) (L : Path) (d : Data) (held : named m ≡ zip (names_of d) maps) (stand : MapsAnswer maps (members d) L) where
+  module _ (m : SmallMap (SmallMap N)) (maps : List (SmallMap N)) (L : Path) (d : Data) (names : m.names ≡ names_of d) (nodes : m.nodes.items ≡ maps) (stand : MapsAnswer maps (members d) L) where
+    held : named m ≡ zip (names_of d) maps
+    held = entries_zipped (names_of d) maps m (names, nodes)
+
     held_maps : nodes_in (named m) ≡ maps
     held_maps = ap nodes_in held ∙ seconds-zip (names_of d) maps (maps_count maps (members d) L stand)
 
@@ -207,7 +214,8 @@ module _ {K R N : Type 0} (o : Kit K R) (answers : N → Answers) where
           (ap (λ ds. plain L Q (map (λ n. (answers n).tree u v Q) (chosen_nodes ds v))) held ∙ ap (plain L Q) (choices_show v u L Q maps (members d) stand)
           ∙ ap (λ M. plain M Q (flat_map (λ e. map (λ c. tree o.world u c.1 v (M // e.0 // c.0) Q) (chosen v e)) (members d))) p)
           ∙ sym (fact.property_dependencies_child o.world ms d u v P Q);
-      formed = just_one_formed o answers (choices_of m L) (ap (list_all (λ m. list_all (has_form o answers) (nodes_in (named m)))) held_maps ∙ maps_formed maps (members d) L stand);
+      formed = just_one_formed o answers (choices_of m L) (and_from _ _ (paired (names_of d) maps (maps_count maps (members d) L stand) m.names m.nodes names nodes)
+          (ap (list_all (λ m. is_paired m.names m.nodes && list_all (has_form o answers) (nodes_in (named m)))) held_maps ∙ maps_formed maps (members d) L stand));
     }
 
   -- ---- what is made of the nodes
@@ -222,21 +230,25 @@ module _ {K R N : Type 0} (o : Kit K R) (answers : N → Answers) where
       let after = stand.1 in
       let name : t ≡ names_of e.1 = ap (λ l. get_or l 0 []) q in
       let each = schemas_answer o answers _ _ _ stand.3 in
-      let count : length here ≡ length t = each_count o answers _ _ _ _ each ∙ sym (ap length name) in (
+      let count : length here ≡ length t = each_count o answers _ _ _ _ each ∙ sym (ap length name) in
+      let first : take (length t) ns ≡ here = ap (take (length t)) stand.2 ∙ take_at here after (length t) count in (
         record {
           nodes = here;
-          held = h.0 ∙ (λ i. zip (name i) ((ap (take (length t)) stand.2 ∙ take_at here after (length t) count) i));
+          entries = (h.0.0 ∙ name, h.0.1 ∙ first);
+          held = entries_zipped (names_of e.1) here m (h.0.0 ∙ name, h.0.1 ∙ first);
           each = each;
         },
         maps_answer ts (drop (length t) ns) maps es L h.1 (ap (drop 1) q) (subst (λ l. StandInner o answers l es L) (sym (ap (drop (length t)) stand.2 ∙ drop_at here after (length t) count)) stand.4),
       )
   maps_answer _ ns _ es L h q stand = absurd h
 
-  module _ (m : SmallMap (SmallMap N)) (maps : List (SmallMap N)) (keys : List Name) (held : named m ≡ zip keys maps) (texts : Vec (List Name) Global) (ns : List N) (L : Path)
-      (is : AreCut texts.items ns maps) where
-    pub makes_property_dependencies : MakesMember o answers (shape.PropertyDependencies keys texts) L ns (choices_of m L ∷ [])
-    makes_property_dependencies ms x P p s h = by_its_name o answers s.0 p
-        (means_property_dependencies m maps L x.1 (held ∙ ap (λ ks. zip ks maps) s.2) (maps_answer texts.items ns maps (members x.1) L is s.3 h) ms P)
+  module _ (keys : List Name) (maps : Vec (SmallMap N) Global) (texts : Vec (List Name) Global) (ns : List N) (L : Path) (is : AreCut texts.items ns maps.items) where
+    abbrev choices : SmallMap (SmallMap N)
+    choices = record { names = keys; nodes = maps }
 
-    pub keys_of_property_dependencies : MakesPropertyDependencies o answers (shape.PropertyDependencies keys texts) L ns (choices_of m L)
-    keys_of_property_dependencies x s h = choices_are m maps L x.1 (held ∙ ap (λ ks. zip ks maps) s.2) (maps_answer texts.items ns maps (members x.1) L is s.3 h)
+    pub makes_property_dependencies : MakesMember o answers (shape.PropertyDependencies keys texts) L ns (choices_of choices L ∷ [])
+    makes_property_dependencies ms x P p s h = by_its_name o answers s.0 p
+        (means_property_dependencies choices maps.items L x.1 s.2 refl (maps_answer texts.items ns maps.items (members x.1) L is s.3 h) ms P)
+
+    pub keys_of_property_dependencies : MakesPropertyDependencies o answers (shape.PropertyDependencies keys texts) L ns (choices_of choices L)
+    keys_of_property_dependencies x s h = choices_are choices maps.items L x.1 s.2 refl (maps_answer texts.items ns maps.items (members x.1) L is s.3 h)

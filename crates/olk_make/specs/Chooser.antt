@@ -8,7 +8,7 @@ use Rattle.olk_meaning.specs.Conditions.{is_condition, is_restricted}
 use Rattle.olk_meaning.specs.Plans.{plan_of}
 use Rattle.olk_tree.specs.declared.node.KeywordOver.{KeywordOver}
 use Rattle.olk_tree.specs.declared.node.KeywordOver.TheVariants as keyword
-use Rattle.olk_make.specs.Forms.{IsAllOf, IsAnyOf, IsOneOf, IsNot, IsRequired, IsIf, IsProperties, IsPatternProperties, IsAdditionalProperties, IsDependencies, IsPropertyNames, IsPropertyNamesFalse, IsPropertyDependencies}
+use Rattle.olk_make.specs.Forms.{IsAllOf, IsAnyOf, IsOneOf, IsNot, IsRequired, IsIf, IsProperties, IsPatternProperties, IsAdditionalProperties, IsDependencies, IsDependentRequired, IsDependentSchemas, IsPropertyNames, IsPropertyNamesFalse, IsPropertyDependencies}
 
 abbrev pub IsLeafAt : {K R N : Type 0} → Path → KeywordOver K R N → Type 0
 IsLeafAt L (keyword.Leaf M l) = M ≡ L
@@ -42,8 +42,8 @@ module _ (ms : Members) where
     HasForm additional_properties k d x = IsAdditionalProperties P (P // k) (is_object d) (entries_at (codes "properties") ms) (entries_at (codes "patternProperties") ms) (plan_of ms).fused_one x
     HasForm property_names k d x = (is_object d ≡ true → IsPropertyNames (P // k) x) × (is_truth false d ≡ true → IsPropertyNamesFalse (P // k) x)
     HasForm required k d x = IsRequired (P // k) d x
-    HasForm dependent_required k d x = IsDependencies (P // k) (map (λ e. e.0) (members d)) x
-    HasForm dependent_schemas k d x = IsDependencies (P // k) (map (λ e. e.0) (members d)) x
+    HasForm dependent_required k d x = IsDependentRequired (P // k) (map (λ e. e.0) (members d)) x
+    HasForm dependent_schemas k d x = IsDependentSchemas (P // k) (map (λ e. e.0) (members d)) x
     HasForm dependencies k d x = IsDependencies (P // k) (map (λ e. e.0) (members d)) x
     HasForm property_dependencies k d x = IsPropertyDependencies (P // k) (map (λ e. e.0) (members d)) (map (λ e. map (λ c. c.0) (members e.1)) (members d)) x
     HasForm all_of k d x = IsAllOf (P // k) d x

@@ -1,5 +1,5 @@
 -- Which form of a validator is built.
-use Rattle.std.specs.Prelude.{◌≡◌, ◌≢◌, ◌<◌, ◌≤◌, ⊤, ℕ, Bool, true, false, List, [], ◌∷◌, map, length, take, drop, zip, Option, Some, None, is_some, option_map, codes, Vec, String, string_bytes}
+use Rattle.std.specs.Prelude.{◌≡◌, ◌≢◌, ◌<◌, ◌≤◌, ⊤, ℕ, Bool, true, false, List, [], ◌∷◌, map, length, take, drop, Option, Some, None, is_some, option_map, codes, Vec, String, string_bytes}
 use Rattle.std.specs.declared.alloc.Global.{Global}
 use Rattle.std.specs.declared.boxed.Box.{Box}
 use Rattle.serde_json.specs.Data.{Data}
@@ -10,7 +10,7 @@ use Rattle.olk_spec.specs.Malformed.{items_of_array}
 use Rattle.olk_spec.specs.declared.TheConstants.{HASHMAP_THRESHOLD}
 use Rattle.olk_base.specs.Kit.{Kit}
 use Rattle.olk_base.specs.declared.pattern.CompiledPattern.{CompiledPattern}
-use Rattle.olk_tree.specs.Maps.{keys_in, nodes_in, mapped, named}
+use Rattle.olk_tree.specs.Maps.{keys_in, nodes_in, named}
 use Rattle.olk_tree.specs.Ascending.{Ascend}
 use Rattle.olk_tree.specs.declared.map.SmallMap.{SmallMap}
 use Rattle.olk_tree.specs.declared.properties_map.PropertiesMap.{PropertiesMap}
@@ -51,6 +51,15 @@ IsFormOfPatternProperties P es (keyword.PatternProperties k) = (k.patterns.items
 IsFormOfPatternProperties P es (keyword.SingleValuePatternProperties k) = (es ≡ (k.value.regex, k.value.node) ∷ []) × (k.value.location ≡ P)
 IsFormOfPatternProperties P es k = ⊥
 
+-- a map of these names, and beside them these nodes
+abbrev pub HasEntries : {N : Type 0} → List Name → List N → SmallMap N → Type 0
+HasEntries names ns m = (m.names ≡ names) × (m.nodes.items ≡ ns)
+
+-- the same of few names or of many
+abbrev pub IsMapOver : {N : Type 0} → List Name → List N → PropertiesMap N → Type 0
+IsMapOver names ns (Small m) = HasEntries names ns m
+IsMapOver names ns (Big m) = (m.names ≡ names) × (m.nodes.items ≡ ns)
+
 -- a map for so many names: from HASHMAP_THRESHOLD names on they are held in a big map
 abbrev pub IsMapFor : {N : Type 0} → ℕ → PropertiesMap N → Type 0
 IsMapFor n (Small m) = n < HASHMAP_THRESHOLD
@@ -58,8 +67,9 @@ IsMapFor n (Big m) = HASHMAP_THRESHOLD ≤ n
 
 -- the form at L in the object at P, over these names and nodes: with two fused names, or alone
 abbrev pub IsFormOfProperties : {K R N : Type 0} → Path → Path → List Name → List N → Option (Name × Name) → KeywordOver K R N → Type 0
-IsFormOfProperties P L names ns None (keyword.Properties k) = (mapped k.properties ≡ zip names ns) × IsMapFor (length names) k.properties × (k.location ≡ L)
-IsFormOfProperties P L names ns (Some t) (keyword.PropertiesWithRequired2 k) = (named k.value.properties ≡ zip names ns) × (k.value.location ≡ L) × (string_bytes k.value.first ≡ t.0) × (string_bytes k.value.second ≡ t.1) × (k.value.required_location ≡ P // codes "required")
+IsFormOfProperties P L names ns None (keyword.SmallProperties k) = IsMapOver names ns (Small k.properties) × IsMapFor (length names) (Small k.properties) × (k.location ≡ L)
+IsFormOfProperties P L names ns None (keyword.BigProperties k) = IsMapOver names ns (Big k.properties) × IsMapFor (length names) (Big k.properties) × (k.location ≡ L)
+IsFormOfProperties P L names ns (Some t) (keyword.PropertiesWithRequired2 k) = HasEntries names ns k.value.properties × (k.value.location ≡ L) × (string_bytes k.value.first ≡ t.0) × (string_bytes k.value.second ≡ t.1) × (k.value.required_location ≡ P // codes "required")
 IsFormOfProperties P L names ns t k = ⊥
 
 -- a map of these names, which ascend, and nodes, or none
@@ -67,11 +77,7 @@ abbrev pub IsMapOf : {N : Type 0} → Option (DeclaredNodes N) → Option (Prope
 IsMapOf None None = ⊤
 IsMapOf None (Some m) = ⊥
 IsMapOf (Some d) None = ⊥
-IsMapOf (Some d) (Some m) = (mapped m ≡ zip d.names d.nodes.items) × IsMapFor (length d.names) m × Ascend d.names
-
--- patterns that are held, each with its node
-abbrev pub HoldsPatterns : {R N : Type 0} → Patterns R N → Vec (CompiledPattern R × N) Global → Type 0
-HoldsPatterns x v = v.items ≡ zip x.patterns.items x.nodes.items
+IsMapOf (Some d) (Some m) = IsMapOver d.names d.nodes.items m × IsMapFor (length d.names) m × Ascend d.names
 
 -- which validator of `additionalProperties` stands at L in the object at P, and what it holds: by whether there are a node for the rest, a map beside it and patterns beside it; a name is fused where the map alone stands beside it and nothing else is expected
 abbrev pub IsRestriction : {R N : Type 0} → Path → Path → Option N → Option (PropertiesMap N) → Option (Patterns R N) → Option Name → Restriction R N → Type 0
@@ -80,20 +86,15 @@ IsRestriction P L None None None n (by.False k) = k.location ≡ L
 IsRestriction P L (Some r) (Some m) None n (by.NotEmpty k) = (k.value.properties ≡ m) × (k.value.node ≡ r) × (k.value.location ≡ L)
 IsRestriction P L None (Some m) None None (by.NotEmptyFalse k) = (k.value.properties ≡ m) × (k.value.location ≡ L)
 IsRestriction P L None (Some m) None (Some n) (by.NotEmptyFalseWithRequired1 k) = (k.value.properties ≡ m) × (string_bytes k.value.required ≡ n) × (k.value.location ≡ L) × (k.value.required_location ≡ P // codes "required")
-IsRestriction P L (Some r) None (Some x) n (by.WithPatterns k) = HoldsPatterns x k.value.patterns × (k.value.node ≡ r) × (k.value.location ≡ L) × (k.value.pattern_keyword_path ≡ x.location)
-IsRestriction P L None None (Some x) n (by.WithPatternsFalse k) = HoldsPatterns x k.value.patterns × (k.value.location ≡ L) × (k.value.pattern_keyword_path ≡ x.location)
-IsRestriction P L (Some r) (Some m) (Some x) n (by.WithPatternsNotEmpty k) = (k.value.properties ≡ m) × HoldsPatterns x k.value.patterns × (k.value.property_pattern_indices ≡ x.table) × (k.value.node ≡ r) × (k.value.location ≡ L)
-IsRestriction P L None (Some m) (Some x) n (by.WithPatternsNotEmptyFalse k) = (k.value.properties ≡ m) × HoldsPatterns x k.value.patterns × (k.value.property_pattern_indices ≡ x.table) × (k.value.location ≡ L)
+IsRestriction P L (Some r) None (Some x) n (by.WithPatterns k) = (k.value.patterns ≡ x.patterns) × (k.value.node ≡ r) × (k.value.location ≡ L) × (k.value.pattern_keyword_path ≡ x.location)
+IsRestriction P L None None (Some x) n (by.WithPatternsFalse k) = (k.value.patterns ≡ x.patterns) × (k.value.location ≡ L) × (k.value.pattern_keyword_path ≡ x.location)
+IsRestriction P L (Some r) (Some m) (Some x) n (by.WithPatternsNotEmpty k) = (k.value.properties ≡ m) × (k.value.patterns ≡ x.patterns) × (k.value.property_pattern_indices ≡ x.table) × (k.value.node ≡ r) × (k.value.location ≡ L)
+IsRestriction P L None (Some m) (Some x) n (by.WithPatternsNotEmptyFalse k) = (k.value.properties ≡ m) × (k.value.patterns ≡ x.patterns) × (k.value.property_pattern_indices ≡ x.table) × (k.value.location ≡ L)
 IsRestriction P L r m x n k = ⊥
 
 -- the validator at L in the object at P, over the node for the rest, what stands beside it and the name that it fuses
 abbrev pub IsFormOfAdditionalProperties : {R N : Type 0} → Path → Path → Option N → Beside R N → Option Name → Restriction R N → Type 0
 IsFormOfAdditionalProperties {R} {N} P L rest b n k = (m : Option (PropertiesMap N)) × IsMapOf b.properties m × IsRestriction P L rest m b.patterns n k
-
--- `dependentRequired`, `dependentSchemas` or `dependencies` at L over these keys and nodes
-abbrev pub IsFormOfDependencies : {K R N : Type 0} → Path → List (Name × N) → KeywordOver K R N → Type 0
-IsFormOfDependencies L es (keyword.Dependencies k) = (named k.dependencies ≡ es) × (k.location ≡ L)
-IsFormOfDependencies L es k = ⊥
 
 -- `if` over its node, and those of `then` and `else` that there are
 abbrev pub IsFormOfIf : {K R N : Type 0} → Path → N → Option N → Option N → KeywordOver K R N → Type 0
@@ -136,7 +137,7 @@ abbrev pub AreCut : {N : Type 0} → List (List Name) → List N → List (Small
 AreCut [] ns [] = ⊤
 AreCut [] ns (m ∷ maps) = ⊥
 AreCut (t ∷ ts) ns [] = ⊥
-AreCut (t ∷ ts) ns (m ∷ maps) = (named m ≡ zip t (take (length t) ns)) × AreCut ts (drop (length t) ns) maps
+AreCut (t ∷ ts) ns (m ∷ maps) = HasEntries t (take (length t) ns) m × AreCut ts (drop (length t) ns) maps
 
 -- ---- the form for a value, at its place L
 
@@ -174,7 +175,8 @@ IsRequired L d k = ⊥
 
 -- `properties` of so many names at L in the object at P: with two fused names it has them, and without any it stands alone
 abbrev pub IsProperties : {K R N : Type 0} → Path → Path → ℕ → Option (Name × Name) → KeywordOver K R N → Type 0
-IsProperties P L n None (keyword.Properties k) = IsMapFor n k.properties × (k.location ≡ L)
+IsProperties P L n None (keyword.SmallProperties k) = IsMapFor n (Small k.properties) × (k.location ≡ L)
+IsProperties P L n None (keyword.BigProperties k) = IsMapFor n (Big k.properties) × (k.location ≡ L)
 IsProperties P L n (Some t) (keyword.PropertiesWithRequired2 k) = (k.value.location ≡ L) × (string_bytes k.value.first ≡ t.0) × (string_bytes k.value.second ≡ t.1) × (k.value.required_location ≡ P // codes "required")
 IsProperties P L n t k = ⊥
 
@@ -194,13 +196,25 @@ HasMapFor (Some n) (Some m) = IsMapFor n m
 -- `additionalProperties` at L in the object at P, over a node for the rest or without, over a map for so many declared names and so many patterns, if they stand there, and with the name that it fuses
 abbrev pub IsAdditionalProperties : {K R N : Type 0} → Path → Path → Bool → Option ℕ → Option ℕ → Option Name → KeywordOver K R N → Type 0
 IsAdditionalProperties {K} {R} {N} P L rest names patterns n (keyword.AdditionalProperties k) = (r : Option N) × (m : Option (PropertiesMap N)) × (x : Option (Patterns R N))
-    × (is_some r ≡ rest) × HasMapFor names m × (option_map (λ x. length (zip x.patterns.items x.nodes.items)) x ≡ patterns) × IsRestriction P L r m x n k
+    × (is_some r ≡ rest) × HasMapFor names m × (option_map (λ x. length x.patterns.items) x ≡ patterns) × IsRestriction P L r m x n k
 IsAdditionalProperties P L rest names patterns n k = ⊥
 
--- `dependentRequired`, `dependentSchemas` or `dependencies` with these keys
+-- a map of these keys, each with a node, and its place
+abbrev pub HasKeys : {N : Type 0} → SmallMap N → Path → Path → List Name → Type 0
+HasKeys m M L ns = (keys_in (named m) ≡ ns) × (M ≡ L)
+
+-- `dependencies`, `dependentRequired` or `dependentSchemas` with these keys
 abbrev pub IsDependencies : {K R N : Type 0} → Path → List Name → KeywordOver K R N → Type 0
-IsDependencies L ns (keyword.Dependencies k) = (keys_in (named k.dependencies) ≡ ns) × (k.location ≡ L)
+IsDependencies L ns (keyword.Dependencies k) = HasKeys k.dependencies k.location L ns
 IsDependencies L ns k = ⊥
+
+abbrev pub IsDependentRequired : {K R N : Type 0} → Path → List Name → KeywordOver K R N → Type 0
+IsDependentRequired L ns (keyword.DependentRequired k) = HasKeys k.dependencies k.location L ns
+IsDependentRequired L ns k = ⊥
+
+abbrev pub IsDependentSchemas : {K R N : Type 0} → Path → List Name → KeywordOver K R N → Type 0
+IsDependentSchemas L ns (keyword.DependentSchemas k) = HasKeys k.dependencies k.location L ns
+IsDependentSchemas L ns k = ⊥
 
 -- `propertyNames` with a schema
 abbrev pub IsPropertyNames : {K R N : Type 0} → Path → KeywordOver K R N → Type 0

@@ -14,14 +14,14 @@ use Rattle.olk_read.specs.declared.shape.Shape.TheVariants as shape
 use Rattle.olk_tree.specs.Answers.{Answers}
 use Rattle.olk_tree.specs.declared.node.KeywordOver.{KeywordOver}
 use Rattle.olk_tree.specs.declared.node.KeywordOver.TheVariants as keyword
-use Rattle.olk_make.specs.Forms.{IsFormOfAllOf, IsFormOfAnyOf, IsFormOfOneOf, IsNot, IsRequiredOver, IsIf, IsProperties, IsPatternProperties, IsAdditionalProperties, IsDependencies, IsPropertyNames, IsPropertyNamesFalse, IsPropertyDependencies}
+use Rattle.olk_make.specs.Forms.{IsFormOfAllOf, IsFormOfAnyOf, IsFormOfOneOf, IsNot, IsRequiredOver, IsIf, IsProperties, IsPatternProperties, IsAdditionalProperties, IsDependencies, IsDependentRequired, IsDependentSchemas, IsPropertyNames, IsPropertyNamesFalse, IsPropertyDependencies}
 use Rattle.olk_make.specs.Standing.{StandAt}
 use Rattle.olk_make.specs.declared.part.Taken.{Taken}
 
 -- the keyword of a shape
 abbrev pub which_of : {K R : Type 0} → Shape K R → Keyword
 which_of (shape.Properties n) = properties
-which_of (shape.PatternProperties v t) = pattern_properties
+which_of (shape.PatternProperties v) = pattern_properties
 which_of shape.AdditionalProperties = additional_properties
 which_of shape.NoOthers = additional_properties
 which_of shape.AnyOthers = additional_properties
@@ -45,9 +45,9 @@ which_of (shape.Leaf l) = leaf
 which_of shape.Unread = unread
 
 module _ {K R N : Type 0} (o : Kit K R) (answers : N → Answers) where
-  -- a keyword that is made of a shape and nodes at L has the keys of each value whose part these are
-  abbrev pub MakesDependencies : Shape K R → Path → List N → KeywordOver K R N → Type 0
-  MakesDependencies x L ns k = (m : Name × Data) → IsShape o m.0 m.1 x → StandAt o answers (reads_of x) ns m.1 L → IsDependencies L (map (λ e. e.0) (members m.1)) k
+  -- a keyword that is made of a shape and nodes at L is of this kind and has the keys of each value whose part these are
+  abbrev pub MakesDependencies : Shape K R → Path → List N → (Path → List Name → KeywordOver K R N → Type 0) → KeywordOver K R N → Type 0
+  MakesDependencies x L ns Is k = (m : Name × Data) → IsShape o m.0 m.1 x → StandAt o answers (reads_of x) ns m.1 L → Is L (map (λ e. e.0) (members m.1)) k
 
   -- and the texts at each
   abbrev pub MakesPropertyDependencies : Shape K R → Path → List N → KeywordOver K R N → Type 0
@@ -57,20 +57,20 @@ module _ {K R N : Type 0} (o : Kit K R) (answers : N → Answers) where
   module _ (L : Path) (ns : List N) (t : Taken R N) (P : Path) (p : Planned) where
     -- `additionalProperties` over what was taken
     abbrev pub MakesOthers : Bool → KeywordOver K R N → Type 0
-    MakesOthers rest k = IsAdditionalProperties P L rest (option_map (λ m. length m.names) t.beside.properties) (option_map (λ x. length (zip x.patterns.items x.nodes.items)) t.beside.patterns) p.fused_one k
+    MakesOthers rest k = IsAdditionalProperties P L rest (option_map (λ m. length m.names) t.beside.properties) (option_map (λ x. length x.patterns.items) t.beside.patterns) p.fused_one k
 
     -- the validator that is made of a shape and nodes at L in the object at P with this plan, and of what was taken
     abbrev pub MakesForm : Shape K R → KeywordOver K R N → Type 0
     MakesForm (shape.Properties n) k = IsProperties P L (length n) p.fused_pair k
-    MakesForm (shape.PatternProperties v w) k = IsPatternProperties L (length (zip v.items ns)) k
+    MakesForm (shape.PatternProperties v) k = IsPatternProperties L (length (zip v.items ns)) k
     MakesForm shape.AdditionalProperties k = MakesOthers true k
     MakesForm shape.NoOthers k = MakesOthers false k
     MakesForm shape.PropertyNames k = IsPropertyNames L k
     MakesForm shape.NoNames k = IsPropertyNamesFalse L k
     MakesForm (shape.Required v) k = ((is_some p.fused_pair || is_some p.fused_one) ≡ false) × IsRequiredOver v L k
-    MakesForm (shape.DependentRequired n v) k = MakesDependencies (shape.DependentRequired n v) L [] k
-    MakesForm (shape.DependentSchemas n) k = MakesDependencies (shape.DependentSchemas n) L ns k
-    MakesForm (shape.Dependencies n v) k = MakesDependencies (shape.Dependencies n v) L ns k
+    MakesForm (shape.DependentRequired n v) k = MakesDependencies (shape.DependentRequired n v) L [] IsDependentRequired k
+    MakesForm (shape.DependentSchemas n) k = MakesDependencies (shape.DependentSchemas n) L ns IsDependentSchemas k
+    MakesForm (shape.Dependencies n v) k = MakesDependencies (shape.Dependencies n v) L ns IsDependencies k
     MakesForm (shape.PropertyDependencies n v) k = MakesPropertyDependencies (shape.PropertyDependencies n v) L ns k
     MakesForm shape.AllOf k = IsFormOfAllOf L ns k
     MakesForm shape.AnyOf k = IsFormOfAnyOf L ns k

@@ -6,7 +6,7 @@ use Rattle.olk_spec.specs.Schemas.{listed, members, numbered, is_array, is_objec
 use Rattle.olk_spec.specs.Malformed.{items_of_array}
 use Rattle.olk_base.specs.Kit.{Kit}
 use Rattle.olk_base.specs.declared.pattern.CompiledPattern.{CompiledPattern}
-use Rattle.olk_tree.specs.Tables.{IsTableOf}
+use Rattle.olk_tree.specs.Tables.{patterns_of, IsTableOf}
 use Rattle.olk_tree.specs.Answers.{Answers}
 use Rattle.olk_tree.specs.Places.{Stands}
 use Rattle.olk_make.specs.Holding.{StandEach, StandInner}
@@ -19,7 +19,7 @@ use Rattle.olk_make.specs.declared.part.Beside.{Beside}
 use Rattle.olk_make.specs.declared.part.DeclaredNodes.{DeclaredNodes}
 use Rattle.olk_meaning.specs.Conditions.{Known}
 use Rattle.olk_meaning.specs.Plans.{Planned, is_case, tells_members}
-use Rattle.olk_read.specs.Patterns.{ArePatterns, IsPattern}
+use Rattle.olk_read.specs.Patterns.{IsPattern}
 use Rattle.olk_read.specs.Reading.{reads_of, IsShape, Fits}
 use Rattle.olk_read.specs.declared.shape.Shape.{Shape}
 use Rattle.olk_read.specs.declared.shape.Shape.TheVariants as shape
@@ -88,10 +88,9 @@ module _ {K R N : Type 0} (o : Kit K R) (answers : N → Answers) where
     pub record PatternsStand (x : Patterns R N) (L : Path) (d : Data) : Type 0 where
       pub place : x.location ≡ L
       pub kind : is_object d ≡ true
-      pub patterns : ArePatterns o x.patterns.items (members d)
+      pub entries : EntriesStand x.patterns.items (members d) L
       pub names : x.table.names ≡ map (λ e. e.0) c.declared
-      pub table : IsTableOf o.answers x.patterns.items x.table
-      pub nodes : StandEach o answers x.nodes.items (members d) L
+      pub table : IsTableOf o.answers (patterns_of x.patterns.items) x.table
 
   -- names with their nodes stand for `properties` at L
   pub record DeclaredStand (x : DeclaredNodes N) (L : Path) (d : Data) : Type 0 where

@@ -1,5 +1,5 @@
 //! `additionalProperties`: making its validator.
-ghost use Rattle.std.specs.Prelude.{◌∷◌, [], IfOk, Option, None, Some, is_some, length, zip, option_map};
+ghost use Rattle.std.specs.Prelude.{◌∷◌, [], IfOk, Option, None, Some, is_some, length, option_map};
 ghost use Rattle.olk_spec.specs.Names.{Name, Path};
 ghost use Rattle.olk_base.specs.Kit.{kit};
 ghost use Rattle.olk_make.specs.Forms.{IsMapOf, IsRestriction, IsFormOfAdditionalProperties, IsAdditionalProperties};
@@ -7,7 +7,6 @@ ghost use Rattle.olk_meaning.specs.Plans.{planned};
 ghost use Rattle.olk_make.specs.Making.{MakesRestriction};
 
 use crate::part::{Beside, DeclaredNodes, Patterns};
-use crate::pattern_properties::with_nodes;
 use crate::properties::map_of;
 use olk_base::{Leaf, RegexEngine};
 use olk_meaning::Plan;
@@ -25,19 +24,12 @@ use olk_tree::properties_map::PropertiesMap;
 use std::alloc::{AllocError, Global};
 
 /// The map of the declared names, if there are any.
-///
-/// # Errors
-///
-/// Out of memory.
-fn declared<N: Drop>(
-    alloc: Global,
-    properties: Option<DeclaredNodes<N>>,
-) -> Result<Option<PropertiesMap<N>>, AllocError>
-    ensures { IfOk result (IsMapOf properties) }
+fn declared<N: Drop>(properties: Option<DeclaredNodes<N>>) -> Option<PropertiesMap<N>>
+    ensures { IsMapOf properties result }
 {
     match properties {
-        Some(held) => Ok(Some(map_of(alloc, held.names, held.nodes)?)),
-        None => Ok(None),
+        Some(held) => Some(map_of(held.names, held.nodes)),
+        None => None,
     }
 }
 
@@ -120,7 +112,7 @@ fn with_patterns<R: Drop, N: Drop>(
         → IfOk result (IsRestriction P location rest None (Some held) n) }
 {
     let pattern_keyword_path = held.location;
-    let patterns = with_nodes(alloc, held.patterns, held.nodes)?;
+    let patterns = held.patterns;
     match rest {
         Some(node) => {
             let keyword = AdditionalPropertiesWithPatterns {
@@ -158,7 +150,7 @@ fn with_both<R: Drop, N: Drop>(
         → IfOk result (IsRestriction P location rest (Some properties) (Some held) n) }
 {
     let property_pattern_indices = held.table;
-    let patterns = with_nodes(alloc, held.patterns, held.nodes)?;
+    let patterns = held.patterns;
     match rest {
         Some(node) => {
             let keyword = AdditionalPropertiesWithPatternsNotEmpty {
@@ -199,7 +191,7 @@ fn form<R: Drop, N: Drop>(
     ensures { IfOk result (IsFormOfAdditionalProperties place.now location rest beside
         (planned plan.entry).fused_one) }
 {
-    let properties = declared(alloc, beside.properties)?;
+    let properties = declared(beside.properties);
     match (properties, beside.patterns) {
         (None, None) => alone(alloc, location, rest),
         (Some(map), None) => with_properties(alloc, plan, place, location, rest, map),
@@ -227,7 +219,7 @@ pub fn make<K: Leaf, R: RegexEngine, N: BuiltNode<K, R>>(
 ) -> Result<KeywordOver<K, R, N>, AllocError>
     ensures form { IfOk result (IsAdditionalProperties place.now location (is_some rest)
         (option_map (λ m. length m.names) beside.properties)
-        (option_map (λ x. length (zip x.patterns.items x.nodes.items)) beside.patterns)
+        (option_map (λ x. length x.patterns.items) beside.patterns)
         (planned plan.entry).fused_one) }
     ensures makes { IfOk result (λ k. MakesRestriction (kit K.Leaf R.RegexEngine)
         N.answers location rest beside place.now (planned plan.entry) (k ∷ [])) }

@@ -1,7 +1,7 @@
 //! `dependentRequired`, `dependentSchemas` and `dependencies`: making their validators.
-ghost use Rattle.std.specs.Prelude.{◌∷◌, [], IfOk, zip};
+ghost use Rattle.std.specs.Prelude.{◌∷◌, [], IfOk};
 ghost use Rattle.olk_base.specs.Kit.{kit};
-ghost use Rattle.olk_make.specs.Forms.{IsFormOfDependencies, IsListAt, AreListsAt, AreInOrder};
+ghost use Rattle.olk_make.specs.Forms.{IsDependencies, IsDependentRequired, IsDependentSchemas, IsListAt, AreListsAt, AreInOrder};
 ghost use Rattle.olk_make.specs.Made.{MakesDependencies};
 ghost use Rattle.olk_make.specs.Making.{MakesMember};
 ghost use Rattle.olk_read.specs.declared.shape.Shape.TheVariants as shape;
@@ -9,9 +9,9 @@ ghost use Rattle.olk_read.specs.declared.shape.Shape.TheVariants as shape;
 use olk_base::{Leaf, RegexEngine, append};
 use olk_paths::Location;
 use olk_tree::built_node::BuiltNode;
-use olk_tree::dependencies::Dependencies;
-use olk_tree::entries::SortedEntries;
-use olk_tree::map::{SmallMap, SortedNames};
+use olk_tree::dependencies::{Dependencies, DependentRequired, DependentSchemas};
+use olk_tree::map::SmallMap;
+use olk_tree::names::SortedNames;
 use olk_tree::node::{Body, KeywordOver};
 use olk_tree::required::RequiredValidator;
 use std::alloc::{AllocError, Global};
@@ -88,26 +88,6 @@ fn nodes_in_order<K: Leaf, R: RegexEngine, N: BuiltNode<K, R>>(
     Ok(nodes)
 }
 
-/// The validator of these keys, each with the node beside it.
-///
-/// # Errors
-///
-/// Out of memory.
-fn over_entries<K, R, N: Drop>(
-    alloc: Global,
-    location: Location,
-    keys: SortedNames,
-    nodes: Vec<N>,
-) -> Result<KeywordOver<K, R, N>, AllocError>
-    ensures { IfOk result (IsFormOfDependencies location (zip keys nodes.items)) }
-{
-    let entries = SortedEntries::of(alloc, keys, nodes)?;
-    Ok(KeywordOver::Dependencies(Dependencies {
-        dependencies: SmallMap { entries },
-        location,
-    }))
-}
-
 /// The validator of `dependentRequired` with these keys, and the names that each lists.
 ///
 /// # Errors
@@ -120,31 +100,32 @@ pub fn make_required<K: Leaf, R: RegexEngine, N: BuiltNode<K, R>>(
     lists: Vec<Vec<String>>,
 ) -> Result<KeywordOver<K, R, N>, AllocError>
     ensures form { IfOk result (MakesDependencies (kit K.Leaf R.RegexEngine) N.answers
-        (shape.DependentRequired keys lists) location []) }
+        (shape.DependentRequired keys lists) location [] IsDependentRequired) }
     ensures makes { IfOk result (λ k. MakesMember (kit K.Leaf R.RegexEngine) N.answers
         (shape.DependentRequired keys lists) location [] (k ∷ [])) }
 {
     let nodes = nodes_of_lists(alloc, &location, lists)?;
-    over_entries(alloc, location, keys, nodes)
+    Ok(KeywordOver::DependentRequired(DependentRequired {
+        dependencies: SmallMap { names: keys, nodes },
+        location,
+    }))
 }
 
 /// The validator of `dependentSchemas` with these keys, and the node of each.
-///
-/// # Errors
-///
-/// Out of memory.
 pub fn make_schemas<K: Leaf, R: RegexEngine, N: BuiltNode<K, R>>(
-    alloc: Global,
     location: Location,
     keys: SortedNames,
     nodes: Vec<N>,
-) -> Result<KeywordOver<K, R, N>, AllocError>
-    ensures form { IfOk result (MakesDependencies (kit K.Leaf R.RegexEngine) N.answers
-        (shape.DependentSchemas keys) location nodes.items) }
-    ensures makes { IfOk result (λ k. MakesMember (kit K.Leaf R.RegexEngine) N.answers
-        (shape.DependentSchemas keys) location nodes.items (k ∷ [])) }
+) -> KeywordOver<K, R, N>
+    ensures form { MakesDependencies (kit K.Leaf R.RegexEngine) N.answers
+        (shape.DependentSchemas keys) location nodes.items IsDependentSchemas result }
+    ensures makes { MakesMember (kit K.Leaf R.RegexEngine) N.answers
+        (shape.DependentSchemas keys) location nodes.items (result ∷ []) }
 {
-    over_entries(alloc, location, keys, nodes)
+    KeywordOver::DependentSchemas(DependentSchemas {
+        dependencies: SmallMap { names: keys, nodes },
+        location,
+    })
 }
 
 /// The validator of `dependencies` with these keys, the names that each lists, and the nodes of
@@ -161,10 +142,13 @@ pub fn make<K: Leaf, R: RegexEngine, N: BuiltNode<K, R>>(
     schemas: Vec<N>,
 ) -> Result<KeywordOver<K, R, N>, AllocError>
     ensures form { IfOk result (MakesDependencies (kit K.Leaf R.RegexEngine) N.answers
-        (shape.Dependencies keys lists) location schemas.items) }
+        (shape.Dependencies keys lists) location schemas.items IsDependencies) }
     ensures makes { IfOk result (λ k. MakesMember (kit K.Leaf R.RegexEngine) N.answers
         (shape.Dependencies keys lists) location schemas.items (k ∷ [])) }
 {
     let nodes = nodes_in_order(alloc, &location, lists, schemas)?;
-    over_entries(alloc, location, keys, nodes)
+    Ok(KeywordOver::Dependencies(Dependencies {
+        dependencies: SmallMap { names: keys, nodes },
+        location,
+    }))
 }

@@ -47,7 +47,7 @@ pub fn make_keyword<K: Leaf, R: RegexEngine, N: BuiltNode<K, R>>(
         Shape::Properties(names) => Ok(Some(properties::make(
             alloc, plan, place, location, names, nodes,
         )?)),
-        Shape::PatternProperties(patterns, _table) => Ok(Some(pattern_properties::make(
+        Shape::PatternProperties(patterns) => Ok(Some(pattern_properties::make(
             alloc, location, patterns, nodes,
         )?)),
         Shape::AdditionalProperties => match nodes.pop() {
@@ -77,9 +77,9 @@ pub fn make_keyword<K: Leaf, R: RegexEngine, N: BuiltNode<K, R>>(
         Shape::DependentRequired(keys, lists) => Ok(Some(dependencies::make_required(
             alloc, location, keys, lists,
         )?)),
-        Shape::DependentSchemas(keys) => Ok(Some(dependencies::make_schemas(
-            alloc, location, keys, nodes,
-        )?)),
+        Shape::DependentSchemas(keys) => {
+            Ok(Some(dependencies::make_schemas(location, keys, nodes)))
+        }
         Shape::Dependencies(keys, lists) => Ok(Some(dependencies::make(
             alloc, location, keys, lists, nodes,
         )?)),

@@ -4,7 +4,7 @@ ghost use Rattle.std.specs.Prelude.{◌≡◌, None};
 use olk_base::CompiledPattern;
 use olk_paths::Location;
 use olk_read::Shape;
-use olk_tree::map::SortedNames;
+use olk_tree::names::SortedNames;
 use olk_tree::pattern_table::PatternTable;
 
 /// A member of a schema object: its place, its shape, and the nodes of the places that it reads.
@@ -54,14 +54,13 @@ pub struct DeclaredNodes<N> {
     pub nodes: Vec<N>,
 }
 
-/// What `patternProperties` holds: its place, its patterns, what they say of the names that are
-/// declared beside it, and the nodes of its entries.
+/// What `patternProperties` holds: its place, its patterns with the nodes of their entries, and
+/// what the patterns say of the names that are declared beside it.
 #[derive(Drop)]
 pub struct Patterns<R, N> {
     pub location: Location,
-    pub patterns: Vec<CompiledPattern<R>>,
+    pub patterns: Vec<(CompiledPattern<R>, N)>,
     pub table: PatternTable,
-    pub nodes: Vec<N>,
 }
 
 /// What stands beside `additionalProperties`: the declared names with their nodes, if `properties`

@@ -1,7 +1,6 @@
 //! `patternProperties`: making its validator.
 ghost use Rattle.std.specs.Prelude.{◌≡◌, ◌∷◌, [], IfOk, zip, length};
 ghost use Rattle.olk_base.specs.Kit.{kit};
-ghost use Rattle.olk_tree.specs.Tables.{Table};
 ghost use Rattle.olk_make.specs.Forms.{IsFormOfPatternProperties, IsPatternProperties};
 ghost use Rattle.olk_make.specs.Making.{MakesMember};
 ghost use Rattle.olk_read.specs.declared.shape.Shape.TheVariants as shape;
@@ -67,8 +66,8 @@ pub fn make<K: Leaf, R: RegexEngine, N: BuiltNode<K, R>>(
 ) -> Result<KeywordOver<K, R, N>, AllocError>
     ensures form { IfOk result (IsPatternProperties location
         (length (zip patterns.items nodes.items))) }
-    ensures makes { IfOk result (λ k. (t : Table) → MakesMember (kit K.Leaf R.RegexEngine)
-        N.answers (shape.PatternProperties patterns t) location nodes.items (k ∷ [])) }
+    ensures makes { IfOk result (λ k. MakesMember (kit K.Leaf R.RegexEngine)
+        N.answers (shape.PatternProperties patterns) location nodes.items (k ∷ [])) }
 {
     let entries = with_nodes(alloc, patterns, nodes)?;
     form(alloc, location, entries)

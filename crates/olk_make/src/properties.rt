@@ -1,9 +1,9 @@
 //! `properties`: making its validator.
-ghost use Rattle.std.specs.Prelude.{◌≡◌, ◌∷◌, [], IfOk, length, zip};
+ghost use Rattle.std.specs.Prelude.{◌∷◌, [], IfOk, None, length};
+ghost use Rattle.olk_spec.specs.Names.{Path};
 ghost use Rattle.olk_base.specs.Kit.{kit};
-ghost use Rattle.olk_tree.specs.Maps.{mapped};
 ghost use Rattle.olk_tree.specs.Ascending.{Ascend};
-ghost use Rattle.olk_make.specs.Forms.{IsMapFor, IsFormOfProperties, IsProperties};
+ghost use Rattle.olk_make.specs.Forms.{IsMapOver, IsMapFor, IsFormOfProperties, IsProperties};
 ghost use Rattle.olk_meaning.specs.Plans.{planned};
 ghost use Rattle.olk_make.specs.Making.{MakesClaims};
 ghost use Rattle.olk_read.specs.declared.shape.Shape.TheVariants as shape;
@@ -14,33 +14,48 @@ use olk_paths::Location;
 use olk_spec::HASHMAP_THRESHOLD;
 use olk_tree::big_map::BigMap;
 use olk_tree::built_node::BuiltNode;
-use olk_tree::entries::SortedEntries;
-use olk_tree::map::{SmallMap, SortedNames};
+use olk_tree::map::SmallMap;
+use olk_tree::names::SortedNames;
 use olk_tree::node::KeywordOver;
-use olk_tree::properties::{Properties, SmallPropertiesWithRequired2};
+use olk_tree::properties::{BigProperties, SmallProperties, SmallPropertiesWithRequired2};
 use olk_tree::properties_map::PropertiesMap;
 use std::alloc::{AllocError, Global};
 
 /// The map of these names, each with the node beside it.
-///
-/// # Errors
-///
-/// Out of memory.
-pub(crate) fn map_of<N: Drop>(
-    alloc: Global,
-    names: SortedNames,
-    nodes: Vec<N>,
-) -> Result<PropertiesMap<N>, AllocError>
-    ensures entries { IfOk result (λ m. mapped m ≡ zip names nodes.items) }
-    ensures size { IfOk result (IsMapFor (length names)) }
+pub(crate) fn map_of<N: Drop>(names: SortedNames, nodes: Vec<N>) -> PropertiesMap<N>
+    ensures entries { IsMapOver names nodes.items result }
+    ensures size { IsMapFor (length names) result }
     ensures ordered { Ascend names }
 {
-    let is_small = names.len() < HASHMAP_THRESHOLD;
-    let entries = SortedEntries::of(alloc, names, nodes)?;
-    if is_small {
-        return Ok(PropertiesMap::Small(SmallMap { entries }));
+    if names.len() < HASHMAP_THRESHOLD {
+        PropertiesMap::Small(SmallMap { names, nodes })
+    } else {
+        PropertiesMap::Big(BigMap { names, nodes })
     }
-    Ok(PropertiesMap::Big(BigMap { entries }))
+}
+
+/// The validator of these names alone.
+fn alone<K, R, N: Drop>(
+    location: Location,
+    names: SortedNames,
+    nodes: Vec<N>,
+) -> KeywordOver<K, R, N>
+    ensures { (P : Path) → IsFormOfProperties P location names nodes.items None result }
+{
+    match map_of(names, nodes) {
+        PropertiesMap::Small(properties) => {
+            KeywordOver::SmallProperties(SmallProperties {
+                properties,
+                location,
+            })
+        }
+        PropertiesMap::Big(properties) => {
+            KeywordOver::BigProperties(BigProperties {
+                properties,
+                location,
+            })
+        }
+    }
 }
 
 /// The form that the plan names, in the object at the place.
@@ -56,18 +71,13 @@ fn form<K, R, N: Drop>(
         (planned plan.entry).fused_pair) }
 {
     let Some((first, second)) = plan.fused_pair() else {
-        let properties = map_of(alloc, names, nodes)?;
-        return Ok(KeywordOver::Properties(Properties {
-            properties,
-            location,
-        }));
+        return Ok(alone(location, names, nodes));
     };
     let first = String::from_str(alloc, first)?;
     let second = String::from_str(alloc, second)?;
     let required_location = place.join(alloc, "required")?;
-    let entries = SortedEntries::of(alloc, names, nodes)?;
     let keyword = SmallPropertiesWithRequired2 {
-        properties: SmallMap { entries },
+        properties: SmallMap { names, nodes },
         first,
         second,
         location,

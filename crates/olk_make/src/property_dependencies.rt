@@ -10,8 +10,8 @@ ghost use Rattle.olk_read.specs.declared.shape.Shape.TheVariants as shape;
 use olk_base::{Leaf, RegexEngine, append};
 use olk_paths::Location;
 use olk_tree::built_node::BuiltNode;
-use olk_tree::entries::SortedEntries;
-use olk_tree::map::{SmallMap, SortedNames};
+use olk_tree::map::SmallMap;
+use olk_tree::names::SortedNames;
 use olk_tree::node::KeywordOver;
 use olk_tree::property_dependencies::PropertyDependencies;
 use std::alloc::{AllocError, Global};
@@ -60,8 +60,7 @@ fn cut<N: Drop>(
     let mut maps = Vec::new(alloc);
     for names in texts {
         let nodes = take_next(alloc, &mut nodes, names.len())?;
-        let entries = SortedEntries::of(alloc, names, nodes)?;
-        append(&mut maps, SmallMap { entries })?;
+        append(&mut maps, SmallMap { names, nodes })?;
     }
     Ok(maps)
 }
@@ -84,9 +83,11 @@ pub fn make<K: Leaf, R: RegexEngine, N: BuiltNode<K, R>>(
         (shape.PropertyDependencies keys texts) location nodes.items (k ∷ [])) }
 {
     let maps = cut(alloc, texts, nodes)?;
-    let entries = SortedEntries::of(alloc, keys, maps)?;
     Ok(KeywordOver::PropertyDependencies(PropertyDependencies {
-        dependencies: SmallMap { entries },
+        dependencies: SmallMap {
+            names: keys,
+            nodes: maps,
+        },
         location,
     }))
 }

@@ -12,11 +12,11 @@ use olk_tree::all_of::{AllOf, SingleValueAllOf};
 use olk_tree::any_of::{AnyOf, SingleAnyOf};
 use olk_tree::big_map::BigMap;
 use olk_tree::built_node::BuiltNode;
-use olk_tree::map::{SmallMap, SortedNames};
+use olk_tree::map::SmallMap;
+use olk_tree::names::SortedNames;
 use olk_tree::node::{Body, KeywordOver};
 use olk_tree::not::Not;
-use olk_tree::properties::{Properties, SmallPropertiesWithRequired2};
-use olk_tree::properties_map::PropertiesMap;
+use olk_tree::properties::{BigProperties, SmallProperties, SmallPropertiesWithRequired2};
 use olk_tree::required::RequiredValidator;
 use serde_json::{Map, Value};
 use std::alloc::{AllocError, Global};
@@ -169,28 +169,28 @@ fn leaf_nodes<N: BuiltNode<NoText, EqualTo>>(
     Ok(nodes)
 }
 
-/// A map of few names, or one of many with the same.
-fn mapped<N: Drop>(map: SmallMap<N>, many: bool) -> PropertiesMap<N> {
-    if many {
-        PropertiesMap::Big(BigMap {
-            entries: map.entries,
-        })
-    } else {
-        PropertiesMap::Small(map)
-    }
-}
-
 /// So many names, each with the leaf.
 fn leaf_names<N: BuiltNode<NoText, EqualTo>>(
     alloc: Global,
     names: &str,
     count: usize,
 ) -> Result<SmallMap<N>, AllocError> {
-    beside(
-        alloc,
-        sorted_names(alloc, names, count),
-        leaf_nodes(alloc, count),
-    )
+    beside(sorted_names(alloc, names, count), leaf_nodes(alloc, count))
+}
+
+/// `properties` with a map of few names, or with one of many that has the same.
+fn properties_of<N: Drop>(
+    properties: SmallMap<N>,
+    location: Location,
+    many: bool,
+) -> KeywordOver<NoText, EqualTo, N> {
+    if many {
+        let SmallMap { names, nodes } = properties;
+        let properties = BigMap { names, nodes };
+        KeywordOver::BigProperties(BigProperties { properties, location })
+    } else {
+        KeywordOver::SmallProperties(SmallProperties { properties, location })
+    }
 }
 
 /// `properties` of these names.
@@ -199,15 +199,9 @@ fn declared<N: BuiltNode<NoText, EqualTo>>(
     count: usize,
     many: bool,
 ) -> Result<N, AllocError> {
-    let properties = mapped(leaf_names(alloc, NUMBERED, count)?, many);
+    let properties = leaf_names(alloc, NUMBERED, count)?;
     let location = Location::new(alloc);
-    keyword(
-        alloc,
-        KeywordOver::Properties(Properties {
-            properties,
-            location,
-        }),
-    )
+    keyword(alloc, properties_of(properties, location, many))
 }
 
 fn two_names(alloc: Global) -> Result<(String, String), AllocError> {

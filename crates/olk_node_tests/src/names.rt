@@ -1,7 +1,8 @@
 //! Looking up names, in maps of few and of many.
 use crate::objects::{add_names, beside, sorted_names};
+use olk_tree::declared::DeclaredMembers;
 use olk_tree::properties_map::PropertiesMap;
-use olk_tree::{BigMap, PropertiesValidatorsMap, SmallMap};
+use olk_tree::{BigMap, Entries, PropertiesValidatorsMap, SmallMap};
 use serde_json::{Map, Value};
 use std::alloc::{AllocError, Global};
 use std::test::Fail;
@@ -23,41 +24,58 @@ fn positions(alloc: Global, count: usize) -> Result<Vec<usize>, AllocError> {
 
 /// The first so many names, each with its position.
 fn first_names(alloc: Global, count: usize) -> Result<SmallMap<usize>, AllocError> {
-    beside(
-        alloc,
-        sorted_names(alloc, DECLARED, count),
-        positions(alloc, count),
-    )
+    beside(sorted_names(alloc, DECLARED, count), positions(alloc, count))
 }
 
 /// The first names in a map of many, each with its place.
 fn first_of_many(alloc: Global, count: usize) -> Result<BigMap<usize>, AllocError> {
-    let SmallMap { entries } = first_names(alloc, count)?;
-    Ok(BigMap { entries })
+    let SmallMap { names, nodes } = first_names(alloc, count)?;
+    Ok(BigMap { names, nodes })
+}
+
+/// A map that lends its entries.
+trait LendsEntries: PropertiesValidatorsMap<usize> + Drop {
+    fn lent(&self) -> Entries<'_, usize>;
+}
+
+impl LendsEntries for SmallMap<usize> {
+    fn lent(&self) -> Entries<'_, usize> {
+        self.entries()
+    }
+}
+
+impl LendsEntries for BigMap<usize> {
+    fn lent(&self) -> Entries<'_, usize> {
+        self.entries()
+    }
+}
+
+impl LendsEntries for PropertiesMap<usize> {
+    fn lent(&self) -> Entries<'_, usize> {
+        self.entries()
+    }
 }
 
 // ---- looking up
 
 /// Whether each look-up finds the name at this position, or none does.
-fn is_at<M: PropertiesValidatorsMap<usize>>(map: &M, name: &str, position: Option<usize>) -> bool {
+fn is_at<M: LendsEntries>(map: &M, name: &str, position: Option<usize>) -> bool {
     let is_keyed_so = match (map.get_key_validator(name), position) {
         (Some((key, found)), Some(position)) => key == name && *found == position,
         (None, None) => true,
         _ => false,
     };
-    is_keyed_so
-        && map.entries().find(name) == position
-        && map.get_validator(name).copied() == position
-}
-
-fn has_length<M: PropertiesValidatorsMap<usize>>(map: &M, length: usize) -> bool {
-    let entries = map.entries();
-    entries.len() == length && entries.as_slice().len() == length
+    let is_placed_so = match (map.lent().placed_from(0, name).1, position) {
+        (Some((place, found)), Some(position)) => place == position && *found == position,
+        (None, None) => true,
+        _ => false,
+    };
+    is_keyed_so && is_placed_so && map.get_validator(name).copied() == position
 }
 
 /// The first of these names that is not found as it is to be: the first so many stand in the map,
 /// and no other.
-fn wrong_name<M: PropertiesValidatorsMap<usize>>(
+fn wrong_name<M: LendsEntries>(
     map: &M,
     names: &'static str,
     count: usize,
@@ -72,8 +90,8 @@ fn wrong_name<M: PropertiesValidatorsMap<usize>>(
 }
 
 /// What is not found as it is to be in a map of the first so many names.
-fn wrong_look_up<M: PropertiesValidatorsMap<usize>>(map: &M, count: usize) -> Option<&'static str> {
-    if has_length(map, count) {
+fn wrong_look_up<M: LendsEntries>(map: &M, count: usize) -> Option<&'static str> {
+    if map.lent().len() == count {
         wrong_name(map, DECLARED, count).or(wrong_name(map, OTHERS, 0))
     } else {
         Some("another length")
@@ -88,7 +106,7 @@ fn expect_none(wrong: Option<&str>, count: usize) -> Result<(), Fail> {
     }
 }
 
-fn expect_found<M: PropertiesValidatorsMap<usize> + Drop>(
+fn expect_found<M: LendsEntries>(
     map: Result<M, AllocError>,
     count: usize,
 ) -> Result<(), Fail> {
@@ -133,13 +151,13 @@ fn is_met(member: Option<(&str, &usize, &Value)>, expected: &str) -> bool {
 
 /// What is not walked as it is to be: the walk over the members gives the first so many of these
 /// names, and ends.
-fn wrong_walk<M: PropertiesValidatorsMap<usize>>(
+fn wrong_walk<M: LendsEntries>(
     map: &M,
     members: &Map<String, Value>,
     names: &'static str,
     count: usize,
 ) -> Option<&'static str> {
-    let mut walk = map.declared_members(members);
+    let mut walk = DeclaredMembers::of(map.lent(), members);
     for expected in names.split(" ").take(count) {
         if !is_met(walk.next(), expected) {
             return Some(expected);
@@ -162,7 +180,7 @@ const ALL: &str =
     " 00 01 02 03 04 05 06 07 08 09 10 11 12 13 14 15 16 17 18 19 20 21 22 23 24 25 26 27 28 29 30 31 32 33 34 35 36 37 38 39 40 41 42 43 44 45 46 47 48 49 50 51 52 53 54 55 56 57 58 59 60 61 62 63 64 65 66 67 68 69 70 71 72 73 74 75 76 77 78 79 80";
 
 /// What is not walked as it is to be over an object with these names, each with itself.
-fn wrong_walk_over<M: PropertiesValidatorsMap<usize>>(
+fn wrong_walk_over<M: LendsEntries>(
     alloc: Global,
     map: &M,
     names: &str,
@@ -179,7 +197,7 @@ fn wrong_walk_over<M: PropertiesValidatorsMap<usize>>(
 
 /// Over the few members, so many of those that are declared are given, and over all, so many
 /// declared ones.
-fn wrong_walks<M: PropertiesValidatorsMap<usize>>(
+fn wrong_walks<M: LendsEntries>(
     alloc: Global,
     map: &M,
     met: usize,
@@ -190,7 +208,7 @@ fn wrong_walks<M: PropertiesValidatorsMap<usize>>(
     Ok(of_few.or(of_all))
 }
 
-fn expect_walks<M: PropertiesValidatorsMap<usize> + Drop>(
+fn expect_walks<M: LendsEntries>(
     alloc: Global,
     map: Result<M, AllocError>,
     declared: usize,

@@ -1,5 +1,5 @@
 //! Objects and sorted names that are made of names in one text.
-use olk_tree::{SmallMap, SortedEntries, SortedNames};
+use olk_tree::{SmallMap, SortedNames};
 use serde_json::{Map, Value};
 use std::alloc::{AllocError, Global};
 
@@ -49,13 +49,11 @@ pub(crate) fn unless_refused<T: Drop>(
 
 /// The names, and beside each its node.
 pub(crate) fn beside<N: Drop>(
-    alloc: Global,
     names: Result<SortedNames, AllocError>,
     nodes: Result<Vec<N>, AllocError>,
 ) -> Result<SmallMap<N>, AllocError> {
     let (names, nodes) = both(names, nodes)?;
-    let entries = SortedEntries::of(alloc, names, nodes)?;
-    Ok(SmallMap { entries })
+    Ok(SmallMap { names, nodes })
 }
 
 /// The first so many of these names.

@@ -9,6 +9,9 @@ use std::test::Fail;
 
 type Pattern = CompiledPattern<BenchRegex>;
 
+/// A pattern with no node.
+type Alone = (Pattern, ());
+
 fn plain_error(error: MakeError) -> Fail {
     match error {
         MakeError::Refused => Fail::from("refused"),
@@ -27,11 +30,11 @@ fn pattern(alloc: Global, index: usize, meter: &mut Meter) -> Result<Pattern, Fa
     compile_pattern(alloc, &BenchRegexes, text, meter).map_err(plain_error)
 }
 
-fn patterns(alloc: Global) -> Result<Vec<Pattern>, Fail> {
+fn patterns(alloc: Global) -> Result<Vec<Alone>, Fail> {
     let mut meter = Meter::new();
     let mut patterns = Vec::with_capacity(alloc, 65)?;
     for index in 0..65 {
-        patterns.push(pattern(alloc, index, &mut meter)?)?;
+        patterns.push((pattern(alloc, index, &mut meter)?, ()))?;
     }
     Ok(patterns)
 }

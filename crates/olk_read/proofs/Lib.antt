@@ -7,4 +7,4 @@ pub mod Entries
 mod Texts
 mod NameLists
 mod PatternsSoFar
-mod PatternTables
+pub mod ReadPatterns

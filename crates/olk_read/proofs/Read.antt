@@ -117,14 +117,14 @@ pub refuses_own : (W : World) (k : Name) (d : Data) (L : Path) {v w : KeywordFor
     → Refuses (own_faults W k d L) c a a e
 refuses_own W k d L {w = w} {e = e} p q t = record { tells = tells_same (sym (own_for W d L k w (subst (IsFor k) p q))) e t; spends = within_nothing }
 
-module _ (W : World) (k : Name) (d : Data) (q : keyword_named W k ≡ leaf) (a b : Counts) (count : b ≡ count_leaf a) (n : Known) where
-  leaf_spent : Spends a b (own_cost_of W n d (keyword_named W k))
-  leaf_spent = subst (λ w. Spends a b (own_cost_of W n d w)) (sym q) (spends_leaf a b count)
+module _ (W : World) (k : Name) (d : Data) (q : keyword_named W k ≡ leaf) (a b : Counts) (count : b ≡ count_leaf a) where
+  leaf_spent : Spends a b (own_cost_of W d (keyword_named W k))
+  leaf_spent = subst (λ w. Spends a b (own_cost_of W d w)) (sym q) (spends_leaf a b count)
 
-  pub refuses_leaf : (L : Path) (e : BuildError) → W.fits k d ≡ false → TellsOneOf (fault (LeafRefused k) d [] L ∷ []) e → Refuses (own_faults W k d L) (own_cost_of W n d (keyword_named W k)) a b e
+  pub refuses_leaf : (L : Path) (e : BuildError) → W.fits k d ≡ false → TellsOneOf (fault (LeafRefused k) d [] L ∷ []) e → Refuses (own_faults W k d L) (own_cost_of W d (keyword_named W k)) a b e
   refuses_leaf L e fits t = record { tells = tells_same (ap (λ f. unless_kind f (LeafRefused k) d L) (sym fits) ∙ sym (own_leaf W d L k q)) e t; spends = within_exactly leaf_spent }
 
-  pub refuses_leaf_memory : (fs : List Fault) {m : AllocError} (e : BuildError) → e ≡ Memory m → Refuses fs (own_cost_of W n d (keyword_named W k)) a b e
+  pub refuses_leaf_memory : (fs : List Fault) {m : AllocError} (e : BuildError) → e ≡ Memory m → Refuses fs (own_cost_of W d (keyword_named W k)) a b e
   refuses_leaf_memory fs e p = refuses_memory (within_exactly leaf_spent) e p
 
 pub refuses_name : (W : World) (k : Name) (d : Data) (L : Path) {c : Cost} {a : Counts} {e : BuildError} → IsOther k → is_among k unsupported_names ≡ true
@@ -136,13 +136,13 @@ refuses_name W k d L {e = e} other among t = record { tells = tells_same (sym (o
 module _ {K R : Type 0} (o : Kit K R) where
   -- a keyword without own costs, by its name
   pub is_read : (w : KeywordFor) {x : Shape K R} {c : Known} {k n : Name} {d : Data} {L : Path} {a : Counts} → k ≡ n → IsFor n w → IsShape o n d x → Fits o c x
-      → wrong_for o.world d L n w ≡ [] → own_cost_of o.world c d (keyword_named o.world n) ≡ no_cost → IsRead o x c k d L a a
+      → wrong_for o.world d L n w ≡ [] → own_cost_of o.world d (keyword_named o.world n) ≡ no_cost → IsRead o x c k d L a a
   is_read w {n = n} {d} {L} {a} p q s f right z =
       rw p record { shape = s; fits = f; clean = own_for o.world d L n w q ∙ right; spends = spends_same a a _ _ (sym z) (spends_nothing a) }
 
   -- one of the three that are read together
   pub conditional_is_read : (w : KeywordFor) (x : Shape K R) (c : Known) {k n : Name} {d : Data} {L : Path} {a : Counts} → k ≡ n → IsFor n w → IsShape o n d x
-      → (c.condition ≡ true → Fits o c x) → is_conditional_name n ≡ true → wrong_for o.world d L n w ≡ [] → own_cost_of o.world c d (keyword_named o.world n) ≡ no_cost
+      → (c.condition ≡ true → Fits o c x) → is_conditional_name n ≡ true → wrong_for o.world d L n w ≡ [] → own_cost_of o.world d (keyword_named o.world n) ≡ no_cost
       → IsRead o (cond c.condition x shape.Unpaired) c k d L a a
   conditional_is_read w x c {k} {d = d} {L} {a} p i s f e right z = by c.condition refl
     where

@@ -8,15 +8,14 @@ use Rattle.olk_spec.specs.Vocabulary.{Keyword, pattern_properties, leaf, unread,
 use Rattle.olk_spec.specs.Schemas.{read, members, texts, is_object, is_array, is_truth}
 use Rattle.olk_spec.specs.Malformed.{own_refusals, malformations_step}
 use Rattle.olk_spec.specs.Faults.{Fault}
-use Rattle.olk_spec.specs.Costs.{Cost, no_cost, ◌⊕◌}
+use Rattle.olk_spec.specs.Costs.{Cost, no_cost}
 use Rattle.olk_base.specs.Count.{Counts}
 use Rattle.olk_reports.specs.declared.error.BuildError.{BuildError}
 use Rattle.olk_base.specs.Kit.{Kit}
 use Rattle.olk_meaning.specs.Conditions.{is_conditional_name, Known}
 use Rattle.olk_meaning.specs.Dependencies.{are_lists}
 use Rattle.olk_read.specs.Lists.{list_of, names_in, names_in_list, names_of}
-use Rattle.olk_meaning.specs.PatternProperties.{matchers_made, names_asked}
-use Rattle.olk_tree.specs.Tables.{IsTableOf}
+use Rattle.olk_meaning.specs.PatternProperties.{matchers_made}
 use Rattle.olk_read.specs.Refusing.{Spends, Refuses}
 use Rattle.olk_read.specs.Patterns.{ArePatterns}
 use Rattle.olk_read.specs.declared.reading.KeywordFor.{KeywordFor}
@@ -29,7 +28,7 @@ use Rattle.olk_read.specs.declared.shape.ReadPlaces.TheVariants.{Nothing, Itself
 -- which places are read
 abbrev pub reads_of : {K R : Type 0} → Shape K R → ReadPlaces
 reads_of (shape.Properties n) = Entries
-reads_of (shape.PatternProperties v t) = Entries
+reads_of (shape.PatternProperties v) = Entries
 reads_of shape.AdditionalProperties = Itself
 reads_of shape.PropertyNames = Itself
 reads_of (shape.DependentSchemas n) = Entries
@@ -73,16 +72,15 @@ IsFor n for.Other = IsOther n × (is_among n unsupported_names ≡ false)
 abbrev pub own_faults : World → Name → Data → Path → List Fault
 own_faults W k d L = own_refusals W k (read (malformations_step W) d) L (keyword_named W k)
 
--- what is counted for a keyword itself while its value is read, where c is known of its neighbours
-abbrev pub own_cost_of : World → Known → Data → Keyword → Cost
-own_cost_of W c d leaf = record no_cost { leaf_places = 1 }
-own_cost_of W c d pattern_properties = matchers_made W d ⊕ names_asked W c.declared d
-own_cost_of W c d w = no_cost
+-- what is counted for a keyword itself while its value is read
+abbrev pub own_cost_of : World → Data → Keyword → Cost
+own_cost_of W d leaf = record no_cost { leaf_places = 1 }
+own_cost_of W d pattern_properties = matchers_made W d
+own_cost_of W d w = no_cost
 
 module _ {K R : Type 0} (o : Kit K R) where
   -- it is read as it is to be where c is known of its neighbours
   abbrev pub Fits : Known → Shape K R → Type 0
-  Fits c (shape.PatternProperties v t) = (t.names ≡ map (λ e. e.0) c.declared) × IsTableOf o.answers v.items t
   Fits c shape.If = c.condition ≡ true
   Fits c shape.Then = c.condition ≡ true
   Fits c shape.Else = c.condition ≡ true
@@ -92,7 +90,7 @@ module _ {K R : Type 0} (o : Kit K R) where
   -- the shape of the keyword of the name k and the value d
   abbrev pub IsShape : Name → Data → Shape K R → Type 0
   IsShape k d (shape.Properties n) = (k ≡ codes "properties") × (is_object d ≡ true) × (n ≡ map (λ e. e.0) (members d))
-  IsShape k d (shape.PatternProperties v t) = (k ≡ codes "patternProperties") × (is_object d ≡ true) × ArePatterns o v.items (members d)
+  IsShape k d (shape.PatternProperties v) = (k ≡ codes "patternProperties") × (is_object d ≡ true) × ArePatterns o v.items (members d)
   IsShape k d shape.AdditionalProperties = (k ≡ codes "additionalProperties") × (is_object d ≡ true)
   IsShape k d shape.NoOthers = (k ≡ codes "additionalProperties") × (is_truth false d ≡ true)
   IsShape k d shape.AnyOthers = (k ≡ codes "additionalProperties") × (is_truth true d ≡ true)
@@ -120,8 +118,8 @@ module _ {K R : Type 0} (o : Kit K R) where
     pub shape : IsShape k d x
     pub fits : Fits c x
     pub clean : own_faults o.world k d L ≡ []
-    pub spends : Spends old new (own_cost_of o.world c d (keyword_named o.world k))
+    pub spends : Spends old new (own_cost_of o.world d (keyword_named o.world k))
 
   -- or what is wrong with the keyword itself
-  abbrev pub RefusesKeyword : Known → Name → Data → Path → Counts → Counts → BuildError → Type 0
-  RefusesKeyword c k d L old new e = Refuses (own_faults o.world k d L) (own_cost_of o.world c d (keyword_named o.world k)) old new e
+  abbrev pub RefusesKeyword : Name → Data → Path → Counts → Counts → BuildError → Type 0
+  RefusesKeyword k d L old new e = Refuses (own_faults o.world k d L) (own_cost_of o.world d (keyword_named o.world k)) old new e

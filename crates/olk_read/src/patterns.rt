@@ -1,6 +1,5 @@
-//! Reading the patterns of `patternProperties`, and what they say of the names that are declared
-//! beside them.
-ghost use Rattle.std.specs.Prelude.{◌≡◌, ◌*◌, ◌∷◌, [], IfOk, IfErr, OnOk, OnErr, map, length, string_bytes};
+//! Reading the patterns of `patternProperties`.
+ghost use Rattle.std.specs.Prelude.{◌≡◌, ◌∷◌, [], IfOk, IfErr, OnOk, string_bytes};
 ghost use Rattle.serde_json.specs.Data.{string};
 ghost use Rattle.serde_json.specs.View.{members_view};
 ghost use Rattle.olk_spec.specs.Faults.{fault, Regex};
@@ -8,23 +7,18 @@ ghost use Rattle.olk_spec.specs.Schemas.{listed};
 ghost use Rattle.olk_paths.specs.Paths.{one_below};
 ghost use Rattle.olk_base.specs.Kit.{kit, world};
 ghost use Rattle.olk_meaning.specs.PatternProperties.{pattern_faults, matcher_made};
-ghost use Rattle.olk_meaning.specs.Conditions.{known};
-ghost use Rattle.olk_tree.specs.Tables.{IsTableOf, how_many_cost, count_asks, AsksAtMost};
 ghost use Rattle.olk_read.specs.Refusing.{TellsOneOf, Spends, Refuses};
 ghost use Rattle.olk_read.specs.Patterns.{IsPattern, PatternsAreRead, RefusesPatterns};
 
 use crate::makers::Makers;
 use crate::stop::Stop;
 use olk_base::{
-    CompiledPattern, MakeError, MakeLeaf, MakeRegex, Meter, Node, RegexEngine, append,
-    compile_pattern,
+    CompiledPattern, MakeError, MakeLeaf, MakeRegex, Meter, Node, append, compile_pattern,
 };
-use olk_meaning::Neighbours;
 use olk_paths::Location;
 use olk_reports::{ValidationError, ValidationErrorKind};
-use olk_tree::pattern_table::{PatternTable, precompute_property_pattern_indices};
 use serde_json::{Map, Value};
-use std::alloc::{AllocError, Global};
+use std::alloc::Global;
 
 /// The refusal of a pattern, as a bare name below the keyword; out of memory where there is none
 /// for the place.
@@ -102,31 +96,4 @@ pub fn patterns_of_entries<'a, L: MakeLeaf, M: MakeRegex>(
         append(&mut patterns, compiled)?;
     }
     Ok(patterns)
-}
-
-/// What the patterns say of the names that are declared beside them where other members are
-/// restricted; each is asked once of each name. A table of no names elsewhere.
-///
-/// # Errors
-///
-/// Out of memory. No more is counted then.
-pub(crate) fn table_of_declared<R: RegexEngine>(
-    alloc: Global,
-    meter: &mut Meter,
-    neighbours: Neighbours<'_>,
-    patterns: &[CompiledPattern<R>],
-) -> Result<PatternTable, AllocError>
-    ensures names { IfOk result (λ t. t.names
-        ≡ map (λ e. e.0) (known neighbours.entry).declared) }
-    ensures answers { IfOk result (λ t. IsTableOf R.answers patterns.now t) }
-    ensures asked { OnOk result (meter.new ≡ count_asks
-        (length (known neighbours.entry).declared * how_many_cost R.costs patterns.now) meter.old) }
-    ensures asked_at_most { OnErr result (AsksAtMost
-        (length (known neighbours.entry).declared * how_many_cost R.costs patterns.now)
-        meter.old meter.new) }
-{
-    match neighbours.declared() {
-        Some(properties) => precompute_property_pattern_indices(alloc, properties, patterns, meter),
-        None => Ok(PatternTable::none(alloc)),
-    }
 }

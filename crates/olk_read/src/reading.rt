@@ -16,7 +16,7 @@ ghost use Rattle.olk_read.specs.Reading.{IsFor, IsOther, IsRead, RefusesKeyword}
 ghost use Rattle.olk_read.specs.declared.shape.Shape.TheVariants.{Unpaired, AdditionalProperties, NoOthers, AnyOthers, PropertyNames, NoNames, AnyNames};
 
 use crate::makers::Makers;
-use crate::patterns::{patterns_of_entries, table_of_declared};
+use crate::patterns::patterns_of_entries;
 use crate::refusal::{refuse, refuse_type};
 use crate::shape::Shape;
 use crate::stop::Stop;
@@ -24,7 +24,7 @@ use olk_base::{JsonType, MakeError, MakeLeaf, MakeRegex, Meter, append};
 use olk_meaning::Neighbours;
 use olk_paths::Location;
 use olk_reports::ValidationErrorKind;
-use olk_tree::map::SortedNames;
+use olk_tree::names::SortedNames;
 use serde_json::{Map, Value};
 use std::alloc::{AllocError, Global};
 use std::collections::BTreeSet;
@@ -468,8 +468,7 @@ fn shape_beside<K: Drop, R: Drop>(neighbours: Neighbours<'_>, shape: Shape<K, R>
     }
 }
 
-/// The shape of `patternProperties`: its patterns, in the order of its entries, and the table of
-/// what they say of the names that are declared beside it, where other members are restricted.
+/// The shape of `patternProperties`: its patterns, in the order of its entries.
 ///
 /// # Errors
 ///
@@ -479,21 +478,18 @@ fn shape_of_patterns<'a, L: MakeLeaf, M: MakeRegex>(
     alloc: Global,
     makers: &Makers<'_, L, M>,
     meter: &mut Meter,
-    neighbours: Neighbours<'_>,
     location: &Location,
     value: &'a Value,
 ) -> Result<Shape<L::Leaf, M::Engine>, Stop<'a>>
-    ensures built { IfOk result (λ x. IsRead (kit L.Leaf.Leaf M.Engine.RegexEngine) x
-        (known neighbours.entry) (codes "patternProperties") (view value.now) location.now
-        meter.old meter.new) }
+    ensures built { IfOk result (λ x. (c : Known)
+        → IsRead (kit L.Leaf.Leaf M.Engine.RegexEngine) x c (codes "patternProperties")
+        (view value.now) location.now meter.old meter.new) }
     ensures refused { IfErr result (RefusesKeyword (kit L.Leaf.Leaf M.Engine.RegexEngine)
-        (known neighbours.entry) (codes "patternProperties") (view value.now) location.now
-        meter.old meter.new) }
+        (codes "patternProperties") (view value.now) location.now meter.old meter.new) }
 {
     let entries = members_of_object(alloc, location, value)?;
     let patterns = patterns_of_entries(alloc, makers, meter, location, entries)?;
-    let table = table_of_declared(alloc, meter, neighbours, patterns.as_slice())?;
-    Ok(Shape::PatternProperties(patterns, table))
+    Ok(Shape::PatternProperties(patterns))
 }
 
 /// The shape of `additionalProperties`: an object is a schema for every other member, `false`
@@ -541,8 +537,7 @@ fn shape_of_names<K: Drop, R: Drop>(value: &Value) -> Shape<K, R>
 // ---- by the keyword
 
 /// A keyword's value, read: its shape, counted where it is a leaf. `if`, `then` and `else` are read
-/// where the condition is; of `patternProperties` each matcher is counted, and each that is asked
-/// of a name that is declared beside it where other members are restricted.
+/// where the condition is; of `patternProperties` each matcher is counted.
 ///
 /// # Errors
 ///
@@ -560,13 +555,13 @@ pub fn read_keyword<'a, L: MakeLeaf, M: MakeRegex>(
     ensures built { IfOk result (λ x. IsRead (kit L.Leaf.Leaf M.Engine.RegexEngine) x
         (known neighbours.entry) name.now (view value.now) location.now meter.old meter.new) }
     ensures refused { IfErr result (RefusesKeyword (kit L.Leaf.Leaf M.Engine.RegexEngine)
-        (known neighbours.entry) name.now (view value.now) location.now meter.old meter.new) }
+        name.now (view value.now) location.now meter.old meter.new) }
 {
     match keyword_for(name) {
         KeywordFor::Properties => Ok(Shape::Properties(names_of_object(alloc, location, value)?)),
-        KeywordFor::PatternProperties => Ok(shape_of_patterns(
-            alloc, makers, meter, neighbours, location, value,
-        )?),
+        KeywordFor::PatternProperties => {
+            Ok(shape_of_patterns(alloc, makers, meter, location, value)?)
+        }
         KeywordFor::AdditionalProperties => Ok(shape_of_others(alloc, location, value)?),
         KeywordFor::PropertyNames => Ok(shape_of_names(value)),
         KeywordFor::Required => Ok(Shape::Required(texts_of_array(alloc, location, value)?)),
@@ -618,9 +613,8 @@ fn read_other<'a, L: MakeLeaf, M: MakeRegex>(
     ensures built { IfOk result (λ x. (c : Known)
         → IsRead (kit L.Leaf.Leaf M.Engine.RegexEngine) x
         c name.now (view value.now) location.now meter.old meter.new) }
-    ensures refused { IfErr result (λ e. (c : Known)
-        → RefusesKeyword (kit L.Leaf.Leaf M.Engine.RegexEngine)
-        c name.now (view value.now) location.now meter.old meter.new e) }
+    ensures refused { IfErr result (RefusesKeyword (kit L.Leaf.Leaf M.Engine.RegexEngine)
+        name.now (view value.now) location.now meter.old meter.new) }
 {
     if !makers.leaves.reads(name) {
         return Ok(Shape::Unread);
@@ -645,9 +639,8 @@ fn read_leaf<'a, L: MakeLeaf, M: MakeRegex>(
     ensures built { IfOk result (λ x. (c : Known)
         → IsRead (kit L.Leaf.Leaf M.Engine.RegexEngine) x
         c name.now (view value.now) location.now meter.old meter.new) }
-    ensures refused { IfErr result (λ e. (c : Known)
-        → RefusesKeyword (kit L.Leaf.Leaf M.Engine.RegexEngine)
-        c name.now (view value.now) location.now meter.old meter.new e) }
+    ensures refused { IfErr result (RefusesKeyword (kit L.Leaf.Leaf M.Engine.RegexEngine)
+        name.now (view value.now) location.now meter.old meter.new) }
 {
     match makers.leaves.make(alloc, name, value, meter) {
         Ok(leaf) => Ok(Shape::Leaf(leaf)),

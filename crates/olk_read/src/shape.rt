@@ -3,8 +3,7 @@ ghost use Rattle.std.specs.Prelude.{◌≡◌};
 ghost use Rattle.olk_read.specs.Reading.{reads_of};
 
 use olk_base::CompiledPattern;
-use olk_tree::map::SortedNames;
-use olk_tree::pattern_table::PatternTable;
+use olk_tree::names::SortedNames;
 use serde_json::Value;
 
 /// A keyword that is read, with what its value holds apart from the schemas inside.
@@ -12,9 +11,8 @@ use serde_json::Value;
 pub enum Shape<K, R> {
     /// `properties`: the names that it declares.
     Properties(SortedNames),
-    /// `patternProperties`: its patterns, in the order of its entries, beside what they say of the
-    /// names that are declared where other members are restricted.
-    PatternProperties(Vec<CompiledPattern<R>>, PatternTable),
+    /// `patternProperties`: its patterns, in the order of its entries.
+    PatternProperties(Vec<CompiledPattern<R>>),
     /// `additionalProperties` that is an object.
     AdditionalProperties,
     /// `additionalProperties` that is `false`.
@@ -83,7 +81,7 @@ impl<K, R> Shape<K, R> {
         ensures { result ≡ reads_of self.now }
     {
         match self {
-            Shape::Properties(_) | Shape::PatternProperties(_, _) | Shape::DependentSchemas(_) => {
+            Shape::Properties(_) | Shape::PatternProperties(_) | Shape::DependentSchemas(_) => {
                 ReadPlaces::Entries
             }
             Shape::Dependencies(_, _) => ReadPlaces::SchemaEntries,

@@ -1,13 +1,8 @@
-use Rattle.std.proofs.lemmas.Result.{IfOk-weaker}
 use Rattle.olk_make.proofs.DependencyKeywords.{makes_dependencies, keys_of_dependencies}
 use Rattle.olk_make.proofs.dependencies.make.Goals as goal
 
 pub returns-clause-form : goal.returns-clause-form
-returns-clause-form g c =
-    IfOk-weaker c.over_entries.result _ _ (λ k form. keys_of_dependencies _ _ c.args.keys c.in_ok-nodes.nodes.items c.args.location k form
-    c.args.lists c.args.schemas.items c.in_ok-nodes.ensures) c.over_entries.ensures
+returns-clause-form g c = keys_of_dependencies _ _ c.args.keys c.in_ok-nodes.nodes c.args.location c.args.lists c.args.schemas.items c.in_ok-nodes.ensures
 
 pub returns-clause-makes : goal.returns-clause-makes
-returns-clause-makes g c =
-    IfOk-weaker c.over_entries.result _ _ (λ k form. makes_dependencies _ _ c.args.keys c.in_ok-nodes.nodes.items c.args.location k form
-    c.args.lists c.args.schemas.items c.in_ok-nodes.ensures) c.over_entries.ensures
+returns-clause-makes g c = makes_dependencies _ _ c.args.keys c.in_ok-nodes.nodes c.args.location c.args.lists c.args.schemas.items c.in_ok-nodes.ensures

@@ -82,9 +82,9 @@ returns-in-AnyNames-clause-makes g c =
     part_of_own _ _ c.args.part.nodes.items c.args.taken.now c.in-AnyNames.is (λ k d s. s.0) refl
     (makes_any_names _ _ c.args.part.location c.args.part.nodes.items)
 
-pub returns-in_ok-make_schemas-in-DependentSchemas-clause-makes : goal.returns-in_ok-make_schemas-in-DependentSchemas-clause-makes
-returns-in_ok-make_schemas-in-DependentSchemas-clause-makes g c =
-    part_of_own _ _ c.args.part.nodes.items c.args.taken.now c.in-DependentSchemas.is (λ k d s. s.0) refl c.in_ok-make_schemas-in-DependentSchemas.ensures.makes
+pub returns-in-DependentSchemas-clause-makes : goal.returns-in-DependentSchemas-clause-makes
+returns-in-DependentSchemas-clause-makes g c =
+    part_of_own _ _ c.args.part.nodes.items c.args.taken.now c.in-DependentSchemas.is (λ k d s. s.0) refl c.make_schemas.ensures.makes
 
 pub returns-in_ok-make_required-in-DependentRequired-clause-makes : goal.returns-in_ok-make_required-in-DependentRequired-clause-makes
 returns-in_ok-make_required-in-DependentRequired-clause-makes g c =
@@ -103,7 +103,7 @@ returns-in_ok-make-in-PropertyDependencies-clause-makes g c =
 pub returns-in_ok-make-in-PatternProperties-clause-makes : goal.returns-in_ok-make-in-PatternProperties-clause-makes
 returns-in_ok-make-in-PatternProperties-clause-makes g c =
     part_of_claims _ _ c.args.part.shape c.args.part.nodes.items c.args.taken.now
-    (patterns_claim_own _ _ c.args.part.nodes.items c.in-PatternProperties.is (c.in_ok-make-in-PatternProperties.ensures.makes c.in-PatternProperties._table))
+    (patterns_claim_own _ _ c.args.part.nodes.items c.in-PatternProperties.is c.in_ok-make-in-PatternProperties.ensures.makes)
 
 pub returns-in-AllOf-clause-form : goal.returns-in-AllOf-clause-form
 returns-in-AllOf-clause-form g c =
@@ -133,9 +133,9 @@ pub returns-in-AnyOthers-clause-form : goal.returns-in-AnyOthers-clause-form
 returns-in-AnyOthers-clause-form g c =
     is_made (kit g.K.Leaf g.R.RegexEngine) g.N.BuiltNode.answers c.in-AnyOthers.is c.args.part.location c.args.place.now c.args.part.nodes.items c.args.taken.now (planned c.args.plan) None tt
 
-pub returns-in_ok-make_schemas-in-DependentSchemas-clause-form : goal.returns-in_ok-make_schemas-in-DependentSchemas-clause-form
-returns-in_ok-make_schemas-in-DependentSchemas-clause-form g c =
-    is_made (kit g.K.Leaf g.R.RegexEngine) g.N.BuiltNode.answers c.in-DependentSchemas.is c.args.part.location c.args.place.now c.args.part.nodes.items c.args.taken.now (planned c.args.plan) (Some c.in_ok-make_schemas-in-DependentSchemas.field-0) c.in_ok-make_schemas-in-DependentSchemas.ensures.form
+pub returns-in-DependentSchemas-clause-form : goal.returns-in-DependentSchemas-clause-form
+returns-in-DependentSchemas-clause-form g c =
+    is_made (kit g.K.Leaf g.R.RegexEngine) g.N.BuiltNode.answers c.in-DependentSchemas.is c.args.part.location c.args.place.now c.args.part.nodes.items c.args.taken.now (planned c.args.plan) (Some c.make_schemas.result) c.make_schemas.ensures.form
 
 pub returns-in_ok-make-in-Dependencies-clause-form : goal.returns-in_ok-make-in-Dependencies-clause-form
 returns-in_ok-make-in-Dependencies-clause-form g c =

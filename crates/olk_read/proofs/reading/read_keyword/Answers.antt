@@ -205,7 +205,7 @@ returns-in_ok-clone-in-Not g c = record {
 
 pub returns-in_ok-shape_of_patterns-in-PatternProperties : goal.returns-in_ok-shape_of_patterns-in-PatternProperties
 returns-in_ok-shape_of_patterns-in-PatternProperties g c = record {
-  built = rw (rw c.in-PatternProperties.is at c.keyword_for.ensures) c.in_ok-shape_of_patterns-in-PatternProperties.ensures.built;
+  built = rw (rw c.in-PatternProperties.is at c.keyword_for.ensures) (c.in_ok-shape_of_patterns-in-PatternProperties.ensures.built (known c.args.neighbours));
   refused = tt;
 }
 
@@ -215,7 +215,7 @@ returns-in_err-shape_of_patterns-in-PatternProperties-clause-refused g c =
 
 pub returns-in_err-read_other-in-Other-clause-refused : goal.returns-in_err-read_other-in-Other-clause-refused
 returns-in_err-read_other-in-Other-clause-refused g c =
-    exit_with _ _ _ c.from_residual-in_err-read_other-in-Other.ensures.1 (c.in_err-read_other-in-Other.ensures.refused (known c.args.neighbours))
+    exit_with _ _ _ c.from_residual-in_err-read_other-in-Other.ensures.1 c.in_err-read_other-in-Other.ensures.refused
 
 pub read_other-requires : goal.read_other-requires
 read_other-requires g c = let h = rw c.in-Other.is at c.keyword_for.ensures in record { other = h.0; let_through = h.1 }

@@ -2,11 +2,10 @@ use Rattle.std.proofs.Common.{refl, ap}
 use Rattle.serde_json.specs.View.{view}
 use Rattle.olk_spec.specs.Schemas.{is_object}
 use Rattle.olk_base.specs.Kit.{kit, world}
-use Rattle.olk_meaning.specs.Conditions.{known}
 use Rattle.olk_read.specs.declared.reading.KeywordFor.TheVariants as for
-use Rattle.olk_read.proofs.Spending.{exit, exit_with, tells_left}
+use Rattle.olk_read.proofs.Spending.{exit_with, tells_left}
 use Rattle.olk_read.proofs.Read.{refuses_own}
-use Rattle.olk_read.proofs.PatternTables.{refuses_patterns, patterns_are_read, table_without_memory}
+use Rattle.olk_read.proofs.ReadPatterns.{refuses_patterns, patterns_are_read}
 use Rattle.olk_read.proofs.reading.shape_of_patterns.Goals as goal
 
 pub returns-in_err-entries-clause-refused : goal.returns-in_err-entries-clause-refused
@@ -14,15 +13,9 @@ returns-in_err-entries-clause-refused g c = exit_with _ _ _ c.from_residual.ensu
 
 pub returns-in_err-patterns-clause-refused : goal.returns-in_err-patterns-clause-refused
 returns-in_err-patterns-clause-refused g c =
-    exit_with _ _ _ c.from_residual-in_err-patterns.ensures.1 (refuses_patterns (kit g.L.Leaf.Leaf g.M.Engine.RegexEngine) (known c.args.neighbours) (view c.args.value.now) c.args.location.now (ap is_object c.in_ok-entries.ensures.object)
+    exit_with _ _ _ c.from_residual-in_err-patterns.ensures.1 (refuses_patterns (kit g.L.Leaf.Leaf g.M.Engine.RegexEngine) (view c.args.value.now) c.args.location.now (ap is_object c.in_ok-entries.ensures.object)
     (rw c.in_ok-entries.ensures.object c.in_err-patterns.ensures.refused))
-
-pub returns-in_err-table-clause-refused : goal.returns-in_err-table-clause-refused
-returns-in_err-table-clause-refused g c =
-    exit _ _ _ c.from_residual-in_err-table.ensures.1 (table_without_memory (kit g.L.Leaf.Leaf g.M.Engine.RegexEngine) (known c.args.neighbours) (view c.args.value.now) c.args.location.now (ap is_object c.in_ok-entries.ensures.object) {a = c.args.meter.now} c.in_ok-patterns.patterns
-    (rw c.in_ok-entries.ensures.object c.in_ok-patterns.ensures.read) c.as_slice.ensures.value c.in_err-table.ensures.asked_at_most)
 
 pub returns-clause-built : goal.returns-clause-built
 returns-clause-built g c =
-    patterns_are_read (kit g.L.Leaf.Leaf g.M.Engine.RegexEngine) (known c.args.neighbours) (view c.args.value.now) c.args.location.now (ap is_object c.in_ok-entries.ensures.object) _ (rw c.in_ok-entries.ensures.object c.in_ok-patterns.ensures.read)
-    c.as_slice.ensures.value c.in_ok-table.ensures.names c.in_ok-table.ensures.answers c.in_ok-table.ensures.asked
+    patterns_are_read (kit g.L.Leaf.Leaf g.M.Engine.RegexEngine) (view c.args.value.now) c.args.location.now (ap is_object c.in_ok-entries.ensures.object) c.in_ok-patterns.patterns (rw c.in_ok-entries.ensures.object c.in_ok-patterns.ensures.read)
