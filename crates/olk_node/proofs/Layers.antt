@@ -1,14 +1,15 @@
 -- One level of a node: its answers, over those of the nodes below it.
 use Rattle.std.specs.Prelude.{◌≡◌, ◌==◌, nat_lt, length, [], ◌∷◌, Bool, true, not, ◌++◌, ◌||◌, ◌&&◌, map, Option, Some, None, is_some, option_map, List, Vec, bytes_eq, string_bytes}
 use Rattle.std.specs.declared.alloc.Global.{Global}
-use Rattle.std.specs.List.{flat_map, list_all}
+use Rattle.std.specs.List.{flat_map, list_all, zip}
+use Rattle.std.specs.formers.vec.Vec as vec
 use Rattle.std.specs.Option.{option_map_or}
 use Rattle.std.proofs.Common.{refl, ap, ◌∙◌, arith}
 use Rattle.std.proofs.lemmas.List.{length-map}
 use Rattle.std.proofs.lemmas.List.Folds.{list_all-map}
 use mathlib.Core.Path.{subst₂}
 use Rattle.serde_json.specs.Data.{Data}
-use Rattle.olk_spec.specs.Names.{Name, Path, ◌//◌, is_empty}
+use Rattle.olk_spec.specs.Names.{Name, Path, lookup_name, ◌//◌, is_empty}
 use Rattle.olk_spec.specs.declared.TheConstants.{HASHMAP_THRESHOLD}
 use Rattle.olk_spec.specs.Faults.{Fault, AnyOf, context}
 use Rattle.olk_spec.specs.Schemas.{at}
@@ -17,9 +18,9 @@ use Rattle.olk_spec.specs.Reports.{required_faults, fault_if}
 use Rattle.olk_spec.specs.Tree.{Tree, plain}
 use Rattle.olk_base.specs.Kit.{Kit}
 use Rattle.olk_base.specs.declared.pattern.CompiledPattern.{CompiledPattern}
-use Rattle.olk_tree.specs.Shown.{missing_trees, branch_trees}
+use Rattle.olk_tree.specs.Shown.{missing_trees, branch_trees, properties_tree}
 use Rattle.olk_tree.specs.Questions.{Question, always, both, every, some, how_many}
-use Rattle.olk_tree.specs.Maps.{named, nodes_in, mapped, two_texts}
+use Rattle.olk_tree.specs.Maps.{named, keys_in, nodes_in, mapped, placed_entries, two_texts}
 use Rattle.olk_tree.specs.Dependencies.{due_nodes}
 use Rattle.olk_tree.specs.PropertyDependencies.{chosen_nodes}
 use Rattle.olk_tree.specs.OneOf.{one_of_report}
@@ -27,7 +28,7 @@ use Rattle.olk_tree.specs.Additional.{Held, sides_of, patterns_in, required_text
 use Rattle.olk_tree.specs.Firsts.{or_else, head_of, first_of}
 use Rattle.olk_tree.specs.Validators.{answers_of, validator_means, validator_report, validator_first, validator_tree, validator_formed}
 use Rattle.olk_tree.specs.Bodies.{body_means, body_report, body_first, body_tree, body_formed}
-use Rattle.olk_tree.specs.Formed.{is_map_formed, names_beside, is_table_formed}
+use Rattle.olk_tree.specs.Formed.{is_paired, is_map_formed, names_beside, is_table_formed}
 use Rattle.olk_tree.specs.Answers.{Answers}
 use Rattle.olk_tree.specs.Places.{AnswersBy}
 use Rattle.olk_node.specs.Nodes.{node_step, answers}
@@ -46,7 +47,7 @@ use Rattle.olk_node.specs.declared.node.SchemaNode.{SchemaNode, map-SchemaNode, 
 use Rattle.olk_node.specs.declared.node.SchemaNode.TheOpen.{SchemaNode-F}
 use Rattle.olk_spec.proofs.Maps.{flat_map-map, map-map}
 use Rattle.olk_tree.proofs.AdditionalMaps.{Mapped, placed_entries-map, lookup_placed-map, additional_means-map, additional_report-map, additional_first-map, additional_tree-map}
-use Rattle.olk_tree.proofs.Maps.{with_name, keys_in-map, nodes_in-map, all-map, due_nodes-map, chosen_nodes-map, every-map, some-map, first_of-map, properties_tree-map, branch_trees-map, any_of_tree-map, one_of_tree-map, how_many-map, exactly_one-map, patterns_mean-map, patterns_report-map, patterns_first-map, patterns_tree-map}
+use Rattle.olk_tree.proofs.Maps.{with_name, zip-map, keys_in-map, nodes_in-map, all-map, due_nodes-map, chosen_nodes-map, every-map, some-map, first_of-map, properties_tree-map, branch_trees-map, any_of_tree-map, one_of_tree-map, how_many-map, exactly_one-map, patterns_mean-map, patterns_report-map, patterns_first-map, patterns_tree-map}
 
 -- what holds where a map is of few names, and where it is of many
 few_or_many : {N G : Type 0} (m : PropertiesMap N) → ((s : SmallMap N) → m ≡ Small s → G) → ((b : BigMap N) → m ≡ Big b → G) → G
@@ -112,11 +113,11 @@ module _ {K R : Type 0} (o : Kit K R) where
   entry_answers e = (e.0, answers o e.1)
 
   abbrev map_answered : SmallMap Node → SmallMap Answers
-  map_answered m = record { entries = map (with_name (answers o)) m.entries }
+  map_answered m = record { names = m.names; nodes = vec.mapped (answers o) m.nodes }
 
   abbrev properties_answered : PropertiesMap Node → PropertiesMap Answers
   properties_answered (Small m) = Small (map_answered m)
-  properties_answered (Big m) = Big record { entries = map (with_name (answers o)) m.entries }
+  properties_answered (Big m) = Big record { names = m.names; nodes = vec.mapped (answers o) m.nodes }
 
   -- what a validator holds, with the answers of its nodes in their place
   abbrev held_answered : Held R Node → Held R Answers
@@ -133,8 +134,8 @@ module _ {K R : Type 0} (o : Kit K R) where
   module _ (h : Held R Node) where
     sides_answer : Mapped (answers o) (sides_of (held_answered h)) (sides_of h)
     sides_answer = record {
-      declared = none_few_or_many h.properties (λ e. rw e refl) (λ m e. rw e (placed_entries-map (answers o) m.entries)) (λ m e. rw e (placed_entries-map (answers o) m.entries));
-      at = λ x. none_few_or_many h.properties (λ e. rw e refl) (λ m e. rw e (lookup_placed-map (answers o) m.entries x)) (λ m e. rw e (lookup_placed-map (answers o) m.entries x));
+      declared = none_few_or_many h.properties (λ e. rw e refl) (λ m e. rw e (ap placed_entries (zip-map (answers o) m.names m.nodes.items) ∙ placed_entries-map (answers o) (zip m.names m.nodes.items))) (λ m e. rw e (ap placed_entries (zip-map (answers o) m.names m.nodes.items) ∙ placed_entries-map (answers o) (zip m.names m.nodes.items)));
+      at = λ x. none_few_or_many h.properties (λ e. rw e refl) (λ m e. rw e (ap (λ es. lookup_name x (placed_entries es)) (zip-map (answers o) m.names m.nodes.items) ∙ lookup_placed-map (answers o) (zip m.names m.nodes.items) x)) (λ m e. rw e (ap (λ es. lookup_name x (placed_entries es)) (zip-map (answers o) m.names m.nodes.items) ∙ lookup_placed-map (answers o) (zip m.names m.nodes.items) x));
       patterns = none_or_one h.patterns (λ e. rw e refl) (λ ps e. rw e refl);
       known = refl;
       rest = none_or_one h.rest (λ e. rw e refl) (λ r e. rw e refl);
@@ -164,12 +165,24 @@ module _ {K R : Type 0} (o : Kit K R) where
     is_answered (by.WithPatternsNotEmpty k) = few_or_many k.value.properties (λ m e. rw e refl) (λ m e. rw e refl)
     is_answered (by.WithPatternsNotEmptyFalse k) = few_or_many k.value.properties (λ m e. rw e refl) (λ m e. rw e refl)
 
+  -- the nodes that dependencies ask
+  due_answered : (v : Data) (m : SmallMap Node) → due_nodes (named (map_answered m)) v ≡ map (answers o) (due_nodes (named m) v)
+  due_answered v m = ap (λ es. due_nodes es v) (zip-map (answers o) m.names m.nodes.items) ∙ due_nodes-map (answers o) v (named m)
+
+  abbrev maps_answered : SmallMap (SmallMap Node) → SmallMap (SmallMap Answers)
+  maps_answered m = record { names = m.names; nodes = vec.mapped map_answered m.nodes }
+
+  chosen_answered : (v : Data) (m : SmallMap (SmallMap Node)) → chosen_nodes (named (maps_answered m)) v ≡ map (answers o) (chosen_nodes (named m) v)
+  chosen_answered v m =
+      ap (λ es. chosen_nodes es v) (zip-map map_answered m.names m.nodes.items)
+      ∙ chosen_nodes-map (answers o) v map_answered (λ s. zip-map (answers o) s.names s.nodes.items) (named m)
+
   -- nodes, and nodes by names
   nodes_mean : (v : Data) (ns : List Node) → every (λ a. a.means v) (map (answers o) ns) ≡ every (λ n. means n v) ns
   nodes_mean v ns = every-map _ _ (answers o) (λ n. refl) ns
 
-  entries_mean : (v : Data) (es : List (Name × Node)) → every (λ e. every e.1.means (at e.0 v)) (map (with_name (answers o)) es) ≡ every (λ e. every (means e.1) (at e.0 v)) es
-  entries_mean v es = every-map _ _ (with_name (answers o)) (λ e. refl) es
+  entries_mean : (v : Data) (ks : List Name) (ns : List Node) → every (λ e. every e.1.means (at e.0 v)) (zip ks (map (answers o) ns)) ≡ every (λ e. every (means e.1) (at e.0 v)) (zip ks ns)
+  entries_mean v ks ns = ap (every _) (zip-map (answers o) ks ns) ∙ every-map _ _ (with_name (answers o)) (λ e. refl) (zip ks ns)
 
   some_alike : (v : Data) (ns : List Node) → some (λ a. a.means v) (map (answers o) ns) ≡ some (λ n. means n v) ns
   some_alike v ns = some-map _ _ (answers o) (λ n. refl) ns
@@ -184,30 +197,35 @@ module _ {K R : Type 0} (o : Kit K R) where
     nodes_find : (ns : List Node) → flat_map (λ a. a.report u v Q) (map (answers o) ns) ≡ flat_map (λ n. finds n u v Q) ns
     nodes_find ns = flat_map-map _ _ (answers o) (λ n. refl) ns
 
-    entries_find : (es : List (Name × Node)) → flat_map (λ e. flat_map (λ x. e.1.report u x (Q // e.0)) (at e.0 v)) (map (with_name (answers o)) es)
-        ≡ flat_map (λ e. flat_map (λ x. finds e.1 u x (Q // e.0)) (at e.0 v)) es
-    entries_find es = flat_map-map _ _ (with_name (answers o)) (λ e. refl) es
+    entries_find : (ks : List Name) (ns : List Node) → flat_map (λ e. flat_map (λ x. e.1.report u x (Q // e.0)) (at e.0 v)) (zip ks (map (answers o) ns))
+        ≡ flat_map (λ e. flat_map (λ x. finds e.1 u x (Q // e.0)) (at e.0 v)) (zip ks ns)
+    entries_find ks ns = ap (flat_map _) (zip-map (answers o) ks ns) ∙ flat_map-map _ _ (with_name (answers o)) (λ e. refl) (zip ks ns)
 
     nodes_first : (ns : List Node) → first_of (λ a. a.first u v Q) (map (answers o) ns) ≡ first_of (λ n. finds_first n u v Q) ns
     nodes_first ns = first_of-map _ _ (answers o) (λ n. refl) ns
 
-    entries_first : (es : List (Name × Node)) → first_of (λ e. first_of (λ x. e.1.first u x (Q // e.0)) (at e.0 v)) (map (with_name (answers o)) es)
-        ≡ first_of (λ e. first_of (λ x. finds_first e.1 u x (Q // e.0)) (at e.0 v)) es
-    entries_first es = first_of-map _ _ (with_name (answers o)) (λ e. refl) es
+    entries_first : (ks : List Name) (ns : List Node) → first_of (λ e. first_of (λ x. e.1.first u x (Q // e.0)) (at e.0 v)) (zip ks (map (answers o) ns))
+        ≡ first_of (λ e. first_of (λ x. finds_first e.1 u x (Q // e.0)) (at e.0 v)) (zip ks ns)
+    entries_first ks ns = ap (first_of _) (zip-map (answers o) ks ns) ∙ first_of-map _ _ (with_name (answers o)) (λ e. refl) (zip ks ns)
 
   means_layer : (n : OpenNode) (b : Body NodeKeyword) (v : Data)
       → (node_step o (opened n b)).means v ≡ body_means (validator_means o means) b v
   unfolding answers_of
   means_layer n (Keywords ks) v = every-map (λ k. validator_means o (λ a. a.means) k v) (λ k. validator_means o means k v) _ (elim [
-    | keyword.Properties k ↦ few_or_many k.properties (λ m e. rw e (entries_mean v m.entries)) (λ m e. rw e (entries_mean v m.entries))
+    | keyword.SmallProperties k ↦ entries_mean v k.properties.names k.properties.nodes.items
+    | keyword.BigProperties k ↦ entries_mean v k.properties.names k.properties.nodes.items
     | keyword.PropertiesWithRequired2 k ↦ ap (both (always (is_empty (missing (two_texts k.value.first k.value.second) v))))
-        (entries_mean v k.value.properties.entries)
+        (entries_mean v k.value.properties.names k.value.properties.nodes.items)
     | keyword.AllOf k ↦ nodes_mean v k.schemas.items
     | keyword.AnyOf k ↦ some_alike v k.schemas.items
     | keyword.OneOf k ↦ exactly_one-map (λ a. a.means v) (λ n. means n v) (answers o) (λ n. refl) k.schemas.items
-    | keyword.Dependencies k ↦ ap (every (λ a. a.means v)) (due_nodes-map (answers o) v k.dependencies.entries)
+    | keyword.Dependencies k ↦ ap (every (λ a. a.means v)) (due_answered v k.dependencies)
         ∙ nodes_mean v (due_nodes (named k.dependencies) v)
-    | keyword.PropertyDependencies k ↦ ap (every (λ a. a.means v)) (chosen_nodes-map (answers o) v _ (λ m. refl) k.dependencies.entries)
+    | keyword.DependentRequired k ↦ ap (every (λ a. a.means v)) (due_answered v k.dependencies)
+        ∙ nodes_mean v (due_nodes (named k.dependencies) v)
+    | keyword.DependentSchemas k ↦ ap (every (λ a. a.means v)) (due_answered v k.dependencies)
+        ∙ nodes_mean v (due_nodes (named k.dependencies) v)
+    | keyword.PropertyDependencies k ↦ ap (every (λ a. a.means v)) (chosen_answered v k.dependencies)
         ∙ nodes_mean v (chosen_nodes (named k.dependencies) v)
     | keyword.PatternProperties k ↦ patterns_mean-map o.answers (answers o) v o.costs (λ a. a.means) means (λ n w. refl) k.patterns.items
     | keyword.AdditionalProperties k ↦ ap (λ h. both (additional_means o.answers o.costs (λ a. a.means) (sides_of h) v) (always (is_empty (missing (required_text h.required) v))))
@@ -222,18 +240,22 @@ module _ {K R : Type 0} (o : Kit K R) where
   unfolding answers_of
   finds_layer n (Keywords ks) u v Q =
       flat_map-map (λ k. validator_report o (λ a. a.means) (λ a. a.report) u k v Q) (λ k. validator_report o means finds u k v Q) _ (elim [
-        | keyword.Properties k ↦ few_or_many k.properties (λ m e. rw e (entries_find u v Q m.entries))
-            (λ m e. rw e (entries_find u v Q m.entries))
+        | keyword.SmallProperties k ↦ entries_find u v Q k.properties.names k.properties.nodes.items
+        | keyword.BigProperties k ↦ entries_find u v Q k.properties.names k.properties.nodes.items
         | keyword.PropertiesWithRequired2 k ↦ ap (λ fs. required_faults (two_texts k.value.first k.value.second) v k.value.required_location Q ++ fs)
-            (entries_find u v Q k.value.properties.entries)
+            (entries_find u v Q k.value.properties.names k.value.properties.nodes.items)
         | keyword.AllOf k ↦ nodes_find u v Q k.schemas.items
         | keyword.AnyOf k ↦ λ i. fault_if (not ((some_alike v k.schemas.items i).accepts u))
             (AnyOf (context (reports_alike u v Q k.schemas.items i))) v k.location Q
         | keyword.OneOf k ↦ λ i. one_of_report (count_alike u v k.schemas.items i)
             (context (reports_alike u v Q k.schemas.items i)) v k.location Q
-        | keyword.Dependencies k ↦ ap (flat_map (λ a. a.report u v Q)) (due_nodes-map (answers o) v k.dependencies.entries)
+        | keyword.Dependencies k ↦ ap (flat_map (λ a. a.report u v Q)) (due_answered v k.dependencies)
             ∙ nodes_find u v Q (due_nodes (named k.dependencies) v)
-        | keyword.PropertyDependencies k ↦ ap (flat_map (λ a. a.report u v Q)) (chosen_nodes-map (answers o) v _ (λ m. refl) k.dependencies.entries)
+        | keyword.DependentRequired k ↦ ap (flat_map (λ a. a.report u v Q)) (due_answered v k.dependencies)
+            ∙ nodes_find u v Q (due_nodes (named k.dependencies) v)
+        | keyword.DependentSchemas k ↦ ap (flat_map (λ a. a.report u v Q)) (due_answered v k.dependencies)
+            ∙ nodes_find u v Q (due_nodes (named k.dependencies) v)
+        | keyword.PropertyDependencies k ↦ ap (flat_map (λ a. a.report u v Q)) (chosen_answered v k.dependencies)
             ∙ nodes_find u v Q (chosen_nodes (named k.dependencies) v)
         | keyword.PatternProperties k ↦ patterns_report-map o.answers (answers o) u v (λ a. a.report) finds (λ n w R. refl) Q k.patterns.items
         | keyword.AdditionalProperties k ↦ ap (λ h. additional_report o.answers (sides_of h) u v Q (has_neighbours h) h.location (λ a. a.report) ++ lacks h.required v Q)
@@ -249,18 +271,22 @@ module _ {K R : Type 0} (o : Kit K R) where
   unfolding answers_of
   first_layer n (Keywords ks) u v Q =
       first_of-map (λ k. validator_first o (λ a. a.means) (λ a. a.report) u (λ a. a.first) k v Q) (λ k. validator_first o means finds u finds_first k v Q) _ (elim [
-        | keyword.Properties k ↦ few_or_many k.properties (λ m e. rw e (entries_first u v Q m.entries))
-            (λ m e. rw e (entries_first u v Q m.entries))
+        | keyword.SmallProperties k ↦ entries_first u v Q k.properties.names k.properties.nodes.items
+        | keyword.BigProperties k ↦ entries_first u v Q k.properties.names k.properties.nodes.items
         | keyword.PropertiesWithRequired2 k ↦ ap (or_else (head_of (required_faults (two_texts k.value.first k.value.second) v k.value.required_location Q)))
-            (entries_first u v Q k.value.properties.entries)
+            (entries_first u v Q k.value.properties.names k.value.properties.nodes.items)
         | keyword.AllOf k ↦ nodes_first u v Q k.schemas.items
         | keyword.AnyOf k ↦ λ i. fault_if (not ((some_alike v k.schemas.items i).accepts u))
             (AnyOf (context (reports_alike u v Q k.schemas.items i))) v k.location Q
         | keyword.OneOf k ↦ λ i. one_of_report (count_alike u v k.schemas.items i)
             (context (reports_alike u v Q k.schemas.items i)) v k.location Q
-        | keyword.Dependencies k ↦ ap (first_of (λ a. a.first u v Q)) (due_nodes-map (answers o) v k.dependencies.entries)
+        | keyword.Dependencies k ↦ ap (first_of (λ a. a.first u v Q)) (due_answered v k.dependencies)
             ∙ nodes_first u v Q (due_nodes (named k.dependencies) v)
-        | keyword.PropertyDependencies k ↦ ap (first_of (λ a. a.first u v Q)) (chosen_nodes-map (answers o) v _ (λ m. refl) k.dependencies.entries)
+        | keyword.DependentRequired k ↦ ap (first_of (λ a. a.first u v Q)) (due_answered v k.dependencies)
+            ∙ nodes_first u v Q (due_nodes (named k.dependencies) v)
+        | keyword.DependentSchemas k ↦ ap (first_of (λ a. a.first u v Q)) (due_answered v k.dependencies)
+            ∙ nodes_first u v Q (due_nodes (named k.dependencies) v)
+        | keyword.PropertyDependencies k ↦ ap (first_of (λ a. a.first u v Q)) (chosen_answered v k.dependencies)
             ∙ nodes_first u v Q (chosen_nodes (named k.dependencies) v)
         | keyword.PatternProperties k ↦ patterns_first-map o.answers (answers o) u v (λ a. a.first) finds_first (λ n w R. refl) Q k.patterns.items
         | keyword.AdditionalProperties k ↦ ap (λ h. or_else (additional_first o.answers (sides_of h) u v Q (has_neighbours h) h.location (λ a. a.first)) (lacks h.required v Q))
@@ -275,23 +301,28 @@ module _ {K R : Type 0} (o : Kit K R) where
       → (node_step o (opened n b)).tree u v Q ≡ body_tree (validator_tree o means shows u) n.location b v Q
   unfolding answers_of
   shows_layer n (Keywords ks) u v Q =
-      let by_name = properties_tree-map (λ (a : Answers). a.tree u) (λ n. shows n u) (answers o) (λ y w R. refl) v Q in
+      let by_name = λ (P : Path) (ks : List Name) (ns : List Node) (more : List Tree). ap (λ es. properties_tree (λ (a : Answers). a.tree u) v Q P es more) (zip-map (answers o) ks ns)
+          ∙ properties_tree-map (λ (a : Answers). a.tree u) (λ n. shows n u) (answers o) (λ y w R. refl) v Q P (zip ks ns) more in
       let branches = branch_trees-map (λ (a : Answers). a.tree u) (λ n. shows n u) (answers o) (λ y w R. refl) v Q in
       let any_of = any_of_tree-map (λ (a : Answers). a.tree u) (λ n. shows n u) (answers o) (λ y w R. refl) v Q (λ a. (a.means v).accepts u) (λ n. (means n v).accepts u) (λ n. refl) in
       let one_of = one_of_tree-map (λ (a : Answers). a.tree u) (λ n. shows n u) (answers o) (λ y w R. refl) v Q (λ a. (a.means v).accepts u) (λ n. (means n v).accepts u) (λ n. refl) in
       ap (plain n.location Q) (map-map (λ k. validator_tree o (λ a. a.means) (λ a. a.tree) u k v Q) (λ k. validator_tree o means shows u k v Q) _ (elim [
-        | keyword.Properties k ↦ few_or_many k.properties (λ m e. rw e (by_name k.location m.entries [])) (λ m e. rw e
-            (by_name k.location m.entries []))
-        | keyword.PropertiesWithRequired2 k ↦ by_name k.value.location k.value.properties.entries (missing_trees (two_texts k.value.first k.value.second) v k.value.required_location Q)
+        | keyword.SmallProperties k ↦ by_name k.location k.properties.names k.properties.nodes.items []
+        | keyword.BigProperties k ↦ by_name k.location k.properties.names k.properties.nodes.items []
+        | keyword.PropertiesWithRequired2 k ↦ by_name k.value.location k.value.properties.names k.value.properties.nodes.items (missing_trees (two_texts k.value.first k.value.second) v k.value.required_location Q)
         | keyword.AllOf k ↦ ap (plain k.location Q) (branches k.schemas.items)
         | keyword.AnyOf k ↦ any_of k.location k.schemas.items
         | keyword.SingleAnyOf k ↦ any_of k.location (k.node ∷ [])
         | keyword.OneOf k ↦ one_of k.location k.schemas.items
         | keyword.SingleOneOf k ↦ one_of k.location (k.node ∷ [])
-        | keyword.Dependencies k ↦ ap (λ ns. plain k.location Q (branch_trees (λ a. a.tree u) v Q ns)) (due_nodes-map (answers o) v k.dependencies.entries)
+        | keyword.Dependencies k ↦ ap (λ ns. plain k.location Q (branch_trees (λ a. a.tree u) v Q ns)) (due_answered v k.dependencies)
+            ∙ ap (plain k.location Q) (branches (due_nodes (named k.dependencies) v))
+        | keyword.DependentRequired k ↦ ap (λ ns. plain k.location Q (branch_trees (λ a. a.tree u) v Q ns)) (due_answered v k.dependencies)
+            ∙ ap (plain k.location Q) (branches (due_nodes (named k.dependencies) v))
+        | keyword.DependentSchemas k ↦ ap (λ ns. plain k.location Q (branch_trees (λ a. a.tree u) v Q ns)) (due_answered v k.dependencies)
             ∙ ap (plain k.location Q) (branches (due_nodes (named k.dependencies) v))
         | keyword.PropertyDependencies k ↦ ap (λ ns. plain k.location Q (branch_trees (λ a. a.tree u) v Q ns))
-            (chosen_nodes-map (answers o) v _ (λ m. refl) k.dependencies.entries) ∙ ap (plain k.location Q)
+            (chosen_answered v k.dependencies) ∙ ap (plain k.location Q)
             (branches (chosen_nodes (named k.dependencies) v))
         | keyword.PatternProperties k ↦ patterns_tree-map o.answers (answers o) u v (λ a. a.tree u) (λ n. shows n u) (λ n w R. refl) k.location Q k.patterns.items
         | keyword.AdditionalProperties k ↦ ap (λ h. additional_tree o.answers (sides_of h) u v Q (is_some h.properties) (is_some h.patterns) h.location h.patterns_location (λ a. a.tree u)
@@ -307,11 +338,25 @@ module _ {K R : Type 0} (o : Kit K R) where
   nodes_formed : (ns : List Node) → list_all (λ a. a.formed) (map (answers o) ns) ≡ list_all is_formed ns
   nodes_formed ns = list_all-map (λ a. a.formed) (answers o) ns
 
-  entries_formed : (es : List (Name × Node)) → list_all (λ a. a.formed) (nodes_in (map (with_name (answers o)) es)) ≡ list_all is_formed (nodes_in es)
-  entries_formed es = ap (list_all (λ a. a.formed)) (nodes_in-map (answers o) es) ∙ nodes_formed (nodes_in es)
+  entries_formed : (ks : List Name) (ns : List Node) → list_all (λ a. a.formed) (nodes_in (zip ks (map (answers o) ns))) ≡ list_all is_formed (nodes_in (zip ks ns))
+  entries_formed ks ns = ap (λ es. list_all (λ a. a.formed) (nodes_in es)) (zip-map (answers o) ks ns) ∙ ap (list_all (λ a. a.formed)) (nodes_in-map (answers o) (zip ks ns)) ∙ nodes_formed (nodes_in (zip ks ns))
 
-  small_alike : (es : List (Name × Node)) → nat_lt (length (map (with_name (answers o)) es)) HASHMAP_THRESHOLD ≡ nat_lt (length es) HASHMAP_THRESHOLD
-  small_alike es = ap (λ l. nat_lt l HASHMAP_THRESHOLD) (length-map es _)
+  paired_alike : (ks : List Name) (ns : Vec Node Global) → is_paired ks (vec.mapped (answers o) ns) ≡ is_paired ks ns
+  paired_alike ks ns = ap (λ l. length ks == l) (length-map ns.items (answers o))
+
+  paired_maps : (ks : List Name) (ms : Vec (SmallMap Node) Global) → is_paired ks (vec.mapped map_answered ms) ≡ is_paired ks ms
+  paired_maps ks ms = ap (λ l. length ks == l) (length-map ms.items map_answered)
+
+  -- a map, and all at its names, have their form
+  abbrev map_formed : {N : Type 0} → (N → Bool) → SmallMap N → Bool
+  map_formed f m = is_paired m.names m.nodes && list_all f (nodes_in (named m))
+
+  maps_formed : (m : SmallMap (SmallMap Node)) → list_all (map_formed (λ a. a.formed)) (nodes_in (named (maps_answered m))) ≡ list_all (map_formed is_formed) (nodes_in (named m))
+  maps_formed m =
+      ap (λ es. list_all (map_formed (λ (a : Answers). a.formed)) (nodes_in es)) (zip-map map_answered m.names m.nodes.items)
+      ∙ ap (list_all (map_formed (λ (a : Answers). a.formed))) (nodes_in-map map_answered (named m))
+      ∙ all-map (map_formed (λ (a : Answers). a.formed)) (map_formed is_formed) map_answered
+      (λ s i. paired_alike s.names s.nodes i && entries_formed s.names s.nodes.items i) (nodes_in (named m))
 
   -- all that a validator holds has its form
   abbrev all_formed : {N : Type 0} → (N → Bool) → Held R N → Bool
@@ -322,12 +367,13 @@ module _ {K R : Type 0} (o : Kit K R) where
 
   module _ (h : Held R Node) where
     names_alike : names_beside (held_answered h).properties ≡ names_beside h.properties
-    names_alike = none_few_or_many h.properties (λ e. rw e refl) (λ m e. rw e (keys_in-map (answers o) m.entries)) (λ m e. rw e (keys_in-map (answers o) m.entries))
+    names_alike = none_few_or_many h.properties (λ e. rw e refl) (λ m e. rw e (ap keys_in (zip-map (answers o) m.names m.nodes.items) ∙ keys_in-map (answers o) (zip m.names m.nodes.items))) (λ m e. rw e (ap keys_in (zip-map (answers o) m.names m.nodes.items) ∙ keys_in-map (answers o) (zip m.names m.nodes.items)))
 
     maps_alike : option_map_or (λ m. is_map_formed m && list_all (λ a. a.formed) (nodes_in (mapped m))) (held_answered h).properties true ≡ option_map_or
         (λ m. is_map_formed m && list_all is_formed (nodes_in (mapped m))) h.properties true
     maps_alike =
-        none_few_or_many h.properties (λ e. rw e refl) (λ m e. rw e λ i. small_alike m.entries i && entries_formed m.entries i) (λ m e. rw e λ i. not (small_alike m.entries i) && entries_formed m.entries i)
+        none_few_or_many h.properties (λ e. rw e refl) (λ m e. rw e λ i. (nat_lt (length m.names) HASHMAP_THRESHOLD && paired_alike m.names m.nodes i) && entries_formed m.names m.nodes.items i)
+        (λ m e. rw e λ i. (not (nat_lt (length m.names) HASHMAP_THRESHOLD) && paired_alike m.names m.nodes i) && entries_formed m.names m.nodes.items i)
 
     patterns_alike : map (λ e. e.0) (patterns_in (held_answered h).patterns) ≡ map (λ e. e.0) (patterns_in h.patterns)
     patterns_alike = none_or_one h.patterns (λ e. rw e refl) (λ es e. rw e (map-map (λ e. e.0) (λ e. e.0) entry_answers (λ e. refl) es))
@@ -345,16 +391,19 @@ module _ {K R : Type 0} (o : Kit K R) where
       (validator_formed o is_formed) b
   unfolding answers_of
   formed_layer n (Keywords ks) = all-map (λ k. validator_formed o (λ a. a.formed) k) (λ k. validator_formed o is_formed k) _ (elim [
-    | keyword.Properties k ↦ few_or_many k.properties (λ m e. rw e λ i. small_alike m.entries i && entries_formed m.entries i) (λ m e. rw e λ i. not (small_alike m.entries i) && entries_formed m.entries i)
-    | keyword.PropertiesWithRequired2 k ↦ λ i. small_alike k.value.properties.entries i
-        && not (bytes_eq (string_bytes k.value.first) (string_bytes k.value.second)) && entries_formed k.value.properties.entries i
+    | keyword.SmallProperties k ↦ λ i. (nat_lt (length k.properties.names) HASHMAP_THRESHOLD && paired_alike k.properties.names k.properties.nodes i)
+        && entries_formed k.properties.names k.properties.nodes.items i
+    | keyword.BigProperties k ↦ λ i. (not (nat_lt (length k.properties.names) HASHMAP_THRESHOLD) && paired_alike k.properties.names k.properties.nodes i)
+        && entries_formed k.properties.names k.properties.nodes.items i
+    | keyword.PropertiesWithRequired2 k ↦ λ i. (nat_lt (length k.value.properties.names) HASHMAP_THRESHOLD && paired_alike k.value.properties.names k.value.properties.nodes i)
+        && not (bytes_eq (string_bytes k.value.first) (string_bytes k.value.second)) && entries_formed k.value.properties.names k.value.properties.nodes.items i
     | keyword.AllOf k ↦ λ i. not (length-map k.schemas.items (answers o) i == 1) && nodes_formed k.schemas.items i
     | keyword.AnyOf k ↦ λ i. not (length-map k.schemas.items (answers o) i == 1) && nodes_formed k.schemas.items i
     | keyword.OneOf k ↦ λ i. not (length-map k.schemas.items (answers o) i == 1) && nodes_formed k.schemas.items i
-    | keyword.Dependencies k ↦ entries_formed k.dependencies.entries
-    | keyword.PropertyDependencies k ↦ ap (list_all (λ m. list_all (λ a. a.formed) (nodes_in m.entries))) (nodes_in-map map_answered k.dependencies.entries)
-        ∙ all-map (λ m. list_all (λ a. a.formed) (nodes_in m.entries)) (λ m. list_all is_formed (nodes_in m.entries)) map_answered
-        (λ m. entries_formed m.entries) (nodes_in k.dependencies.entries)
+    | keyword.Dependencies k ↦ λ i. paired_alike k.dependencies.names k.dependencies.nodes i && entries_formed k.dependencies.names k.dependencies.nodes.items i
+    | keyword.DependentRequired k ↦ λ i. paired_alike k.dependencies.names k.dependencies.nodes i && entries_formed k.dependencies.names k.dependencies.nodes.items i
+    | keyword.DependentSchemas k ↦ λ i. paired_alike k.dependencies.names k.dependencies.nodes i && entries_formed k.dependencies.names k.dependencies.nodes.items i
+    | keyword.PropertyDependencies k ↦ λ i. paired_maps k.dependencies.names k.dependencies.nodes i && maps_formed k.dependencies i
     | keyword.PatternProperties k ↦ λ i. not (length-map k.patterns.items entry_answers i == 1) && list_all-map (λ e. e.1.formed) entry_answers k.patterns.items i
     | keyword.AdditionalProperties k ↦ ap (all_formed (λ a. a.formed)) (is_answered n ks k) ∙ held_formed (held k)
     | _ ↦ refl

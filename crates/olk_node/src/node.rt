@@ -14,7 +14,7 @@ use olk_tree::node::{Body, KeywordOver};
 use olk_tree::not::Not;
 use olk_tree::one_of::{OneOf, SingleOneOf};
 use olk_tree::pattern_properties::{PatternProperties, SingleValuePatternProperties};
-use olk_tree::properties::{Properties, SmallPropertiesWithRequired2};
+use olk_tree::properties::{BigProperties, SmallProperties, SmallPropertiesWithRequired2};
 use olk_tree::property_dependencies::PropertyDependencies;
 use olk_tree::property_names::PropertyNames;
 
@@ -103,10 +103,10 @@ pub type IfElseValidator<K, R> = IfElse<SchemaNode<K, R>>;
 pub type IfThenElseValidator<K, R> = IfThenElse<SchemaNode<K, R>>;
 
 /// `properties`, over nodes: of few names, where its map is small.
-pub type SmallPropertiesValidator<K, R> = Properties<SchemaNode<K, R>>;
+pub type SmallPropertiesValidator<K, R> = SmallProperties<SchemaNode<K, R>>;
 
 /// `properties`, over nodes: of many names, where its map is big.
-pub type BigPropertiesValidator<K, R> = Properties<SchemaNode<K, R>>;
+pub type BigPropertiesValidator<K, R> = BigProperties<SchemaNode<K, R>>;
 
 /// `properties` together with `required` of two different names, over nodes.
 pub type SmallPropertiesWithRequired2Validator<K, R> = SmallPropertiesWithRequired2<

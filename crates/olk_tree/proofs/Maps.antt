@@ -76,6 +76,10 @@ module _ {X Y : Type 0} (h : Y → X) where
   nodes_in-map [] = refl
   nodes_in-map (e ∷ es) = ap (λ ns. h e.1 ∷ ns) (nodes_in-map es)
 
+  pub zip-map : (ks : List Name) (ys : List Y) → zip ks (map h ys) ≡ map with_name (zip ks ys)
+  zip-map (k ∷ ks) (y ∷ ys) = ap (λ es. (k, h y) ∷ es) (zip-map ks ys)
+  zip-map _ _ = refl
+
   pub lookup_name-map : (n : Name) (es : List (Name × Y)) → lookup_name n (map with_name es) ≡ option_map h (lookup_name n es)
   lookup_name-map n [] = refl
   lookup_name-map n (e ∷ es) = found_at _ e.1 _ _ (lookup_name-map n es)

@@ -69,12 +69,12 @@ pub use olk_tree::pattern_properties::{PatternProperties, SingleValuePatternProp
 pub use olk_tree::pattern_table::{
     PatternIndex, PatternTable, precompute_property_pattern_indices,
 };
-pub use olk_tree::properties::{Properties, SmallPropertiesWithRequired2};
+pub use olk_tree::properties::{BigProperties, SmallProperties, SmallPropertiesWithRequired2};
 pub use olk_tree::property_dependencies::PropertyDependencies;
 pub use olk_tree::property_names::{
     PropertyNames, PropertyNamesFalse as PropertyNamesBooleanValidator,
 };
 pub use olk_tree::{
-    BigMap, Body, BuiltNode, Entry, KeywordOver, Means, PropertiesValidatorsMap, Reports,
-    RequiredValidator, SmallMap, SortedEntries, SortedNames, pattern_table, properties_map,
+    BigMap, Body, BuiltNode, Entries, KeywordOver, Means, PropertiesValidatorsMap, Reports,
+    RequiredValidator, SmallMap, SortedName, SortedNames, pattern_table, properties_map,
 };
