@@ -7,7 +7,7 @@ use Rattle.serde_json.specs.Data.{Data, boolean, Members}
 use Rattle.olk_spec.specs.Names.{Name, Path, ◌//◌, lookup_name}
 use Rattle.olk_spec.specs.Vocabulary.{Keyword, leaf, unread, keyword_named}
 use Rattle.olk_spec.specs.Malformed.{has_repeat}
-use Rattle.olk_spec.specs.Schemas.{listed, is_truth}
+use Rattle.olk_spec.specs.Schemas.{listed, members, is_truth}
 use Rattle.olk_base.specs.Kit.{Kit}
 use Rattle.olk_tree.specs.Answers.{Answers}
 use Rattle.olk_tree.specs.Places.{Stands}
@@ -21,17 +21,17 @@ use Rattle.olk_read.specs.declared.shape.Shape.TheVariants as shape
 use Rattle.olk_read.specs.declared.shape.ReadPlaces.TheVariants.{Itself}
 use Rattle.olk_make.specs.Made.{IsMade}
 use Rattle.olk_make.specs.Making.{KeywordsMean, MakesPart, IsMadeOf}
-use Rattle.olk_make.specs.Standing.{StandAt, PartStands, Fills, is_if_shape, is_restriction_shape, is_taken, DeclaredStand, PatternsStand, CasesStand, BesideStands}
+use Rattle.olk_make.specs.Standing.{StandAt, EntriesStand, PartStands, Fills, is_if_shape, is_restriction_shape, is_taken, DeclaredStand, PatternsStand, CasesStand, BesideStands}
 use Rattle.olk_make.specs.declared.part.Part.{Part}
 use Rattle.olk_make.specs.declared.part.Taken.{Taken}
 use Rattle.olk_make.specs.declared.part.DeclaredNodes.{DeclaredNodes}
 use Rattle.olk_make.specs.declared.part.Patterns.{Patterns}
 use Rattle.olk_make.proofs.Choosing.{chosen}
+use Rattle.olk_make.proofs.PatternProperties.{both_stand}
 use Rattle.olk_make.proofs.Makes.{neighbours, part_of_alone, makes_leaf, restriction_named}
 use Rattle.olk_make.proofs.Taking.{apart_by, taken_stands}
 use Rattle.olk_build.specs.Building.{IsMember}
-use Rattle.olk_build.specs.Beside.{takes, takes_of, IsNode, DeclaredBy, IsDeclared, PatternsBy, IsPatterns, TakenBy, BesideFills, MakesBeside}
-use Rattle.olk_build.specs.declared.taking.Beside.{Beside}
+use Rattle.olk_build.specs.Beside.{takes, takes_of, IsNode, DeclaredBy, IsDeclared, PatternsBy, IsPatterns, TakenStands, MakesTaking}
 
 abbrev pub has_no_shape : Keyword → Bool
 has_no_shape leaf = true
@@ -79,41 +79,45 @@ module _ {K R N : Type 0} (o : Kit K R) (answers : N → Answers) where
 
     -- ---- `patternProperties`
 
-    patterns_by : (x : Shape K R) (p : Part K R N) (t : Option (Patterns R N)) (d : Data) → PatternsBy x p t → p.location ≡ P // codes "patternProperties" → IsShape o (codes "patternProperties") d x
-        → Fits o (known_of ms) x → StandAt o answers (reads_of x) p.nodes.items d (P // codes "patternProperties")
+    patterns_by : (x : Shape K R) (p : Part K R N) (t : Option (Patterns R N)) (d : Data) → PatternsBy o.answers (known_of ms) x p t → p.location ≡ P // codes "patternProperties"
+        → IsShape o (codes "patternProperties") d x → StandAt o answers (reads_of x) p.nodes.items d (P // codes "patternProperties")
         → Fills (λ y. PatternsStand o answers (known_of ms) y (P // codes "patternProperties")) t (Some d)
-    patterns_by (shape.PatternProperties v w) p t d e place s f h = subst (λ x. Fills (λ y. PatternsStand o answers (known_of ms) y (P // codes "patternProperties")) x (Some d)) (sym e) (record {
-      place = place;
+    patterns_by (shape.PatternProperties v) p (Some y) d e place s h = record {
+      place = e.place ∙ place;
       kind = s.1;
-      patterns = s.2;
-      names = f.0;
-      table = f.1;
-      nodes = h;
-    })
-    patterns_by (shape.Leaf l) p t d e place s f h = absurd (true≢false (sym (ap has_no_shape s.0)))
-    patterns_by shape.Unread p t d e place s f h = absurd (true≢false (sym (ap has_no_shape s)))
-    patterns_by shape.Unpaired p t d e place s f h = absurd (true≢false (sym s))
-    patterns_by shape.If p t d e place s f h = absurd (true≢false (ap (bytes_eq (codes "patternProperties")) s))
-    patterns_by shape.Then p t d e place s f h = absurd (true≢false (ap (bytes_eq (codes "patternProperties")) s))
-    patterns_by shape.Else p t d e place s f h = absurd (true≢false (ap (bytes_eq (codes "patternProperties")) s))
-    patterns_by x p t d e place s f h = absurd (true≢false (ap (bytes_eq (codes "patternProperties")) s.0))
+      entries = subst (λ l. EntriesStand o answers l (members d) (P // codes "patternProperties")) (sym e.entries) (both_stand o answers v.items p.nodes.items (members d) (P // codes "patternProperties") s.2 h);
+      names = e.names;
+      table = e.table;
+    }
+    patterns_by (shape.PatternProperties v) p None d e place s h = absurd e
+    patterns_by (shape.Leaf l) p t d e place s h = absurd (true≢false (sym (ap has_no_shape s.0)))
+    patterns_by shape.Unread p t d e place s h = absurd (true≢false (sym (ap has_no_shape s)))
+    patterns_by shape.Unpaired p t d e place s h = absurd (true≢false (sym s))
+    patterns_by shape.If p t d e place s h = absurd (true≢false (ap (bytes_eq (codes "patternProperties")) s))
+    patterns_by shape.Then p t d e place s h = absurd (true≢false (ap (bytes_eq (codes "patternProperties")) s))
+    patterns_by shape.Else p t d e place s h = absurd (true≢false (ap (bytes_eq (codes "patternProperties")) s))
+    patterns_by x p t d e place s h = absurd (true≢false (ap (bytes_eq (codes "patternProperties")) s.0))
 
-    pub patterns_fill : (p : Option (Part K R N)) (t : Option (Patterns R N)) (a : Option Data) → IsPatterns p t
+    pub patterns_fill : (p : Option (Part K R N)) (t : Option (Patterns R N)) (a : Option Data) → IsPatterns o.answers (known_of ms) p t
         → Fills (λ x d. PartStands o answers (known_of ms) x (codes "patternProperties", d) P) p a → Fills (λ y. PatternsStand o answers (known_of ms) y (P // codes "patternProperties")) t a
     patterns_fill None t None e s = subst (λ x. Fills (λ y. PatternsStand o answers (known_of ms) y (P // codes "patternProperties")) x None) (sym e) tt
-    patterns_fill (Some p) t (Some d) e s = patterns_by p.shape p t d e s.place s.shape s.fits s.nodes
+    patterns_fill (Some p) t (Some d) e s = patterns_by p.shape p t d e s.place s.shape s.nodes
     patterns_fill _ t _ e s = absurd s
 
   -- ---- what is made
 
-  restriction_takes : (x : Shape K R) → is_restriction_shape x ≡ true → takes_of x ≡ Some (codes "properties", codes "patternProperties")
+  pub restriction_takes : (x : Shape K R) → is_restriction_shape x ≡ true → takes_of x ≡ Some (codes "properties", codes "patternProperties")
   restriction_takes shape.AdditionalProperties e = refl
   restriction_takes shape.NoOthers e = refl
   restriction_takes x e = absurd (true≢false (sym e))
 
-  if_takes : (x : Shape K R) → is_if_shape x ≡ true → takes_of x ≡ Some (codes "then", codes "else")
+  pub if_takes : (x : Shape K R) → is_if_shape x ≡ true → takes_of x ≡ Some (codes "then", codes "else")
   if_takes shape.If e = refl
   if_takes x e = absurd (true≢false (sym e))
+
+  if_read : (x : Shape K R) (c : Known) → is_if_shape x ≡ true → Fits o c x → c.condition ≡ true
+  if_read shape.If c e f = f
+  if_read x c e f = absurd (true≢false (sym e))
 
   module _ (x : Shape K R) {L : Path} (ns : List N) (t : Taken R N) {P : Path} {q : Planned} {r : Option (KeywordOver K R N)}
       (make : MakesPart o answers x L ns t P q (option_to_list r)) (form : IsMade o answers x L ns t P q r) where
@@ -127,44 +131,21 @@ module _ {K R N : Type 0} (o : Kit K R) (answers : N → Answers) where
     }
 
     -- a part that takes nothing
-    pub makes_nothing : takes_of x ≡ None → (b : Beside K R N) → MakesBeside o answers x L ns b P q r
-    makes_nothing none b ms m place s f stand fills distinct found same untaken =
+    pub makes_nothing : takes_of x ≡ None → (u : Taken R N) → MakesTaking o answers x L ns u P q r
+    makes_nothing none u ms m place s f stand fills distinct found same untaken =
         made_of ms m place s f stand
         (λ taking. absurd (true≢false (sym (ap is_some (if_takes x taking)) ∙ ap is_some none)))
         (λ taking. absurd (true≢false (sym (ap is_some (restriction_takes x taking)) ∙ ap is_some none))) distinct found same untaken
 
-    module _ (b : Beside K R N) where
-      makes_condition : x ≡ shape.If → IsNode b.first t.cases.then_schema → IsNode b.second t.cases.else_schema → MakesBeside o answers x L ns b P q r
-      makes_condition is first second ms m place s f stand fills distinct found same untaken =
-          let read = subst (Fits o (known_of ms)) is f in
-          let both = subst (λ y. BesideFills o answers ms (takes_of y) P b) is fills in
-          made_of ms m place s f stand
-          (λ taking. (
-            node_fills ms P (codes "then") refl refl read b.first t.cases.then_schema _ first both.0,
-            node_fills ms P (codes "else") refl refl read b.second t.cases.else_schema _ second both.1,
-          ))
-          (λ taking. absurd (true≢false (sym taking ∙ ap is_restriction_shape is))) distinct found same untaken
-
-      makes_other : is_if_shape x ≡ false → IsDeclared b.first t.beside.properties → IsPatterns b.second t.beside.patterns → MakesBeside o answers x L ns b P q r
-      makes_other is first second ms m place s f stand fills distinct found same untaken =
-          made_of ms m place s f stand
-          (λ taking. absurd (true≢false (sym taking ∙ is)))
-          (λ taking.
-          let both = subst (λ w. BesideFills o answers ms w P b) (restriction_takes x taking) fills in
-          (declared_fills ms P b.first t.beside.properties _ first both.0, patterns_fill ms P b.second t.beside.patterns _ second both.1)) distinct found same untaken
-
-      pub makes_beside : TakenBy x b t → MakesBeside o answers x L ns b P q r
-      makes_beside h = by x refl h
-        where
-          by : (y : Shape K R) → x ≡ y → TakenBy y b t → MakesBeside o answers x L ns b P q r
-          by shape.If e h = makes_condition e h.0 h.1
-          by y e h = makes_other (ap is_if_shape e) h.0 h.1
+    -- one that takes what stands there
+    pub makes_taking : MakesTaking o answers x L ns t P q r
+    makes_taking ms m place s f stand taken = made_of ms m place s f stand (λ taking. taken.cases taking (if_read x (known_of ms) taking f)) taken.beside
 
   -- a leaf takes nothing
-  pub makes_leaf_beside : {x : Shape K R} (l : K) {L : Path} (ns : List N) (b : Beside K R N) {P : Path} {q : Planned} → x ≡ shape.Leaf l → MakesBeside o answers x L ns b P q (Some (keyword.Leaf L l))
-  makes_leaf_beside {x} l {L} ns b {P} {q} is =
+  pub makes_leaf_taking : {x : Shape K R} (l : K) {L : Path} (ns : List N) (u : Taken R N) {P : Path} {q : Planned} → x ≡ shape.Leaf l → MakesTaking o answers x L ns u P q (Some (keyword.Leaf L l))
+  makes_leaf_taking {x} l {L} ns u {P} {q} is =
       makes_nothing x ns nothing (part_of_alone o answers {L = L} {P = P} {ks = keyword.Leaf L l ∷ []} {p = q} ns nothing is (λ k d s. ap neighbours s.0) (makes_leaf o answers l L ns))
-      (subst (λ y. IsMade o answers y L ns nothing P q (Some (keyword.Leaf L l))) (sym is) refl) (ap takes_of is) b
+      (subst (λ y. IsMade o answers y L ns nothing P q (Some (keyword.Leaf L l))) (sym is) refl) (ap takes_of is) u
     where
       nothing : Taken R N
       nothing = record { cases = record { then_schema = None; else_schema = None }; beside = record { properties = None; patterns = None } }

@@ -4,6 +4,7 @@ mod Found
 pub mod Neighbouring
 mod Keywords
 mod Member
+mod Taken
 pub mod Appending
 mod Parts
 mod Places

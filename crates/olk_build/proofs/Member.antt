@@ -1,9 +1,9 @@
 -- What is built of one member of a schema object, with the members that it takes.
-use Rattle.std.specs.Prelude.{◌≡◌, ◌&&◌, ◌||◌, Bool, true, false, not, cond, List, [], ◌∷◌, ◌++◌, map, codes, bytes_eq, Option, Some, None, is_some, is_none, option_to_list, Result, Ok, Err, IfOk, IfErr}
+use Rattle.std.specs.Prelude.{◌≡◌, ◌*◌, ◌&&◌, ◌||◌, length, Bool, true, false, not, cond, List, [], ◌∷◌, ◌++◌, map, codes, bytes_eq, Option, Some, None, is_some, is_none, option_to_list, Result, Ok, Err, IfOk, IfErr}
 use Rattle.std.specs.Result.{result_transpose}
 use Rattle.std.specs.List.{flat_map}
 use Rattle.std.specs.declared.alloc.AllocError.{AllocError}
-use Rattle.std.proofs.Common.{refl, sym, ◌∙◌, ap, subst, ◌⊎◌, inl, inr}
+use Rattle.std.proofs.Common.{refl, sym, ◌∙◌, ap, subst, arith, ◌⊎◌, inl, inr}
 use Rattle.std.proofs.lemmas.Grind.{flat_map-append}
 use Rattle.std.proofs.lemmas.List.{append-nil}
 use mathlib.Core.Bool.{true≢false}
@@ -11,9 +11,11 @@ use Rattle.serde_json.specs.Data.{Data, Members}
 use Rattle.olk_spec.specs.Names.{Name, Path, ◌//◌, filter_once, put_if}
 use Rattle.olk_spec.specs.Tree.{Tree}
 use Rattle.olk_spec.specs.Schemas.{listed}
-use Rattle.olk_spec.specs.Vocabulary.{Keyword}
+use Rattle.olk_spec.specs.Vocabulary.{Keyword, pattern_properties, keyword_named}
 use Rattle.olk_spec.specs.Malformed.{has_repeat}
-use Rattle.olk_spec.specs.Costs.{total_cost}
+use Rattle.olk_spec.specs.Costs.{no_cost, total_cost}
+use Rattle.olk_spec.proofs.CostSums.{sum_last}
+use Rattle.olk_spec.proofs.Named.{Named, named as is_named}
 use Rattle.olk_spec.proofs.Walks.{same_name}
 use Rattle.olk_base.specs.Count.{Counts}
 use Rattle.olk_base.specs.Kit.{Kit}
@@ -23,7 +25,9 @@ use Rattle.olk_tree.specs.Answers.{Answers}
 use Rattle.olk_tree.specs.declared.node.KeywordOver.{KeywordOver}
 use Rattle.olk_meaning.specs.Conditions.{Known, known_of, is_condition, is_restricted, IsKnown}
 use Rattle.olk_meaning.specs.Members.{member_child}
-use Rattle.olk_meaning.specs.Plans.{Planned, plan_of, is_case, head, claims}
+use Rattle.olk_meaning.specs.AdditionalProperties.{declared_beside}
+use Rattle.olk_meaning.specs.PatternProperties.{open_names, names_asked}
+use Rattle.olk_meaning.specs.Plans.{Planned, plan_of, is_case, tells_members, head, claims}
 use Rattle.olk_meaning.proofs.Claims.{claims_no_case}
 use Rattle.olk_meaning.proofs.RestrictedClaims.{claims_no_properties, claims_no_patterns}
 use Rattle.olk_meaning.proofs.RestrictionShown.{properties_show_none, patterns_show_none}
@@ -36,12 +40,14 @@ use Rattle.olk_make.specs.Standing.{is_taken, StandAt}
 use Rattle.olk_make.specs.declared.part.Part.{Part}
 use Rattle.olk_make.proofs.Entries.{Rows}
 use Rattle.olk_make.proofs.Together.{no_keywords_mean}
-use Rattle.olk_build.specs.Building.{IsMember, RefusesPart}
+use Rattle.olk_build.specs.Building.{IsMember, RefusesPart, later_cost}
 use Rattle.olk_build.specs.Placing.{PartsAreBuilt, IsPart}
-use Rattle.olk_build.specs.Beside.{takes, takes_of, rows_taken, rows_read, RefusesBeside, AreBeside, MakesBeside, MemberIsBuilt, RefusesMember, GivesMember, Gives}
-use Rattle.olk_build.specs.declared.taking.Beside.{Beside}
+use Rattle.olk_build.specs.Beside.{takes, takes_of, rows_taken, rows_read, RefusesBeside, IsTaken, MakesTaking, MemberIsBuilt, RefusesMember, GivesMember, Gives}
+use Rattle.olk_make.specs.declared.part.Taken.{Taken}
+use Rattle.olk_make.proofs.Held.{unrestricted_if_untaken}
 use Rattle.olk_build.proofs.Appending.{same_takes}
-use Rattle.olk_build.proofs.Neighbouring.{wrong, costs, there_known, none_beside, first_refused, second_refused, both_spent}
+use Rattle.olk_build.proofs.Neighbouring.{wrong, costs, there_known, nothing_later, first_refused, second_refused, both_spent}
+use Rattle.olk_build.proofs.Taken.{nothing, takes_nothing}
 
 -- ---- the validators of some members, and of one more
 
@@ -132,6 +138,22 @@ is_nothing (Some x) e = absurd (true≢false e)
 
 -- ---- one member
 
+-- for a member that is not taken nothing is counted later
+module _ {K R N : Type 0} (o : Kit K R) (answers : N → Answers) (ms : Members) (k : Name) (d : Data) (untaken : is_taken (plan_of ms) k ≡ false) where
+  none_later : later_cost o ms d (keyword_named o.world k) ≡ no_cost
+  none_later = by (keyword_named o.world k) (is_named k o.world)
+    where
+      no_name : (b : Bool) → b ≡ false → names_asked o.world (cond b (declared_beside ms) []) d ≡ no_cost
+      no_name true e = absurd (true≢false e)
+      no_name false e = ap (λ n. record no_cost { table_asks = n }) none
+        where
+          none : 0 * length (open_names o.world d) ≡ 0
+          none = omega arith
+
+      by : (w : Keyword) → Named k w → later_cost o ms d w ≡ no_cost
+      by pattern_properties n = no_name (is_restricted ms) (unrestricted_if_untaken o answers (plan_of ms) k (ap tells_members n) untaken)
+      by w n = refl
+
 module _ {K R N : Type 0} (o : Kit K R) (answers : N → Answers) (ms : Members) (P : Path) (k : Name) (d : Data) (b : Counts) where
   -- it is taken by another
   pub taken_built : is_taken (plan_of ms) k ≡ true → MemberIsBuilt o ms (k, d) P b b answers None
@@ -176,27 +198,28 @@ module _ {K R N : Type 0} (o : Kit K R) (answers : N → Answers) (ms : Members)
         same_rows : takes_of part.shape ≡ takes (plan_of ms) k
         same_rows = same_takes o answers ms part.shape k d part_here.stand.0.shape part_here.stand.0.fits found
 
+        -- no other member's names are asked for it
+        part_spent : Spends b y (total_cost (costs o ms P) ((k, d) ∷ []))
+        part_spent = nothing_later part_here.spends (sum_last _ ∙ none_later o answers ms k d untaken)
+
         pub beside_refused : {z : Counts} {r : BuildError} → RefusesBeside o ms (takes_of part.shape) P y z r → RefusesMember o ms (k, d) P b z r
-        beside_refused {z} {r} w = refused_here (second_refused o ms P ((k, d) ∷ []) (rows_taken ms (takes (plan_of ms) k)) y part_here.spends
+        beside_refused {z} {r} w = refused_here (second_refused o ms P ((k, d) ∷ []) (rows_taken ms (takes (plan_of ms) k)) y (within_exactly part_spent)
             (subst (λ t. RefusesBeside o ms t P y z r) same_rows w))
 
-        module _ {beside : Beside K R N} {z : Counts} (taken : AreBeside o answers ms (takes_of part.shape) P y z beside) where
-          taken_here : AreBeside o answers ms (takes (plan_of ms) k) P y z beside
-          taken_here = subst (λ t. AreBeside o answers ms t P y z beside) same_rows taken
-
+        module _ {t : Taken R N} {z : Counts} (taken : IsTaken o answers ms part.shape P y z t) where
           spent : Spends b z (total_cost (costs o ms P) rows)
-          spent = both_spent o ms P ((k, d) ∷ []) (rows_taken ms (takes (plan_of ms) k)) b y z part_here.spends taken_here.spends
+          spent = both_spent o ms P ((k, d) ∷ []) (rows_taken ms (takes (plan_of ms) k)) b y z part_spent (subst (λ t. Spends y z (total_cost (costs o ms P) (rows_taken ms t))) same_rows taken.spends)
 
           pub read_memory : {w : AllocError} (r : BuildError) → r ≡ Memory w → RefusesMember o ms (k, d) P b z r
           read_memory r x = refused_here (refuses_memory (within_exactly spent) r x)
 
           pub member_built : {q : Planned} {r : Option (KeywordOver K R N)} → has_repeat (map (λ m. m.0) (listed ms)) ≡ false → q ≡ plan_of ms
-              → MakesBeside o answers part.shape part.location part.nodes.items beside P q r → MemberIsBuilt o ms (k, d) P b z answers r
+              → MakesTaking o answers part.shape part.location part.nodes.items t P q r → MemberIsBuilt o ms (k, d) P b z answers r
           member_built {q} distinct plan makes =
               let s = part_here.stand.0 in
               record {
-                made = makes ms (k, d) s.place s.shape s.fits (subst (λ l. StandAt o answers (reads_of part.shape) part.nodes.items d l) (sym s.place) s.nodes) taken.stand distinct found plan (ap (λ p. is_taken p k) plan ∙ untaken);
-                clean = ap (flat_map (wrong o ms P)) read_here ∙ flat_map-append (wrong o ms P) ((k, d) ∷ []) (rows_taken ms (takes (plan_of ms) k)) ∙ (λ i. part_here.clean i ++ taken_here.clean i);
+                made = makes ms (k, d) s.place s.shape s.fits (subst (λ l. StandAt o answers (reads_of part.shape) part.nodes.items d l) (sym s.place) s.nodes) taken.stands distinct found plan (ap (λ p. is_taken p k) plan ∙ untaken);
+                clean = ap (flat_map (wrong o ms P)) read_here ∙ flat_map-append (wrong o ms P) ((k, d) ∷ []) (rows_taken ms (takes (plan_of ms) k)) ∙ (λ i. part_here.clean i ++ (ap (λ t. flat_map (wrong o ms P) (rows_taken ms t)) (sym same_rows) ∙ taken.clean) i);
                 spends = subst (λ l. Spends b z (total_cost (costs o ms P) l)) (sym read_here) spent;
               }
 
@@ -205,15 +228,15 @@ module _ {K R N : Type 0} (o : Kit K R) (answers : N → Answers) (ms : Members)
           takes_none : takes_of part.shape ≡ None
           takes_none = is_nothing (takes_of part.shape) (sym is ∙ no)
 
-          none_here : AreBeside o answers ms (takes_of part.shape) P y y (record { first = None; second = None })
-          none_here = none_beside takes_none
+          none_here : IsTaken o answers ms part.shape P y y nothing
+          none_here = takes_nothing takes_none
 
           pub alone_memory : {w : AllocError} (r : BuildError) → r ≡ Memory w → RefusesMember o ms (k, d) P b y r
           alone_memory r x = read_memory none_here r x
 
           pub alone_built : {q : Planned} {r : Option (KeywordOver K R N)} → has_repeat (map (λ m. m.0) (listed ms)) ≡ false → q ≡ plan_of ms
-              → (takes_of part.shape ≡ None → (beside : Beside K R N) → MakesBeside o answers part.shape part.location part.nodes.items beside P q r) → MemberIsBuilt o ms (k, d) P b y answers r
-          alone_built distinct plan makes = member_built none_here distinct plan (makes takes_none (record { first = None; second = None }))
+              → (takes_of part.shape ≡ None → (t : Taken R N) → MakesTaking o answers part.shape part.location part.nodes.items t P q r) → MemberIsBuilt o ms (k, d) P b y answers r
+          alone_built distinct plan makes = member_built none_here distinct plan (makes takes_none nothing)
 
 -- ---- what is given of it
 

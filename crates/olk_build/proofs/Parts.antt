@@ -1,7 +1,7 @@
 -- The parts of a schema object: each is built, or why there is none.
-use Rattle.std.specs.Prelude.{◌≡◌, Bool, true, false, List, [], ◌++◌, map}
+use Rattle.std.specs.Prelude.{◌≡◌, ◌+◌, Bool, true, false, List, [], ◌++◌, map}
 use Rattle.std.specs.List.{flat_map}
-use Rattle.std.proofs.Common.{refl, sym, ◌∙◌, ap, subst}
+use Rattle.std.proofs.Common.{refl, sym, ◌∙◌, ap, subst, arith}
 use mathlib.Core.Bool.{true≢false}
 use Rattle.std.proofs.lemmas.List.{append-nil}
 use Rattle.serde_json.specs.Data.{Data, boolean, Members}
@@ -17,10 +17,9 @@ use Rattle.olk_reports.specs.declared.error.BuildError.{BuildError}
 use Rattle.olk_base.specs.Kit.{Kit}
 use Rattle.olk_meaning.specs.Dependencies.{schema_entries}
 use Rattle.olk_read.specs.Refusing.{Spends}
-use Rattle.olk_build.specs.Building.{RefusesPart}
+use Rattle.olk_build.specs.Building.{RefusesPart, later_cost}
 use Rattle.olk_read.specs.Reading.{reads_of, own_faults, own_cost_of, IsShape, Fits, IsRead, RefusesKeyword}
 use Rattle.olk_meaning.specs.Conditions.{Known, known_of, is_conditional_name, IsKnown}
-use Rattle.olk_meaning.specs.PatternProperties.{matchers_made, names_asked}
 use Rattle.olk_meaning.proofs.AdditionalPlaces.{additional_places}
 use Rattle.olk_read.specs.declared.shape.ReadPlaces.{ReadPlaces}
 use Rattle.olk_read.specs.declared.shape.ReadPlaces.TheVariants.{Nothing, Itself, Entries, SchemaEntries, InnerEntries, Branches}
@@ -80,7 +79,7 @@ module _ {X : Type 0} (step : Schema X → X) (d : Data) where
 
       shape_places : (x : Shape K R) → IsShape o k d x → Fits o c x → read_under k (keyword_named o.world k) ≡ places_of k (reads_of x)
       shape_places (shape.Properties n) s f = rw s.0 (ap (each _) (entries_read step d))
-      shape_places (shape.PatternProperties v t) s f = rw s.0 (ap (each _) (entries_read step d))
+      shape_places (shape.PatternProperties v) s f = rw s.0 (ap (each _) (entries_read step d))
       shape_places (shape.Required v) s f = rw s.0 refl
       shape_places (shape.DependentRequired n v) s f = rw s.0 refl
       shape_places (shape.DependentSchemas n) s f = rw s.0 (ap (each _) (entries_read step d))
@@ -129,16 +128,13 @@ module _ {K R : Type 0} (o : Kit K R) (ms : Members) (d : Data) where
   places_totalled k InnerEntries = inner_costs o.world d k
   places_totalled k Branches = each_costs o.world k (numbered (items_of_array d))
 
+  -- what reading counts and what is counted later are the keyword's own cost
+  own_of_keyword : (w : Keyword) → owned w ≡ own_cost_of o.world d w ⊕ later_cost o ms d w
+  own_of_keyword pattern_properties = pattern_properties_known_cost o.world ms d
+  own_of_keyword w = refl
+
   -- the keyword of the name k, where enough is known of its neighbours
   module _ (c : Known) (k : Name) (known : IsKnown c ms k) where
-    -- what reading counts is the keyword's own cost
-    own_of_keyword : owned (keyword_named o.world k) ≡ own_cost_of o.world c d (keyword_named o.world k)
-    own_of_keyword = by (keyword_named o.world k) (is_named k o.world)
-      where
-        by : (w : Keyword) → Named k w → owned w ≡ own_cost_of o.world c d w
-        by pattern_properties n = pattern_properties_known_cost o.world ms d ∙ ap (λ fs. matchers_made o.world d ⊕ names_asked o.world fs d) (sym (known.1 n))
-        by w n = refl
-
     module _ (x : Shape K R) (s : IsShape o k d x) (f : Fits o c x) where
       places_found : (P : Path) → found k P (keyword_named o.world k) ≡ places_malformed o (reads_of x) d (P // k)
       places_found P = ap (told P) (shape_places (malformations_step o.world) d ms o k c known x s f) ∙ places_told k P (reads_of x)
@@ -152,20 +148,38 @@ module _ {K R : Type 0} (o : Kit K R) (ms : Members) (d : Data) where
     fits_there shape.Then s f = sym (known.0 (ap is_conditional_name s)).0 ∙ f
     fits_there shape.Else s f = sym (known.0 (ap is_conditional_name s)).0 ∙ f
     fits_there shape.Unpaired s f = sym (known.0 s).0 ∙ f
-    fits_there (shape.PatternProperties v t) s f = (f.0 ∙ ap (map (λ e. e.0)) (known.1 s.0), f.1)
     fits_there x s f = tt
 
 -- ---- one member
 
-pub refuses_part_own : {K R : Type 0} (o : Kit K R) (c : Known) (k : Name) (d : Data) {L : Path} {a b : Counts} {e : BuildError} → RefusesKeyword o c k d L a b e → RefusesPart o c k d L a b e
+pub refuses_part_own : {K R : Type 0} (o : Kit K R) (c : Known) (k : Name) (d : Data) {L : Path} {a b : Counts} {e : BuildError} → RefusesKeyword o k d L a b e → RefusesPart o c k d L a b e
 refuses_part_own o c k d {a = a} {b} {e} h ms P p known = record {
   tells = tells_left (own_faults o.world k d (P // k)) (found o ms d k P (keyword_named o.world k)) e (tells_same (ap (own_faults o.world k d) p) e h.tells);
-  spends = within_before a b _ (summed o ms d k (keyword_named o.world k)) (within_same (sym (own_of_keyword o ms d c k known)) h.spends);
+  spends = within_before a b _ (summed o ms d k (keyword_named o.world k))
+      (within_same (sym (own_of_keyword o ms d (keyword_named o.world k))) (within_before a b _ (later_cost o ms d (keyword_named o.world k)) h.spends));
 }
 
+-- two costs the other way round, behind a first
+last_two : (a b c : Cost) → (a ⊕ b) ⊕ c ≡ (a ⊕ c) ⊕ b
+last_two a b c = λ i. record { places = p i; leaf_places = l i; pattern_places = m i; table_asks = t i }
+  where
+    p : (a.places + b.places) + c.places ≡ (a.places + c.places) + b.places
+    p = omega arith
+
+    l : (a.leaf_places + b.leaf_places) + c.leaf_places ≡ (a.leaf_places + c.leaf_places) + b.leaf_places
+    l = omega arith
+
+    m : (a.pattern_places + b.pattern_places) + c.pattern_places ≡ (a.pattern_places + c.pattern_places) + b.pattern_places
+    m = omega arith
+
+    t : (a.table_asks + b.table_asks) + c.table_asks ≡ (a.table_asks + c.table_asks) + b.table_asks
+    t = omega arith
+
 module _ {K R : Type 0} {o : Kit K R} {x : Shape K R} {c : Known} {k : Name} {d : Data} {L : Path} {a m : Counts} (h : IsRead o x c k d L a m) where
-  own_spent : (ms : Members) → IsKnown c ms k → Spends a m (owned o ms d (keyword_named o.world k))
-  own_spent ms known = spends_same a m _ _ (sym (own_of_keyword o ms d c k known)) h.spends
+  -- its cost is what reading it and the places inside cost, and what is counted later
+  cost_split : (ms : Members) → IsKnown c ms k → owned o ms d (keyword_named o.world k) ⊕ summed o ms d k (keyword_named o.world k)
+      ≡ (own_cost_of o.world d (keyword_named o.world k) ⊕ places_cost o (reads_of x) d) ⊕ later_cost o ms d (keyword_named o.world k)
+  cost_split ms known = (λ i. own_of_keyword o ms d (keyword_named o.world k) i ⊕ places_summed o ms d c k known x h.shape h.fits i) ∙ last_two _ _ _
 
   pub refuses_part_inside : {r : ReadPlaces} {b : Counts} {e : BuildError} → r ≡ reads_of x → RefusesPlaces o r d L m b e → RefusesPart o c k d L a b e
   refuses_part_inside {b = b} {e} reads w ms P p known =
@@ -174,7 +188,7 @@ module _ {K R : Type 0} {o : Kit K R} {x : Shape K R} {c : Known} {k : Name} {d 
         tells =
             tells_right (own_faults o.world k d (P // k)) (found o ms d k P (keyword_named o.world k)) e
             (tells_same (ap (places_malformed o (reads_of x) d) p ∙ sym (places_found o ms d c k known x h.shape h.fits P)) e inside.tells);
-        spends = within_after a m b _ _ (own_spent ms known) (within_same (sym (places_summed o ms d c k known x h.shape h.fits)) inside.spends);
+        spends = within_same (sym (cost_split ms known)) (within_before a b _ (later_cost o ms d (keyword_named o.world k)) (within_after a m b _ _ h.spends inside.spends));
       }
 
 module _ {K R N : Type 0} {o : Kit K R} {answers : N → Answers} where
@@ -195,6 +209,9 @@ module _ {K R N : Type 0} {o : Kit K R} {answers : N → Answers} where
         clean =
             append-nil _ ∙ (λ i. (ap (own_faults o.world k d) (sym e) ∙ h.clean) i
             ++ (places_found o ms d c k known p.shape h.shape h.fits P ∙ ap (places_malformed o (reads_of p.shape) d) (sym e) ∙ built.clean) i);
-        spends = spends_same a b _ _ (sym (sum_last _))
-            (spends_append a m b _ _ (own_spent h ms known) (spends_same m b _ _ (sym (places_summed o ms d c k known p.shape h.shape h.fits)) built.spends));
+        spends = record {
+          spent = own_cost_of o.world d (keyword_named o.world k) ⊕ places_cost o (reads_of p.shape) d;
+          exactly = spends_append a m b _ _ h.spends built.spends;
+          whole = sum_last _ ∙ cost_split h ms known ∙ ap (λ z. (own_cost_of o.world d (keyword_named o.world k) ⊕ places_cost o (reads_of p.shape) d) ⊕ z) (sym (sum_last _));
+        };
       }

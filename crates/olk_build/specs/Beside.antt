@@ -1,5 +1,6 @@
 -- What a keyword takes from its neighbours, and what is built of these.
-use Rattle.std.specs.Prelude.{◌≡◌, ⊤, ◌&&◌, false, cond, List, [], ◌∷◌, ◌++◌, map, codes, bytes_eq, Option, Some, None, option_to_list, Result, IfOk, IfErr}
+use Rattle.std.specs.Prelude.{◌≡◌, ◌*◌, ◌&&◌, ℕ, Bool, true, false, cond, List, [], ◌∷◌, ◌++◌, map, length, zip, codes, bytes_eq, Option, Some, None, option_to_list, Result, IfOk, IfErr, Vec}
+use Rattle.std.specs.declared.alloc.Global.{Global}
 use Rattle.std.specs.Option.{IfSome}
 use Rattle.serde_json.specs.Data.{Data, Members}
 use Rattle.olk_spec.specs.Names.{Name, Path, ◌//◌, lookup_name}
@@ -7,25 +8,27 @@ use Rattle.olk_spec.specs.Schemas.{listed}
 use Rattle.olk_spec.specs.Malformed.{has_repeat}
 use Rattle.olk_base.specs.Count.{Counts}
 use Rattle.olk_base.specs.Kit.{Kit}
+use Rattle.olk_base.specs.declared.pattern.CompiledPattern.{CompiledPattern}
+use Rattle.olk_spec.specs.World.{Says}
 use Rattle.olk_reports.specs.declared.error.BuildError.{BuildError}
 use Rattle.olk_meaning.specs.AdditionalProperties.{rows_at}
-use Rattle.olk_meaning.specs.Conditions.{known_of}
+use Rattle.olk_meaning.specs.Conditions.{Known, known_of, is_condition}
 use Rattle.olk_meaning.specs.Plans.{Planned, plan_of}
 use Rattle.olk_read.specs.Refusing.{Spends, Refuses}
 use Rattle.olk_read.specs.Reading.{reads_of, IsShape, Fits}
 use Rattle.olk_read.specs.declared.shape.Shape.{Shape}
 use Rattle.olk_read.specs.declared.shape.Shape.TheVariants as shape
 use Rattle.olk_tree.specs.Answers.{Answers}
+use Rattle.olk_tree.specs.Tables.{patterns_of, IsTableOf, how_many_cost}
 use Rattle.olk_tree.specs.declared.node.KeywordOver.{KeywordOver}
 use Rattle.olk_make.specs.Holding.{all_malformed}
-use Rattle.olk_make.specs.Standing.{StandAt, PartStands, Fills, IsLast, is_taken}
+use Rattle.olk_make.specs.Standing.{StandAt, PartStands, Fills, IsLast, is_taken, is_if_shape, is_restriction_shape, CasesStand, BesideStands}
 use Rattle.olk_make.specs.Making.{IsMadeOf}
 use Rattle.olk_make.specs.declared.part.Part.{Part}
 use Rattle.olk_make.specs.declared.part.DeclaredNodes.{DeclaredNodes}
 use Rattle.olk_make.specs.declared.part.Patterns.{Patterns}
 use Rattle.olk_make.specs.declared.part.Taken.{Taken}
-use Rattle.olk_build.specs.Building.{IsMember, all_cost}
-use Rattle.olk_build.specs.declared.taking.Beside.{Beside}
+use Rattle.olk_build.specs.Building.{IsMember, all_cost, SpendsBefore}
 
 -- the two neighbours that the keyword of the name k takes: `if` takes `then` and `else`, and `additionalProperties` the keywords that tell members by their names
 abbrev pub takes : Planned → Name → Option (Name × Name)
@@ -61,18 +64,42 @@ abbrev pub IsDeclared : {K R N : Type 0} → Option (Part K R N) → Option (Dec
 IsDeclared None t = t ≡ None
 IsDeclared (Some p) t = DeclaredBy p.shape p t
 
-abbrev pub PatternsBy : {K R N : Type 0} → Shape K R → Part K R N → Option (Patterns R N) → Type 0
-PatternsBy (shape.PatternProperties v w) p t = t ≡ Some (record { location = p.location; patterns = v; table = w; nodes = p.nodes })
-PatternsBy x p t = t ≡ None
+module _ {K R N : Type 0} (says : R → Name → Says) (c : Known) where
+  -- patterns with the nodes of the part, and the table of what they say of the names that are known to be declared
+  pub record HoldsPatterns (v : Vec (CompiledPattern R) Global) (p : Part K R N) (x : Patterns R N) : Type 0 where
+    pub place : x.location ≡ p.location
+    pub entries : x.patterns.items ≡ zip v.items p.nodes.items
+    pub names : x.table.names ≡ map (λ e. e.0) c.declared
+    pub table : IsTableOf says (patterns_of x.patterns.items) x.table
 
-abbrev pub IsPatterns : {K R N : Type 0} → Option (Part K R N) → Option (Patterns R N) → Type 0
-IsPatterns None t = t ≡ None
-IsPatterns (Some p) t = PatternsBy p.shape p t
+  abbrev pub PatternsBy : Shape K R → Part K R N → Option (Patterns R N) → Type 0
+  PatternsBy (shape.PatternProperties v) p None = ⊥
+  PatternsBy (shape.PatternProperties v) p (Some x) = HoldsPatterns v p x
+  PatternsBy x p t = t ≡ None
 
--- what a keyword of this shape takes of them
-abbrev pub TakenBy : {K R N : Type 0} → Shape K R → Beside K R N → Taken R N → Type 0
-TakenBy shape.If b t = IsNode b.first t.cases.then_schema × IsNode b.second t.cases.else_schema
-TakenBy x b t = IsDeclared b.first t.beside.properties × IsPatterns b.second t.beside.patterns
+  abbrev pub IsPatterns : Option (Part K R N) → Option (Patterns R N) → Type 0
+  IsPatterns None t = t ≡ None
+  IsPatterns (Some p) t = PatternsBy p.shape p t
+
+  -- what a keyword of this shape takes of two parts
+  abbrev pub TakenBy : Shape K R → Option (Part K R N) → Option (Part K R N) → Taken R N → Type 0
+  TakenBy shape.If first second t = IsNode first t.cases.then_schema × IsNode second t.cases.else_schema
+  TakenBy x first second t = IsDeclared first t.beside.properties × IsPatterns second t.beside.patterns
+
+-- ---- how many matchers are asked for the table
+
+module _ {K R N : Type 0} (costs : R → Bool) (c : Known) where
+  abbrev pub asks_by : Shape K R → List N → ℕ
+  asks_by (shape.PatternProperties v) ns = length c.declared * how_many_cost costs (patterns_of (zip v.items ns))
+  asks_by x ns = 0
+
+  abbrev pub asks_of : Option (Part K R N) → ℕ
+  asks_of None = 0
+  asks_of (Some p) = asks_by p.shape p.nodes.items
+
+  abbrev pub asks_taken : Shape K R → Option (Part K R N) → ℕ
+  asks_taken shape.If p = 0
+  asks_taken x p = asks_of p
 
 -- ---- neighbours, in the schema object with the members ms at P
 
@@ -91,35 +118,35 @@ module _ {K R N : Type 0} (o : Kit K R) (answers : N → Answers) (ms : Members)
   pub record IsNeighbour (p : Option (Part K R N)) (k : Name) (P : Path) (old new : Counts) : Type 0 where
     pub stands : PartFills p k P
     pub clean : all_malformed o ms P (rows_at k ms) ≡ []
-    pub spends : Spends old new (all_cost o ms (rows_at k ms))
+    pub spends : SpendsBefore o ms (rows_at k ms) old new
 
-  -- both stand for what is taken
-  abbrev pub BesideFills : Option (Name × Name) → Path → Beside K R N → Type 0
-  BesideFills None P b = ⊤
-  BesideFills (Some t) P b = PartFills b.first t.0 P × PartFills b.second t.1 P
+  -- what the keyword of this shape takes stands for the members that are there
+  pub record TakenStands (x : Shape K R) (P : Path) (t : Taken R N) : Type 0 where
+    pub cases : is_if_shape x ≡ true → is_condition ms ≡ true → CasesStand o answers t.cases ms P
+    pub beside : is_restriction_shape x ≡ true → BesideStands o answers (known_of ms) t.beside ms P
 
-  pub record AreBeside (t : Option (Name × Name)) (P : Path) (old new : Counts) (b : Beside K R N) : Type 0 where
-    pub stand : BesideFills t P b
-    pub clean : all_malformed o ms P (rows_taken ms t) ≡ []
-    pub spends : Spends old new (all_cost o ms (rows_taken ms t))
+  pub record IsTaken (x : Shape K R) (P : Path) (old new : Counts) (t : Taken R N) : Type 0 where
+    pub stands : TakenStands x P t
+    pub clean : all_malformed o ms P (rows_taken ms (takes_of x)) ≡ []
+    pub spends : Spends old new (all_cost o ms (rows_taken ms (takes_of x)))
 
 module _ {K R N : Type 0} (o : Kit K R) (answers : N → Answers) where
-  -- what is made of a shape and nodes at L is made of the part's member, in each object at P that has this plan and where the neighbours' parts stand for what is taken
-  abbrev pub MakesBeside : Shape K R → Path → List N → Beside K R N → Path → Planned → Option (KeywordOver K R N) → Type 0
-  MakesBeside x L ns b P q r = (ms : Members) (m : Name × Data) → L ≡ P // m.0 → IsShape o m.0 m.1 x → Fits o (known_of ms) x → StandAt o answers (reads_of x) ns m.1 L → BesideFills o answers ms (takes_of x) P b
+  -- what is made of a shape and nodes at L is made of the part's member, in each object at P that has this plan and where what was taken stands for the neighbours
+  abbrev pub MakesTaking : Shape K R → Path → List N → Taken R N → Path → Planned → Option (KeywordOver K R N) → Type 0
+  MakesTaking x L ns t P q r = (ms : Members) (m : Name × Data) → L ≡ P // m.0 → IsShape o m.0 m.1 x → Fits o (known_of ms) x → StandAt o answers (reads_of x) ns m.1 L → TakenStands o answers ms x P t
       → has_repeat (map (λ m. m.0) (listed ms)) ≡ false → IsMember ms m → q ≡ plan_of ms → is_taken q m.0 ≡ false → IsMadeOf o answers ms m P r
 
   -- it stands behind the keywords before it
-  pub record AppendsTaking (x : Shape K R) (L : Path) (ns : List N) (b : Beside K R N) (P : Path) (q : Planned) (old new : List (KeywordOver K R N)) : Type 0 where
+  pub record AppendsTaking (x : Shape K R) (L : Path) (ns : List N) (t : Taken R N) (P : Path) (q : Planned) (old new : List (KeywordOver K R N)) : Type 0 where
     pub made : Option (KeywordOver K R N)
     pub behind : new ≡ old ++ option_to_list made
-    pub makes : MakesBeside x L ns b P q made
+    pub makes : MakesTaking x L ns t P q made
 
   -- the same of a part that takes nothing
   pub record AppendsAlone (x : Shape K R) (L : Path) (ns : List N) (P : Path) (q : Planned) (old new : List (KeywordOver K R N)) : Type 0 where
     pub made : Option (KeywordOver K R N)
     pub behind : new ≡ old ++ option_to_list made
-    pub makes : takes_of x ≡ None → (b : Beside K R N) → MakesBeside x L ns b P q made
+    pub makes : takes_of x ≡ None → (t : Taken R N) → MakesTaking x L ns t P q made
 
 -- ---- the member m of the schema object with the members ms at P, with the members that it takes
 

@@ -4,9 +4,9 @@ use Rattle.std.specs.List.{flat_map}
 use Rattle.serde_json.specs.Data.{Data, Members}
 use Rattle.olk_spec.specs.Names.{Name, Path, ◌//◌, lookup_name, filter_once}
 use Rattle.olk_spec.specs.Faults.{Fault}
-use Rattle.olk_spec.specs.Vocabulary.{keyword_named}
+use Rattle.olk_spec.specs.Vocabulary.{Keyword, pattern_properties, keyword_named}
 use Rattle.olk_spec.specs.Schemas.{listed, members, is_array}
-use Rattle.olk_spec.specs.Costs.{Cost, cost, total_cost, ◌⊕◌}
+use Rattle.olk_spec.specs.Costs.{Cost, no_cost, cost, total_cost, ◌⊕◌}
 use Rattle.olk_spec.specs.Malformed.{malformations_at}
 use Rattle.olk_base.specs.Count.{Counts}
 use Rattle.olk_reports.specs.declared.error.BuildError.{BuildError}
@@ -14,8 +14,9 @@ use Rattle.olk_base.specs.Kit.{Kit}
 use Rattle.olk_base.specs.declared.pattern.CompiledPattern.{CompiledPattern}
 use Rattle.olk_tree.specs.Answers.{Answers}
 use Rattle.olk_tree.specs.Places.{Stands}
-use Rattle.olk_meaning.specs.Conditions.{Known, IsKnown}
+use Rattle.olk_meaning.specs.Conditions.{Known, known_of, IsKnown}
 use Rattle.olk_meaning.specs.Members.{member_malformations, member_cost}
+use Rattle.olk_meaning.specs.PatternProperties.{names_asked}
 use Rattle.olk_read.specs.Refusing.{Spends, Refuses}
 use Rattle.olk_read.specs.Patterns.{patterns_wrong, patterns_cost}
 use Rattle.olk_make.specs.Holding.{StandEach, StandInner, which, all_malformed}
@@ -99,6 +100,20 @@ module _ {K R : Type 0} (o : Kit K R) where
   module _ (ms : Members) where
     abbrev pub all_cost : List (Name × Data) → Cost
     all_cost es = total_cost (λ m. member_cost o.world ms m (which o ms m)) es
+
+    -- what is counted for a keyword after its part is built: where other members are restricted, each matcher is asked of each declared name
+    abbrev pub later_cost : Data → Keyword → Cost
+    later_cost d pattern_properties = names_asked o.world (known_of ms).declared d
+    later_cost d w = no_cost
+
+    abbrev pub all_later : List (Name × Data) → Cost
+    all_later es = total_cost (λ m. later_cost m.1 (which o ms m)) es
+
+    -- what the members cost is counted, but for that
+    pub record SpendsBefore (es : List (Name × Data)) (old new : Counts) : Type 0 where
+      pub spent : Cost
+      pub exactly : Spends old new spent
+      pub whole : all_cost es ≡ spent ⊕ all_later es
 
     -- keywords for the object
     pub record ObjectIsBuilt {N : Type 0} (answers : N → Answers) (ks : List (KeywordOver K R N)) (P : Path) (old new : Counts) : Type 0 where

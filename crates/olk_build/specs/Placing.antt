@@ -11,7 +11,7 @@ use Rattle.olk_reports.specs.declared.error.BuildError.{BuildError}
 use Rattle.olk_base.specs.Kit.{Kit}
 use Rattle.olk_meaning.specs.Conditions.{Known, known_of, IsKnown}
 use Rattle.olk_read.specs.Refusing.{Spends, Refuses}
-use Rattle.olk_build.specs.Building.{no_lists, each_malformed, each_cost, inner_malformed, inner_cost, all_cost}
+use Rattle.olk_build.specs.Building.{no_lists, each_malformed, each_cost, inner_malformed, inner_cost, SpendsBefore}
 use Rattle.olk_make.specs.Holding.{all_malformed}
 use Rattle.olk_tree.specs.Answers.{Answers}
 use Rattle.olk_read.specs.declared.shape.ReadPlaces.{ReadPlaces}
@@ -48,7 +48,7 @@ module _ {K R : Type 0} (o : Kit K R) where
   pub record PartsAreBuilt {N : Type 0} (answers : N → Answers) (ms : Members) (ps : List (Part K R N)) (es : List (Name × Data)) (P : Path) (old new : Counts) : Type 0 where
     pub stand : PartsStand o answers (known_of ms) ps es P
     pub clean : all_malformed o ms P es ≡ []
-    pub spends : Spends old new (all_cost o ms es)
+    pub spends : SpendsBefore o ms es old new
 
   -- the part of the keyword of the name k and the value d at its place, in each object of whose neighbours c is known as far as the keyword has to know them
   abbrev pub IsPart : {N : Type 0} → (N → Answers) → Part K R N → Known → Name → Data → Path → Counts → Counts → Type 0

@@ -11,14 +11,16 @@ ghost use Rattle.olk_build.specs.Building.{IsMember, IsBuilt, ObjectIsBuilt, Are
 ghost use Rattle.olk_meaning.specs.Conditions.{known, known_of};
 ghost use Rattle.olk_read.specs.Refusing.{TellsOneOf, Spends, SpendsWithin};
 ghost use Rattle.olk_build.specs.Placing.{IsPart, PlacesAreBuilt, RefusesPlaces};
-ghost use Rattle.olk_build.specs.Beside.{takes_of, IsNeighbour, RefusesNeighbour, AreBeside, RefusesBeside, MemberIsBuilt, RefusesMember, GivesMember, Gives};
+ghost use Rattle.olk_build.specs.Beside.{takes_of, IsNeighbour, RefusesNeighbour, IsTaken, RefusesBeside, MemberIsBuilt, RefusesMember, GivesMember, Gives};
 ghost use Rattle.olk_make.specs.Chooser.{has_no_validator, HasForm};
 ghost use Rattle.olk_spec.specs.Vocabulary.{keyword_named};
 
 use crate::context::Context;
-use crate::taking::{Beside, append_alone, append_taking, is_taken, make_taking, takes, takes_any};
+use crate::taking::{
+    append_alone, append_taking, is_taken, make_taking, take, take_nothing, takes, takes_any,
+};
 use olk_base::{MakeLeaf, MakeRegex, Meter, append, append_all, one};
-use olk_make::Part;
+use olk_make::{Part, Taken};
 use olk_meaning::{Neighbours, Plan};
 use olk_paths::Location;
 use olk_read::{Makers, ReadPlaces, Shape, Stop, read_keyword, refuse};
@@ -95,8 +97,8 @@ fn compile_object<'a, L: MakeLeaf, M: MakeRegex, N: BuiltNode<L::Leaf, M::Engine
             let location = place.join(alloc, name)?;
             let part = compile_part(alloc, makers, meter, neighbours, location, name, value)?;
             if takes_any(&part.shape) {
-                let beside = compile_beside(alloc, makers, meter, place, members, &part.shape)?;
-                append_taking(alloc, plan, place, part, beside, &mut keywords)?;
+                let taken = compile_beside(alloc, makers, meter, place, members, &part.shape)?;
+                append_taking(alloc, plan, place, part, taken, &mut keywords)?;
             } else {
                 append_alone(alloc, plan, place, part, &mut keywords)?;
             }
@@ -105,8 +107,8 @@ fn compile_object<'a, L: MakeLeaf, M: MakeRegex, N: BuiltNode<L::Leaf, M::Engine
     Ok(keywords)
 }
 
-/// The parts of the two neighbours that the keyword of a part of this shape takes, as far as they
-/// are there.
+/// What the keyword of a part of this shape takes of two neighbours, as far as they are there. Where
+/// it takes patterns, each is asked once of each name that is declared beside them.
 ///
 /// # Errors
 ///
@@ -119,10 +121,9 @@ fn compile_beside<'a, L: MakeLeaf, M: MakeRegex, N: BuiltNode<L::Leaf, M::Engine
     place: &Location,
     members: &'a Map<String, Value>,
     shape: &Shape<L::Leaf, M::Engine>,
-) -> Result<Beside<L::Leaf, M::Engine, N>, Stop<'a>>
-    ensures built { IfOk result (AreBeside (kit L.Leaf.Leaf M.Engine.RegexEngine) N.answers
-        (members_view members.now.entries) (takes_of shape.now)
-        place.now meter.old meter.new) }
+) -> Result<Taken<M::Engine, N>, Stop<'a>>
+    ensures built { IfOk result (IsTaken (kit L.Leaf.Leaf M.Engine.RegexEngine) N.answers
+        (members_view members.now.entries) shape.now place.now meter.old meter.new) }
     ensures refused { IfErr result (RefusesBeside (kit L.Leaf.Leaf M.Engine.RegexEngine)
         (members_view members.now.entries) (takes_of shape.now)
         place.now meter.old meter.new) }
@@ -131,12 +132,10 @@ fn compile_beside<'a, L: MakeLeaf, M: MakeRegex, N: BuiltNode<L::Leaf, M::Engine
         Some((first, second)) => {
             let first = compile_neighbour(alloc, makers, meter, place, members, first)?;
             let second = compile_neighbour(alloc, makers, meter, place, members, second)?;
-            Ok(Beside { first, second })
+            let neighbours = Neighbours::of(members);
+            Ok(take(alloc, meter, neighbours, shape, first, second)?)
         }
-        None => Ok(Beside {
-            first: None,
-            second: None,
-        }),
+        None => Ok(take_nothing()),
     }
 }
 
@@ -387,7 +386,7 @@ fn compile_member<'a, L: MakeLeaf, M: MakeRegex, N: BuiltNode<L::Leaf, M::Engine
         name,
         value,
     )?;
-    let beside = compile_beside(
+    let taken = compile_beside(
         alloc,
         &ctx.makers,
         ctx.meter,
@@ -395,7 +394,7 @@ fn compile_member<'a, L: MakeLeaf, M: MakeRegex, N: BuiltNode<L::Leaf, M::Engine
         parent,
         &part.shape,
     )?;
-    let keyword = make_taking(alloc, plan, &ctx.place, part, beside)?;
+    let keyword = make_taking(alloc, plan, &ctx.place, part, taken)?;
     Ok(keyword)
 }
 

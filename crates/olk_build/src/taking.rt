@@ -1,25 +1,22 @@
 //! What a keyword takes from its neighbours' parts, and the keyword that is made with it.
-ghost use Rattle.std.specs.Prelude.{◌≡◌, IfOk, OnOk, is_some, option_map};
+ghost use Rattle.std.specs.Prelude.{◌≡◌, ◌*◌, IfOk, OnOk, OnErr, is_some, length, map, option_map};
 ghost use Rattle.olk_base.specs.Kit.{kit};
+ghost use Rattle.olk_meaning.specs.Conditions.{known};
 ghost use Rattle.olk_meaning.specs.Plans.{planned};
+ghost use Rattle.olk_tree.specs.Tables.{patterns_of, IsTableOf, how_many_cost, count_asks, AsksAtMost};
 ghost use Rattle.olk_make.specs.Standing.{is_taken};
-ghost use Rattle.olk_build.specs.Beside.{takes_of, IsNode, IsDeclared, IsPatterns, TakenBy, MakesBeside, AppendsTaking, AppendsAlone};
+ghost use Rattle.olk_build.specs.Beside.{takes_of, IsNode, IsDeclared, IsPatterns, asks_of, asks_taken, TakenBy, MakesTaking, AppendsTaking, AppendsAlone};
 
-use olk_base::{Leaf, RegexEngine, append};
-use olk_make::{Cases, DeclaredNodes, Part, Patterns, Taken, make_keyword};
-use olk_meaning::Plan;
+use olk_base::{CompiledPattern, Leaf, Meter, RegexEngine, append};
+use olk_make::pattern_properties::with_nodes;
+use olk_make::{Beside, Cases, DeclaredNodes, Part, Patterns, Taken, make_keyword};
+use olk_meaning::{Neighbours, Plan};
 use olk_paths::Location;
 use olk_read::Shape;
 use olk_tree::built_node::BuiltNode;
 use olk_tree::node::KeywordOver;
+use olk_tree::pattern_table::{PatternTable, precompute_property_pattern_indices};
 use std::alloc::{AllocError, Global};
-
-/// The parts of the two neighbours that a keyword takes, as far as they are there.
-#[derive(Drop)]
-pub struct Beside<K, R, N> {
-    pub first: Option<Part<K, R, N>>,
-    pub second: Option<Part<K, R, N>>,
-}
 
 /// Whether another keyword takes what the keyword of this name holds.
 pub fn is_taken(plan: Plan<'_>, name: &str) -> bool
@@ -80,51 +77,115 @@ fn declared_of<K: Drop, R: Drop, N: Drop>(part: Option<Part<K, R, N>>) -> Option
     }
 }
 
-/// What a part of `patternProperties` holds.
-fn patterns_of<K: Drop, R: Drop, N: Drop>(part: Option<Part<K, R, N>>) -> Option<Patterns<R, N>>
-    ensures { IsPatterns part result }
+/// What patterns say of the names that are declared beside them where other members are restricted;
+/// each is asked once of each name. A table of no names elsewhere.
+///
+/// # Errors
+///
+/// Out of memory. No more is counted then.
+fn table_of_declared<R: RegexEngine, N>(
+    alloc: Global,
+    meter: &mut Meter,
+    neighbours: Neighbours<'_>,
+    patterns: &[(CompiledPattern<R>, N)],
+) -> Result<PatternTable, AllocError>
+    ensures names { IfOk result (λ t. t.names
+        ≡ map (λ e. e.0) (known neighbours.entry).declared) }
+    ensures answers { IfOk result (IsTableOf R.answers (patterns_of patterns.now)) }
+    ensures asked { OnOk result (meter.new ≡ count_asks
+        (length (known neighbours.entry).declared * how_many_cost R.costs (patterns_of patterns.now))
+        meter.old) }
+    ensures asked_at_most { OnErr result (AsksAtMost
+        (length (known neighbours.entry).declared * how_many_cost R.costs (patterns_of patterns.now))
+        meter.old meter.new) }
 {
+    match neighbours.declared() {
+        Some(properties) => precompute_property_pattern_indices(alloc, properties, patterns, meter),
+        None => Ok(PatternTable::none(alloc)),
+    }
+}
+
+/// What a part of `patternProperties` holds, and what its patterns say of the names that are
+/// declared beside it.
+///
+/// # Errors
+///
+/// Out of memory. No more is counted then.
+fn patterns_of<K: Drop, R: RegexEngine, N: Drop>(
+    alloc: Global,
+    meter: &mut Meter,
+    neighbours: Neighbours<'_>,
+    part: Option<Part<K, R, N>>,
+) -> Result<Option<Patterns<R, N>>, AllocError>
+    ensures patterns { IfOk result (IsPatterns R.answers (known neighbours.entry) part) }
+    ensures asked { OnOk result (meter.new ≡ count_asks
+        (asks_of R.costs (known neighbours.entry) part) meter.old) }
+    ensures asked_at_most { OnErr result (AsksAtMost
+        (asks_of R.costs (known neighbours.entry) part) meter.old meter.new) }
+{
+    let Some(part) = part else {
+        return Ok(None);
+    };
     let Part {
         location,
         shape,
         nodes,
-    } = part?;
+    } = part;
     match shape {
-        Shape::PatternProperties(patterns, table) => Some(Patterns {
-            location,
-            patterns,
-            table,
-            nodes,
-        }),
-        _ => None,
+        Shape::PatternProperties(patterns) => {
+            let patterns = with_nodes(alloc, patterns, nodes)?;
+            let table = table_of_declared(alloc, meter, neighbours, patterns.as_slice())?;
+            Ok(Some(Patterns {
+                location,
+                patterns,
+                table,
+            }))
+        }
+        _ => Ok(None),
     }
 }
 
-/// What a keyword of this shape takes from its neighbours' parts.
-fn taken_of<K: Drop, R: Drop, N: Drop>(shape: &Shape<K, R>, beside: Beside<K, R, N>) -> Taken<R, N>
-    ensures { TakenBy shape.now beside result }
+/// What a keyword of this shape takes from its neighbours' parts, as far as they are there. Where it
+/// takes patterns, each is asked once of each name that is declared beside them.
+///
+/// # Errors
+///
+/// Out of memory. No more is counted then.
+pub fn take<K: Drop, R: RegexEngine, N: Drop>(
+    alloc: Global,
+    meter: &mut Meter,
+    neighbours: Neighbours<'_>,
+    shape: &Shape<K, R>,
+    first: Option<Part<K, R, N>>,
+    second: Option<Part<K, R, N>>,
+) -> Result<Taken<R, N>, AllocError>
+    ensures taken { IfOk result (TakenBy R.answers (known neighbours.entry)
+        shape.now first second) }
+    ensures asked { OnOk result (meter.new ≡ count_asks
+        (asks_taken R.costs (known neighbours.entry) shape.now second) meter.old) }
+    ensures asked_at_most { OnErr result (AsksAtMost
+        (asks_taken R.costs (known neighbours.entry) shape.now second) meter.old meter.new) }
 {
-    let Beside { first, second } = beside;
     match shape {
-        Shape::If => Taken {
+        Shape::If => Ok(Taken {
             cases: Cases {
                 then_schema: node_of(first),
                 else_schema: node_of(second),
             },
-            beside: olk_make::Beside::none(),
-        },
-        _ => Taken {
+            beside: Beside::none(),
+        }),
+        _ => Ok(Taken {
             cases: Cases::none(),
-            beside: olk_make::Beside {
+            beside: Beside {
                 properties: declared_of(first),
-                patterns: patterns_of(second),
+                patterns: patterns_of(alloc, meter, neighbours, second)?,
             },
-        },
+        }),
     }
 }
 
-/// The keyword of a part, with what it takes from its neighbours' parts, if it is read and the plan
-/// names no other for it.
+/// The keyword of a part, with what was taken for it, if it is read and the plan names no other for
+/// it.
 ///
 /// # Errors
 ///
@@ -134,18 +195,17 @@ pub fn make_taking<K: Leaf, R: RegexEngine, N: BuiltNode<K, R>>(
     plan: Plan<'_>,
     place: &Location,
     part: Part<K, R, N>,
-    beside: Beside<K, R, N>,
+    mut taken: Taken<R, N>,
 ) -> Result<Option<KeywordOver<K, R, N>>, AllocError>
-    ensures { IfOk result (MakesBeside (kit K.Leaf R.RegexEngine) N.answers part.shape
-        part.location part.nodes.items beside place.now (planned plan.entry)) }
+    ensures { IfOk result (MakesTaking (kit K.Leaf R.RegexEngine) N.answers part.shape
+        part.location part.nodes.items taken place.now (planned plan.entry)) }
 {
-    let mut taken = taken_of(&part.shape, beside);
     let keyword = make_keyword(alloc, plan, place, &mut taken, part)?;
     Ok(keyword)
 }
 
-/// Appends the keyword of a part, with what it takes from its neighbours' parts, if it is read and
-/// the plan names no other for it.
+/// Appends the keyword of a part, with what was taken for it, if it is read and the plan names no
+/// other for it.
 ///
 /// # Errors
 ///
@@ -156,24 +216,24 @@ pub fn append_taking<K: Leaf, R: RegexEngine, N: BuiltNode<K, R>>(
     plan: Plan<'_>,
     place: &Location,
     part: Part<K, R, N>,
-    beside: Beside<K, R, N>,
+    taken: Taken<R, N>,
     keywords: &mut Vec<KeywordOver<K, R, N>>,
 ) -> Result<(), AllocError>
     ensures { OnOk result (AppendsTaking (kit K.Leaf R.RegexEngine) N.answers part.shape
-        part.location part.nodes.items beside place.now (planned plan.entry)
+        part.location part.nodes.items taken place.now (planned plan.entry)
         keywords.old.items keywords.new.items) }
 {
-    match make_taking(alloc, plan, place, part, beside)? {
+    match make_taking(alloc, plan, place, part, taken)? {
         Some(keyword) => append(keywords, keyword),
         None => Ok(()),
     }
 }
 
 /// What is taken where nothing is.
-fn take_nothing<R, N>() -> Taken<R, N> {
+pub fn take_nothing<R, N>() -> Taken<R, N> {
     Taken {
         cases: Cases::none(),
-        beside: olk_make::Beside::none(),
+        beside: Beside::none(),
     }
 }
 

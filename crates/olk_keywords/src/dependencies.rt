@@ -5,7 +5,7 @@ ghost use Rattle.serde_json.specs.View.{view, members_view};
 ghost use Rattle.olk_spec.specs.Schemas.{members};
 ghost use Rattle.olk_paths.specs.Paths.{one_below};
 ghost use Rattle.olk_base.specs.Kit.{kit};
-ghost use Rattle.olk_make.specs.Forms.{IsDependencies};
+ghost use Rattle.olk_make.specs.Forms.{IsDependencies, IsDependentRequired, IsDependentSchemas};
 ghost use Rattle.olk_build.specs.Building.{IsMember};
 ghost use Rattle.olk_build.specs.Beside.{GivesMember, Gives};
 
@@ -68,7 +68,7 @@ pub fn compile_dependent_required<'a, L: MakeLeaf, M: MakeRegex, N: BuiltNode<L:
         ctx.old.place ctx.old.meter.now ctx.new.meter.now N.answers result }
     ensures form { Gives (members_view parent.now.entries)
         (codes "dependentRequired", view schema.now) result
-        (IsDependencies (one_below ctx.old.place (codes "dependentRequired"))
+        (IsDependentRequired (one_below ctx.old.place (codes "dependentRequired"))
         (map (λ e. e.0) (members (view schema.now)))) }
     ensures always { IsMember (members_view parent.now.entries)
         (codes "dependentRequired", view schema.now)
@@ -99,7 +99,7 @@ pub fn compile_dependent_schemas<'a, L: MakeLeaf, M: MakeRegex, N: BuiltNode<L::
         ctx.old.place ctx.old.meter.now ctx.new.meter.now N.answers result }
     ensures form { Gives (members_view parent.now.entries)
         (codes "dependentSchemas", view schema.now) result
-        (IsDependencies (one_below ctx.old.place (codes "dependentSchemas"))
+        (IsDependentSchemas (one_below ctx.old.place (codes "dependentSchemas"))
         (map (λ e. e.0) (members (view schema.now)))) }
     ensures always { IsMember (members_view parent.now.entries)
         (codes "dependentSchemas", view schema.now)

@@ -5,7 +5,6 @@ ghost use Rattle.serde_json.specs.View.{view, members_view};
 ghost use Rattle.olk_spec.specs.Schemas.{listed, members};
 ghost use Rattle.olk_paths.specs.Paths.{one_below};
 ghost use Rattle.olk_base.specs.Kit.{kit};
-ghost use Rattle.olk_tree.specs.Maps.{keys_in, nodes_in};
 ghost use Rattle.olk_make.specs.Forms.{IsProperties};
 ghost use Rattle.olk_meaning.specs.Conditions.{is_restricted};
 ghost use Rattle.olk_meaning.specs.Plans.{plan_of};
@@ -18,8 +17,8 @@ use olk_meaning::is_restricted;
 use olk_reports::BuildError;
 use olk_tree::big_map::BigMap;
 use olk_tree::built_node::BuiltNode;
-use olk_tree::entries::SortedEntries;
-use olk_tree::map::{SmallMap, SortedNames};
+use olk_tree::map::SmallMap;
+use olk_tree::names::SortedNames;
 use olk_tree::node::KeywordOver;
 use serde_json::{Map, Value};
 use std::alloc::Global;
@@ -78,10 +77,10 @@ pub fn compile_small_map<'a, L: MakeLeaf, M: MakeRegex, N: BuiltNode<L::Leaf, M:
     ctx: &mut Context<'_, L, M>,
     properties: &'a Map<String, Value>,
 ) -> Result<SmallMap<N>, BuildError<'a>>
-    ensures names { IfOk result (λ m. keys_in m.entries
+    ensures names { IfOk result (λ m. m.names
         ≡ map (λ e. e.0) (listed (members_view properties.now.entries))) }
     ensures built { IfOk result (λ m. AreBuilt (kit L.Leaf.Leaf M.Engine.RegexEngine) N.answers
-        (nodes_in m.entries) (listed (members_view properties.now.entries))
+        m.nodes.items (listed (members_view properties.now.entries))
         (one_below ctx.old.place (codes "properties")) ctx.old.meter.now ctx.new.meter.now) }
     ensures refused { IfErr result (RefusesEach (kit L.Leaf.Leaf M.Engine.RegexEngine)
         (listed (members_view properties.now.entries))
@@ -91,8 +90,7 @@ pub fn compile_small_map<'a, L: MakeLeaf, M: MakeRegex, N: BuiltNode<L::Leaf, M:
 {
     let names = SortedNames::of(alloc, properties)?;
     let nodes = compile_declared(alloc, ctx, "properties", properties)?;
-    let entries = SortedEntries::of(alloc, names, nodes)?;
-    Ok(SmallMap { entries })
+    Ok(SmallMap { names, nodes })
 }
 
 /// The names and nodes that [`compile_small_map`] gives, in a map of many.
@@ -108,10 +106,10 @@ pub fn compile_big_map<'a, L: MakeLeaf, M: MakeRegex, N: BuiltNode<L::Leaf, M::E
     ctx: &mut Context<'_, L, M>,
     properties: &'a Map<String, Value>,
 ) -> Result<BigMap<N>, BuildError<'a>>
-    ensures names { IfOk result (λ m. keys_in m.entries
+    ensures names { IfOk result (λ m. m.names
         ≡ map (λ e. e.0) (listed (members_view properties.now.entries))) }
     ensures built { IfOk result (λ m. AreBuilt (kit L.Leaf.Leaf M.Engine.RegexEngine) N.answers
-        (nodes_in m.entries) (listed (members_view properties.now.entries))
+        m.nodes.items (listed (members_view properties.now.entries))
         (one_below ctx.old.place (codes "properties")) ctx.old.meter.now ctx.new.meter.now) }
     ensures refused { IfErr result (RefusesEach (kit L.Leaf.Leaf M.Engine.RegexEngine)
         (listed (members_view properties.now.entries))
@@ -119,6 +117,6 @@ pub fn compile_big_map<'a, L: MakeLeaf, M: MakeRegex, N: BuiltNode<L::Leaf, M::E
     ensures place { ctx.new.place ≡ ctx.old.place }
     ensures same_meter { ctx.new.meter.ghost_name ≡ ctx.old.meter.ghost_name }
 {
-    let SmallMap { entries } = compile_small_map(alloc, ctx, properties)?;
-    Ok(BigMap { entries })
+    let SmallMap { names, nodes } = compile_small_map(alloc, ctx, properties)?;
+    Ok(BigMap { names, nodes })
 }

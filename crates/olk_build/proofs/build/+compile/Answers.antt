@@ -25,7 +25,8 @@ use Rattle.std.proofs.Common.{Some, None}
 use Rattle.olk_meaning.specs.Plans.{planned}
 use Rattle.olk_make.specs.Standing.{is_taken}
 use Rattle.olk_build.proofs.Found.{member_lookup}
-use Rattle.olk_build.proofs.Neighbouring.{neighbour_refused, no_neighbour, neighbour_built, both_beside, first_beside_refused, second_beside_refused}
+use Rattle.olk_build.proofs.Neighbouring.{neighbour_refused, no_neighbour, neighbour_built, first_beside_refused, second_beside_refused}
+use Rattle.olk_build.proofs.Taken.{takes_nothing, both_taken, taking_memory}
 use Rattle.olk_build.proofs.Keywords.{no_keywords_so_far, keywords_memory, object_is_built, next_found, next_taken, next_refused, one_more}
 use Rattle.olk_build.proofs.Member.{part_refused, beside_refused, read_memory, member_built, taken_built, alone_memory, alone_built}
 use Rattle.olk_build.proofs.build.+compile.Goals as goal
@@ -254,9 +255,18 @@ pub compile_beside-returns-in_err-second-in-Some-clause-refused : goal.compile_b
 compile_beside-returns-in_err-second-in-Some-clause-refused g t c =
     exit_with _ _ _ c.from_residual-in_err-second-in-Some.ensures.1 (second_beside_refused _ _ _ (sym c.in-Some.ensures) c.in_ok-first-in-Some.ensures.built c.in_err-second-in-Some.ensures.refused)
 
-pub compile_beside-returns-in_ok-second-in-Some-clause-built : goal.compile_beside-returns-in_ok-second-in-Some-clause-built
-compile_beside-returns-in_ok-second-in-Some-clause-built g t c =
-    both_beside (sym c.in-Some.ensures) c.in_ok-first-in-Some.ensures.built c.in_ok-second-in-Some.ensures.built
+pub compile_beside-returns-in_err-take-in-Some-clause-refused : goal.compile_beside-returns-in_err-take-in-Some-clause-refused
+compile_beside-returns-in_err-take-in-Some-clause-refused g t c =
+    exit _ _ _ c.from_residual-in_err-take-in-Some.ensures.1
+    (taking_memory c.args.shape.now (sym c.in-Some.ensures) c.in_ok-first-in-Some.ensures.built c.in_ok-second-in-Some.ensures.built c.of-neighbours.ensures c.in_err-take-in-Some.ensures.asked_at_most)
+
+pub compile_beside-returns-in_ok-take-in-Some-clause-built : goal.compile_beside-returns-in_ok-take-in-Some-clause-built
+compile_beside-returns-in_ok-take-in-Some-clause-built g t c =
+    both_taken c.args.shape.now (sym c.in-Some.ensures) c.in_ok-first-in-Some.ensures.built c.in_ok-second-in-Some.ensures.built
+    c.of-neighbours.ensures c.in_ok-take-in-Some.ensures.taken c.in_ok-take-in-Some.ensures.asked
+
+pub compile_beside-returns-in-None-clause-built : goal.compile_beside-returns-in-None-clause-built
+compile_beside-returns-in-None-clause-built g t c = takes_nothing (sym c.in-None.ensures)
 
 pub compile_neighbour-returns-in_err-location-in-Some-clause-refused : goal.compile_neighbour-returns-in_err-location-in-Some-clause-refused
 compile_neighbour-returns-in_err-location-in-Some-clause-refused g t c =
@@ -298,14 +308,14 @@ pub compile_object-returns-in_err-part-clause-refused : goal.compile_object-retu
 compile_object-returns-in_err-part-clause-refused g t c =
     exit_with _ _ _ c.from_residual-in_err-part.ensures.1 (next_refused c.loop-name.invariant.so_far (listed_alike c.in-Some.ensures.steps) (part_refused (kit g.L.Leaf.Leaf g.M.Engine.RegexEngine) g.N.BuiltNode.answers (members_view c.args.members.now.entries) c.args.place.now _ _ _ (next_taken c.loop-name.invariant.so_far (listed_alike c.in-Some.ensures.steps) (subst (λ x. c.is_taken.result ≡ is_taken (planned c.of-plan.result) x) c.as_str-name.ensures.value c.is_taken.ensures) c.if-not-is_taken.true) (next_found c.loop-name.invariant.so_far (listed_alike c.in-Some.ensures.steps)) c.of-neighbours.ensures (below _ c.in_ok-location.ensures c.as_str-name.ensures.value) c.as_str-name.ensures.value c.in_err-part.ensures.refused))
 
-pub compile_object-returns-in_err-beside-clause-refused : goal.compile_object-returns-in_err-beside-clause-refused
-compile_object-returns-in_err-beside-clause-refused g t c =
-    exit_with _ _ _ c.from_residual-in_err-beside.ensures.1 (next_refused c.loop-name.invariant.so_far (listed_alike c.in-Some.ensures.steps) (beside_refused (kit g.L.Leaf.Leaf g.M.Engine.RegexEngine) g.N.BuiltNode.answers (members_view c.args.members.now.entries) c.args.place.now _ _ _ (next_taken c.loop-name.invariant.so_far (listed_alike c.in-Some.ensures.steps) (subst (λ x. c.is_taken.result ≡ is_taken (planned c.of-plan.result) x) c.as_str-name.ensures.value c.is_taken.ensures) c.if-not-is_taken.true) (next_found c.loop-name.invariant.so_far (listed_alike c.in-Some.ensures.steps)) c.of-neighbours.ensures (below _ c.in_ok-location.ensures c.as_str-name.ensures.value) c.as_str-name.ensures.value c.in_ok-part.ensures.built c.in_err-beside.ensures.refused))
+pub compile_object-returns-in_err-taken-clause-refused : goal.compile_object-returns-in_err-taken-clause-refused
+compile_object-returns-in_err-taken-clause-refused g t c =
+    exit_with _ _ _ c.from_residual-in_err-taken.ensures.1 (next_refused c.loop-name.invariant.so_far (listed_alike c.in-Some.ensures.steps) (beside_refused (kit g.L.Leaf.Leaf g.M.Engine.RegexEngine) g.N.BuiltNode.answers (members_view c.args.members.now.entries) c.args.place.now _ _ _ (next_taken c.loop-name.invariant.so_far (listed_alike c.in-Some.ensures.steps) (subst (λ x. c.is_taken.result ≡ is_taken (planned c.of-plan.result) x) c.as_str-name.ensures.value c.is_taken.ensures) c.if-not-is_taken.true) (next_found c.loop-name.invariant.so_far (listed_alike c.in-Some.ensures.steps)) c.of-neighbours.ensures (below _ c.in_ok-location.ensures c.as_str-name.ensures.value) c.as_str-name.ensures.value c.in_ok-part.ensures.built c.in_err-taken.ensures.refused))
 
 pub compile_object-loop-name-preserved-in-Continue-branch-5 : goal.compile_object-loop-name-preserved-in-Continue-branch-5
 compile_object-loop-name-preserved-in-Continue-branch-5 g t c =
     record {
-      so_far = one_more c.loop-name.invariant.so_far (listed_alike c.in-Some.ensures.steps) (member_built (kit g.L.Leaf.Leaf g.M.Engine.RegexEngine) g.N.BuiltNode.answers (members_view c.args.members.now.entries) c.args.place.now _ _ _ (next_taken c.loop-name.invariant.so_far (listed_alike c.in-Some.ensures.steps) (subst (λ x. c.is_taken.result ≡ is_taken (planned c.of-plan.result) x) c.as_str-name.ensures.value c.is_taken.ensures) c.if-not-is_taken.true) (next_found c.loop-name.invariant.so_far (listed_alike c.in-Some.ensures.steps)) c.of-neighbours.ensures (below _ c.in_ok-location.ensures c.as_str-name.ensures.value) c.as_str-name.ensures.value c.in_ok-part.ensures.built c.in_ok-beside.ensures.built c.loop-name.invariant.so_far.distinct c.loop-name.invariant.so_far.plan c.in_ok-append_taking.ensures.makes) c.in_ok-append_taking.ensures.behind;
+      so_far = one_more c.loop-name.invariant.so_far (listed_alike c.in-Some.ensures.steps) (member_built (kit g.L.Leaf.Leaf g.M.Engine.RegexEngine) g.N.BuiltNode.answers (members_view c.args.members.now.entries) c.args.place.now _ _ _ (next_taken c.loop-name.invariant.so_far (listed_alike c.in-Some.ensures.steps) (subst (λ x. c.is_taken.result ≡ is_taken (planned c.of-plan.result) x) c.as_str-name.ensures.value c.is_taken.ensures) c.if-not-is_taken.true) (next_found c.loop-name.invariant.so_far (listed_alike c.in-Some.ensures.steps)) c.of-neighbours.ensures (below _ c.in_ok-location.ensures c.as_str-name.ensures.value) c.as_str-name.ensures.value c.in_ok-part.ensures.built c.in_ok-taken.ensures.built c.loop-name.invariant.so_far.distinct c.loop-name.invariant.so_far.plan c.in_ok-append_taking.ensures.makes) c.in_ok-append_taking.ensures.behind;
       before = c.loop-name.invariant.before ++ (c.in-Some.name.now, c.in-Some.value.now) ∷ [];
       entries = append_assoc c.loop-name.invariant.before ((c.in-Some.name.now, c.in-Some.value.now) ∷ []) c.next.new.self
           ∙ ap (λ l. c.loop-name.invariant.before ++ l) (sym c.in-Some.ensures.steps) ∙ c.loop-name.invariant.entries;
@@ -315,7 +325,7 @@ compile_object-loop-name-preserved-in-Continue-branch-5 g t c =
 
 pub compile_object-returns-in_err-append_taking-clause-refused : goal.compile_object-returns-in_err-append_taking-clause-refused
 compile_object-returns-in_err-append_taking-clause-refused g t c =
-    exit _ _ _ c.from_residual-in_err-append_taking.ensures.1 (λ e q. next_refused c.loop-name.invariant.so_far (listed_alike c.in-Some.ensures.steps) (read_memory (kit g.L.Leaf.Leaf g.M.Engine.RegexEngine) g.N.BuiltNode.answers (members_view c.args.members.now.entries) c.args.place.now _ _ _ (next_taken c.loop-name.invariant.so_far (listed_alike c.in-Some.ensures.steps) (subst (λ x. c.is_taken.result ≡ is_taken (planned c.of-plan.result) x) c.as_str-name.ensures.value c.is_taken.ensures) c.if-not-is_taken.true) (next_found c.loop-name.invariant.so_far (listed_alike c.in-Some.ensures.steps)) c.of-neighbours.ensures (below _ c.in_ok-location.ensures c.as_str-name.ensures.value) c.as_str-name.ensures.value c.in_ok-part.ensures.built c.in_ok-beside.ensures.built e q))
+    exit _ _ _ c.from_residual-in_err-append_taking.ensures.1 (λ e q. next_refused c.loop-name.invariant.so_far (listed_alike c.in-Some.ensures.steps) (read_memory (kit g.L.Leaf.Leaf g.M.Engine.RegexEngine) g.N.BuiltNode.answers (members_view c.args.members.now.entries) c.args.place.now _ _ _ (next_taken c.loop-name.invariant.so_far (listed_alike c.in-Some.ensures.steps) (subst (λ x. c.is_taken.result ≡ is_taken (planned c.of-plan.result) x) c.as_str-name.ensures.value c.is_taken.ensures) c.if-not-is_taken.true) (next_found c.loop-name.invariant.so_far (listed_alike c.in-Some.ensures.steps)) c.of-neighbours.ensures (below _ c.in_ok-location.ensures c.as_str-name.ensures.value) c.as_str-name.ensures.value c.in_ok-part.ensures.built c.in_ok-taken.ensures.built e q))
 
 pub compile_object-returns-in_err-append_alone-clause-refused : goal.compile_object-returns-in_err-append_alone-clause-refused
 compile_object-returns-in_err-append_alone-clause-refused g t c =

@@ -20,17 +20,17 @@ returns-in_err-part-clause-refused g c member =
     exit _ _ _ c.from_residual-in_err-part.ensures.1 (λ e q. part_refused (kit g.L.Leaf.Leaf g.M.Engine.RegexEngine) g.N.BuiltNode.answers (members_view c.args.parent.now.entries) c.args.ctx.now.place c.args.name.now (view c.args.value.now) c.args.ctx.now.meter.now
     (ap (λ p. is_taken p c.args.name.now) (sym c.of-plan.ensures.plan) ∙ sym c.is_taken.ensures ∙ c.if-is_taken.false) member c.of-neighbours.ensures c.in_ok-location.ensures refl (rw q c.in_err-part.ensures.refused))
 
-pub returns-in_err-beside-clause-refused : goal.returns-in_err-beside-clause-refused
-returns-in_err-beside-clause-refused g c member =
-    exit _ _ _ c.from_residual-in_err-beside.ensures.1 (λ e q. beside_refused (kit g.L.Leaf.Leaf g.M.Engine.RegexEngine) g.N.BuiltNode.answers (members_view c.args.parent.now.entries) c.args.ctx.now.place c.args.name.now (view c.args.value.now) c.args.ctx.now.meter.now
-    (ap (λ p. is_taken p c.args.name.now) (sym c.of-plan.ensures.plan) ∙ sym c.is_taken.ensures ∙ c.if-is_taken.false) member c.of-neighbours.ensures c.in_ok-location.ensures refl c.in_ok-part.ensures.built (rw q c.in_err-beside.ensures.refused))
+pub returns-in_err-taken-clause-refused : goal.returns-in_err-taken-clause-refused
+returns-in_err-taken-clause-refused g c member =
+    exit _ _ _ c.from_residual-in_err-taken.ensures.1 (λ e q. beside_refused (kit g.L.Leaf.Leaf g.M.Engine.RegexEngine) g.N.BuiltNode.answers (members_view c.args.parent.now.entries) c.args.ctx.now.place c.args.name.now (view c.args.value.now) c.args.ctx.now.meter.now
+    (ap (λ p. is_taken p c.args.name.now) (sym c.of-plan.ensures.plan) ∙ sym c.is_taken.ensures ∙ c.if-is_taken.false) member c.of-neighbours.ensures c.in_ok-location.ensures refl c.in_ok-part.ensures.built (rw q c.in_err-taken.ensures.refused))
 
 pub returns-in_err-keyword-clause-refused : goal.returns-in_err-keyword-clause-refused
 returns-in_err-keyword-clause-refused g c member =
     exit _ _ _ c.from_residual-in_err-keyword.ensures.1 (read_memory (kit g.L.Leaf.Leaf g.M.Engine.RegexEngine) g.N.BuiltNode.answers (members_view c.args.parent.now.entries) c.args.ctx.now.place c.args.name.now (view c.args.value.now) c.args.ctx.now.meter.now
-    (ap (λ p. is_taken p c.args.name.now) (sym c.of-plan.ensures.plan) ∙ sym c.is_taken.ensures ∙ c.if-is_taken.false) member c.of-neighbours.ensures c.in_ok-location.ensures refl c.in_ok-part.ensures.built c.in_ok-beside.ensures.built)
+    (ap (λ p. is_taken p c.args.name.now) (sym c.of-plan.ensures.plan) ∙ sym c.is_taken.ensures ∙ c.if-is_taken.false) member c.of-neighbours.ensures c.in_ok-location.ensures refl c.in_ok-part.ensures.built c.in_ok-taken.ensures.built)
 
 pub returns-clause-built : goal.returns-clause-built
 returns-clause-built g c member =
     member_built (kit g.L.Leaf.Leaf g.M.Engine.RegexEngine) g.N.BuiltNode.answers (members_view c.args.parent.now.entries) c.args.ctx.now.place c.args.name.now (view c.args.value.now) c.args.ctx.now.meter.now
-    (ap (λ p. is_taken p c.args.name.now) (sym c.of-plan.ensures.plan) ∙ sym c.is_taken.ensures ∙ c.if-is_taken.false) member c.of-neighbours.ensures c.in_ok-location.ensures refl c.in_ok-part.ensures.built c.in_ok-beside.ensures.built c.of-plan.ensures.distinct c.of-plan.ensures.plan c.in_ok-keyword.ensures
+    (ap (λ p. is_taken p c.args.name.now) (sym c.of-plan.ensures.plan) ∙ sym c.is_taken.ensures ∙ c.if-is_taken.false) member c.of-neighbours.ensures c.in_ok-location.ensures refl c.in_ok-part.ensures.built c.in_ok-taken.ensures.built c.of-plan.ensures.distinct c.of-plan.ensures.plan c.in_ok-keyword.ensures

@@ -1,7 +1,7 @@
 use Rattle.olk_base.specs.Kit.{kit}
-use Rattle.olk_build.proofs.Appending.{makes_beside}
+use Rattle.olk_build.proofs.Appending.{makes_taking}
 use Rattle.olk_build.proofs.taking.make_taking.Goals as goal
 
 pub returns : goal.returns
 returns g c =
-    makes_beside (kit g.K.Leaf g.R.RegexEngine) g.N.BuiltNode.answers c.args.part.shape c.args.part.nodes.items c.taken_of-taken.result c.in_ok-keyword.ensures.makes c.in_ok-keyword.ensures.form c.args.beside c.taken_of-taken.ensures
+    makes_taking (kit g.K.Leaf g.R.RegexEngine) g.N.BuiltNode.answers c.args.part.shape c.args.part.nodes.items c.args.taken c.in_ok-keyword.ensures.makes c.in_ok-keyword.ensures.form
