@@ -1,5 +1,5 @@
 -- A bit that is set in a list of words.
-use Rattle.std.proofs.Common.{◌≡◌, ℕ, ◌*◌, ◌/◌, ◌%◌, ◌^◌, ◌<◌, true, false, List, length, get_or, slice_index_or, slice_set, bit_or, w64, inl, inr, ap, sym, ◌∙◌, arith}
+use Rattle.std.proofs.Common.{◌≡◌, ℕ, suc, ◌-◌, ◌≤◌, ◌∷◌, ◌*◌, ◌/◌, ◌%◌, ◌^◌, ◌<◌, true, false, List, length, get_or, slice_index_or, slice_set, bit_or, w64, inl, inr, ap, sym, ◌∙◌, arith}
 use Rattle.std.specs.Prelude.{◌≢◌, ◌==◌}
 use Rattle.std.specs.Int.{bit_at}
 use Rattle.std.specs.List.{list_all}
@@ -42,3 +42,18 @@ word_is_zero words k zero =
 
 pub no_bit_is_set : (words : List ℕ) (i : ℕ) → list_all (λ w. w == 0) words ≡ true → has_bit words i ≡ false
 no_bit_is_set words i zero = ap (λ w. bit_at w (i % 64) == 1) (word_is_zero words _ zero) ∙ ap (λ b. b == 1) (bit_at-zero (i % 64))
+
+-- ---- the first word apart
+
+-- a bit that is set in the first word, and one in the others
+pub first_set : (w : ℕ) (ws : List ℕ) (i : ℕ) → i < 64 → (bit_or w (1 * 2 ^ i % 2 ^ 64)) ∷ ws ≡ with_bit (w ∷ ws) i
+first_set w ws i few =
+    let here : 0 ≡ i / 64 = omega arith in
+    let same : i ≡ i % 64 = omega arith in
+    λ j. slice_set (w ∷ ws) (here j) (bit_or (slice_index_or (w ∷ ws) (here j) 0) (1 * 2 ^ (same j) % 2 ^ 64))
+
+pub other_set : (w : ℕ) (ws : List ℕ) (i : ℕ) → 64 ≤ i
+    → w ∷ slice_set ws (i / 64 - 1) (bit_or (slice_index_or ws (i / 64 - 1) 0) (1 * 2 ^ (i % 64) % 2 ^ 64)) ≡ with_bit (w ∷ ws) i
+other_set w ws i many =
+    let there : suc (i / 64 - 1) ≡ i / 64 = omega arith in
+    λ j. slice_set (w ∷ ws) (there j) (bit_or (slice_index_or (w ∷ ws) (there j) 0) (1 * 2 ^ (i % 64) % 2 ^ 64))

@@ -1,5 +1,5 @@
 //! What patterns say of declared names (JSON Schema 2020-12 Core, 10.3.2.2 and 10.3.2.3).
-ghost use Rattle.std.specs.Prelude.{◌≡◌, ℕ, ◌/◌, ◌*◌, ◌<◌, ◌≤◌, ◌≢◌, ◌==◌, IsTrue, true, IfOk, OnOk, OnErr, length, map};
+ghost use Rattle.std.specs.Prelude.{◌≡◌, ℕ, ◌/◌, ◌*◌, ◌<◌, ◌≤◌, ◌≢◌, ◌==◌, IsTrue, true, false, IfOk, OnOk, OnErr, length, map};
 ghost use Rattle.std.specs.List.{AllZip, list_all};
 ghost use Rattle.serde_json.specs.View.{members_view};
 ghost use Rattle.olk_spec.specs.Schemas.{listed};
@@ -226,8 +226,8 @@ fn row_of<R: RegexEngine, N>(
 /// What patterns say of one name: those that match it, and those that were left unfinished at it.
 #[derive(Drop)]
 struct PatternRow {
-    matched: Vec<u64>,
-    unfinished: Vec<u64>,
+    matched: PatternBits,
+    unfinished: PatternBits,
 }
 
 impl Model for PatternRow {
@@ -235,7 +235,7 @@ impl Model for PatternRow {
 
     ghost Value = { Row };
 
-    ghost view = { λ r. record { matched = r.matched.items; unfinished = r.unfinished.items } };
+    ghost view = { λ r. record { matched = r.matched; unfinished = r.unfinished } };
 }
 
 impl PatternRow {
@@ -244,10 +244,9 @@ impl PatternRow {
         ensures unmatched { IfOk result (λ r. (i : ℕ) → row_says r i ≡ unmatched) }
         ensures words { IfOk result (λ r. (i : ℕ) → i < patterns → HasWord i r) }
     {
-        let words = patterns.div_ceil(WORD_BITS);
         Ok(PatternRow {
-            matched: vec![in alloc; 0; words]?,
-            unfinished: vec![in alloc; 0; words]?,
+            matched: PatternBits::unset(alloc, patterns)?,
+            unfinished: PatternBits::unset(alloc, patterns)?,
         })
     }
 
@@ -256,10 +255,10 @@ impl PatternRow {
     fn known(&self, index: usize) -> Option<bool>
         ensures { known_says result ≡ row_says self.now index }
     {
-        if has_bit(&self.unfinished, index) {
+        if self.unfinished.has(index) {
             None
         } else {
-            Some(has_bit(&self.matched, index))
+            Some(self.matched.has(index))
         }
     }
 
@@ -269,7 +268,7 @@ impl PatternRow {
         ensures value { result ≡ is_blank self.now }
         ensures unmatched { IsTrue result → (i : ℕ) → row_says self.now i ≡ unmatched }
     {
-        are_zero(&self.matched) && are_zero(&self.unfinished)
+        self.matched.are_zero() && self.unfinished.are_zero()
     }
 
     /// Notes what a pattern says of which nothing was noted.
@@ -281,38 +280,81 @@ impl PatternRow {
         ensures words { (i : ℕ) → HasWord i self.old → HasWord i self.new }
     {
         match answer {
-            Ok(true) => set_bit(&mut self.matched, index),
+            Ok(true) => self.matched.set(index),
             Ok(false) => {}
-            Err(_) => set_bit(&mut self.unfinished, index),
+            Err(_) => self.unfinished.set(index),
         }
     }
 }
 
-/// Whether the pattern's bit is set.
-#[inline(always)]
-fn has_bit(words: &[u64], index: usize) -> bool
-    ensures { result ≡ has_bit words.now index }
-{
-    match words.get(index / WORD_BITS) {
-        Some(word) => (word >> (index % WORD_BITS)) & 1 == 1,
-        None => false,
+/// A bit for each pattern: those of the first 64 in a word in place, the others behind it.
+#[derive(Drop)]
+struct PatternBits {
+    first: u64,
+    more: Vec<u64>,
+}
+
+impl Model for PatternBits {
+    ghost use Rattle.std.specs.Prelude.{ℕ, List, ◌∷◌};
+
+    ghost Value = { List ℕ };
+
+    ghost view = { λ b. b.first ∷ b.more.items };
+}
+
+impl PatternBits {
+    /// Bits for so many patterns, none of which is set.
+    fn unset(alloc: Global, patterns: usize) -> Result<PatternBits, AllocError>
+        ensures unset { IfOk result (λ bits. (i : ℕ) → has_bit bits i ≡ false) }
+        ensures words { IfOk result (λ bits. (i : ℕ) → i < patterns → i / 64 < length bits) }
+    {
+        let more = patterns.div_ceil(WORD_BITS).saturating_sub(1);
+        Ok(PatternBits {
+            first: 0,
+            more: vec![in alloc; 0; more]?,
+        })
+    }
+
+    /// Whether the pattern's bit is set.
+    #[inline(always)]
+    fn has(&self, index: usize) -> bool
+        ensures { result ≡ has_bit self.now index }
+    {
+        if index < WORD_BITS {
+            return (self.first >> index) & 1 == 1;
+        }
+        match self.more.get(index / WORD_BITS - 1) {
+            Some(word) => (word >> (index % WORD_BITS)) & 1 == 1,
+            None => false,
+        }
+    }
+
+    /// Whether no bit is set.
+    #[inline(always)]
+    fn are_zero(&self) -> bool
+        ensures { result ≡ list_all (λ w. w == 0) self.now }
+    {
+        self.first == 0 && are_zero(&self.more)
+    }
+
+    /// Sets the pattern's bit.
+    fn set(&mut self, index: usize)
+        requires { index / 64 < length self.old }
+        ensures length { length self.new ≡ length self.old }
+        ensures set { has_bit self.new index ≡ true }
+        ensures others { (i : ℕ) → i ≢ index → has_bit self.new i ≡ has_bit self.old i }
+    {
+        if index < WORD_BITS {
+            self.first |= 1 << index;
+        } else {
+            self.more[index / WORD_BITS - 1] |= 1 << (index % WORD_BITS);
+        }
     }
 }
 
-/// Whether no bit is set.
 #[inline(always)]
 fn are_zero(words: &[u64]) -> bool
     ensures { result ≡ list_all (λ w. w == 0) words.now }
 {
     words.iter().all(|word| *word == 0)
-}
-
-/// Sets the pattern's bit.
-fn set_bit(words: &mut [u64], index: usize)
-    requires { index / 64 < length words.old }
-    ensures length { length words.new ≡ length words.old }
-    ensures set { has_bit words.new index ≡ true }
-    ensures others { (i : ℕ) → i ≢ index → has_bit words.new i ≡ has_bit words.old i }
-{
-    words[index / WORD_BITS] |= 1 << (index % WORD_BITS);
 }
