@@ -17,8 +17,8 @@ fn plain_error(error: MakeError) -> Fail {
     }
 }
 
-/// Two of them are left unfinished at each name with `a`, one is the test `^c`, the others match each
-/// name with `b`.
+/// Two of them are left unfinished at each name with `a`, one is the test `^c`, the others match
+/// each name with `b`.
 fn pattern(alloc: Global, index: usize, meter: &mut Meter) -> Result<Pattern, Fail> {
     let text = match index {
         1 | 64 => "(slow)a",
@@ -219,7 +219,8 @@ fn places(alloc: Global, cells: &str) -> Result<String, Fail> {
     Ok(text?)
 }
 
-// How many patterns there are, a name, and the places that are listed of it: by hand, from `pattern`.
+// How many patterns there are, a name, and the places that are listed of it, which follow by hand
+// from `pattern`.
 const PLACES: &str =
     "65 | ab | 0 1? 2 4 5 6 7 8 9 10 11 12 13 14 15 16 17 18 19 20 21 22 23 24 25 26 27 28 29 30 31 32 33 34 35 36 37 38 39 40 41 42 43 44 45 46 47 48 49 50 51 52 53 54 55 56 57 58 59 60 61 62 63 64?
 65 | b | 0 2 4 5 6 7 8 9 10 11 12 13 14 15 16 17 18 19 20 21 22 23 24 25 26 27 28 29 30 31 32 33 34 35 36 37 38 39 40 41 42 43 44 45 46 47 48 49 50 51 52 53 54 55 56 57 58 59 60 61 62 63
