@@ -103,8 +103,8 @@ class Ran:
 class Trials:
     """The cases, each given to a program as it is, and with each of its calls failing that a tool is about."""
 
-    # The crate of the program.
-    crate = None
+    # The crate of the program, and the cases.
+    crate, cases = None, cases()
 
     def given(self, schema, instance):
         """What the program is given of a case."""
@@ -155,26 +155,34 @@ class Trials:
         sys.stdout.flush()
         return count, len(faults)
 
-    def main(self, doc):
-        """Tries all cases as the words of the command say, and gives the exit status."""
-        _, usage, told = doc.split("\n\n", 2)
-        parser = argparse.ArgumentParser(
-            usage=usage.strip(), description=told, formatter_class=argparse.RawDescriptionHelpFormatter
-        )
-        parser.add_argument("program", nargs="?", default=f"{TOP}/crates/{self.crate}/out/{self.crate}")
-        parser.add_argument("--quick", action="store_true")
-        parser.add_argument("--jobs", type=int, default=1)
-        options = parser.parse_args()
-        self.program = os.path.abspath(options.program)
-        if not os.access(self.program, os.X_OK):
-            sys.exit(f"{self.program} is not there: rt ci proves and builds it")
-        with tempfile.TemporaryDirectory() as room, ThreadPoolExecutor(options.jobs) as pool:
-            self.library, self.input = failing_library(room), f"{room}/input"
-            step = QUICK if options.quick else 1
-            tried = [self.try_case(name, self.given(*case), pool, step) for name, *case in cases()]
-        runs, failed = map(sum, zip(*tried))
-        print(f"{runs - failed} passed, {failed} failed")
-        return 1 if failed else 0
+    def run_all(self, program, room, pool, step):
+        """How many runs of the program there were over all cases, and how many failed."""
+        self.program, self.library, self.input = program, failing_library(room), f"{room}/input"
+        tried = [self.try_case(name, self.given(*case), pool, step) for name, *case in self.cases]
+        return [*map(sum, zip(*tried))]
+
+
+def main(doc, *trials):
+    """Tries all cases of each of the trials as the words of the command say, and gives the exit status."""
+    _, usage, told = doc.split("\n\n", 2)
+    how = {"usage": usage.strip(), "description": told, "formatter_class": argparse.RawDescriptionHelpFormatter}
+    parser = argparse.ArgumentParser(**how)
+    parser.add_argument("programs", nargs="*", metavar="PROGRAM")
+    parser.add_argument("--quick", action="store_true")
+    parser.add_argument("--jobs", type=int, default=1)
+    options = parser.parse_args()
+    programs = [*map(os.path.abspath, options.programs)] or [f"{TOP}/crates/{it.crate}/out/{it.crate}" for it in trials]
+    if len(programs) != len(trials):
+        parser.error(f"{len(trials)} programs are to be named, or none")
+    for program in programs:
+        if not os.access(program, os.X_OK):
+            sys.exit(f"{program} is not there: rt ci proves and builds it")
+    with tempfile.TemporaryDirectory() as room, ThreadPoolExecutor(options.jobs) as pool:
+        step = QUICK if options.quick else 1
+        ran = [it.run_all(program, room, pool, step) for it, program in zip(trials, programs)]
+    runs, failed = map(sum, zip(*ran))
+    print(f"{runs - failed} passed, {failed} failed")
+    return 1 if failed else 0
 
 
 def failing_library(folder):

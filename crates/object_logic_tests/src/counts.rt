@@ -587,6 +587,7 @@ const ENGINES: &str =
 {"not":{"patternProperties":{"(slow)x":false}}} | {"x":1} | refused or accepted | 1 asks, 1 unfinished
 {"patternProperties":{"(slow)x":false}} | {"a":1} | accepted | 1 asks, 0 unfinished
 {"not":{"patternProperties":{"(slow)x":false}}} | {"a":1} | refused | 1 asks, 0 unfinished
+{"not":{"patternProperties":{"x":{"type":"integer"}}}} | {"x":"t"} | accepted | 1 asks, 0 unfinished
 {"anyOf":[]} | 1 | refused | 0 asks, 0 unfinished
 {"oneOf":[]} | 1 | refused | 0 asks, 0 unfinished
 {"additionalProperties":false,"properties":{"a":{},"b":{}},"patternProperties":{"x":{},"y$":{},"^z":{}}} | {"c":1} | refused | 1 asks, 0 unfinished

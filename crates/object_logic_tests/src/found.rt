@@ -513,7 +513,24 @@ fn collects_at_last<'a, V: Asked>(
         || (errors.len() == before && collect(validator, alloc, instance, errors).is_ok())
 }
 
-/// How many errors are in a list, and in one that they are put into twice.
+/// Whether two errors are of the same places.
+fn are_alike(error: &ValidationError<'_>, other: &ValidationError<'_>) -> bool {
+    error.schema_path() == other.schema_path() && error.instance_path() == other.instance_path()
+}
+
+/// Whether the errors of a list are of the same places as those that it had before, each in order.
+fn is_twice_alike(errors: &[ValidationError<'_>]) -> bool {
+    let (before, behind) = errors.split_at(errors.len() / 2);
+    for (error, other) in before.iter().zip(behind) {
+        if !are_alike(error, other) {
+            return false;
+        }
+    }
+    true
+}
+
+/// How many errors are in a list, and in one that they are put into twice, whose second half is as
+/// its first.
 fn two_counts_at_last<V: Asked>(
     validator: &V,
     alloc: Global,
@@ -524,8 +541,13 @@ fn two_counts_at_last<V: Asked>(
     let count = errors.len();
     let twice = collects_at_last(validator, alloc, instance, &mut errors);
     let counts = (count, errors.len());
+    let is_alike = is_twice_alike(&errors);
     drop(errors);
-    if once && twice { Some(counts) } else { None }
+    if once && twice && is_alike {
+        Some(counts)
+    } else {
+        None
+    }
 }
 
 /// How many errors an evaluation lists, asked a second time where memory was wanting.
@@ -822,9 +844,9 @@ fn trees_of_evaluations(rt: HostRuntime) -> Result<(), Fail> {
     expect(&Found::Trees, rt.alloc(), Table::Named(TREES))
 }
 
-// A schema, an instance, and its first error. With each growth refused in turn
-// (tools/refused_growths), the second call gives the full answer; out of memory is told by the
-// row's two values and the building alone, and by the text that is told at last.
+// A schema, an instance, and its first error. With a growth refused (`rt try --test --fail-alloc`),
+// the second call gives the full answer, and a list is handed back whole; out of memory is told by
+// the row's two values and the building alone, and by the text that is told at last.
 const MANY_FAULTS: &str = concat!(
     r#"{"allOf":[{"required":["a","b"]},{"properties":{"c":{"type":"string"}}},"#,
     r#"{"patternProperties":{"c":{"minimum":7},"^c":false}},{"patternProperties":{"^d":{"type":"null"}}},"#,

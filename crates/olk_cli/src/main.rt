@@ -1,12 +1,14 @@
 //! Answers requests to validate, one a line.
 //!
 //! Stands on `olk_validator`, `olk_bench`, `olk_answers`, `olk_replies` and `olk_lines`. Tested by
-//! its files `stdin` and `stdout`.
+//! its files `stdin` and `stdout`, and by the module `rows`.
 #![tactic(auto)]
 
 mod answer;
 mod program;
 mod request;
+#[cfg(test)]
+mod rows;
 
 use program::run;
 use std::io::BufReader;

@@ -1,5 +1,5 @@
 //! The answer to a line.
-use olk_base::{MakeRegex, Meter, RegexEngine};
+use olk_base::{MakeError, MakeRegex, Meter, RegexEngine};
 use olk_lines::AnswerLine;
 use olk_regexes::{Regexes, why_refused};
 use serde_json::Value;
@@ -17,7 +17,12 @@ impl AnswerLine for Matching {
     fn answer(&self, alloc: Global, line: &[u8]) -> Result<Vec<u8>, AllocError> {
         match Value::from_slice(alloc, line) {
             Ok(value) => answer_pair(alloc, &value),
-            Err(_) => text(alloc, "not a pair of texts"),
+            Err(error) => {
+                if error.is_memory() {
+                    return Err(AllocError);
+                }
+                text(alloc, "not a pair of texts")
+            }
         }
     }
 }
@@ -43,7 +48,8 @@ fn tell(alloc: Global, pattern: &str, found: &str) -> Result<Vec<u8>, AllocError
             Ok(false) => text(alloc, "not found"),
             Err(_) => text(alloc, "unfinished"),
         },
-        Err(_) => tell_refusal(alloc, pattern),
+        Err(MakeError::Refused) => tell_refusal(alloc, pattern),
+        Err(MakeError::Memory(error)) => Err(error),
     }
 }
 

@@ -1,5 +1,6 @@
 //! The table of patterns, made with the bench's matcher.
 use olk_base::{CompiledPattern, MakeError, Meter, compile_pattern};
+use olk_base_tests::tables::{expect_rows, two};
 use olk_bench::{BenchRegex, BenchRegexes};
 use olk_tree::pattern_table::{PatternIndex, PatternTable, precompute_property_pattern_indices};
 use serde_json::{Map, Value};
@@ -19,7 +20,7 @@ fn plain_error(error: MakeError) -> Fail {
     }
 }
 
-/// One of 65: two are left unfinished at each name with `a`, one is the test `^c`, the others match
+/// Two of them are left unfinished at each name with `a`, one is the test `^c`, the others match
 /// each name with `b`.
 fn pattern(alloc: Global, index: usize, meter: &mut Meter) -> Result<Pattern, Fail> {
     let text = match index {
@@ -30,45 +31,59 @@ fn pattern(alloc: Global, index: usize, meter: &mut Meter) -> Result<Pattern, Fa
     compile_pattern(alloc, &BenchRegexes, text, meter).map_err(plain_error)
 }
 
-fn patterns(alloc: Global) -> Result<Vec<Alone>, Fail> {
+fn patterns(alloc: Global, count: usize) -> Result<Vec<Alone>, Fail> {
     let mut meter = Meter::new();
-    let mut patterns = Vec::with_capacity(alloc, 65)?;
-    for index in 0..65 {
+    let mut patterns = Vec::with_capacity(alloc, count)?;
+    for index in 0..count {
         patterns.push((pattern(alloc, index, &mut meter)?, ()))?;
     }
     Ok(patterns)
 }
 
-/// The table of these names.
+/// The table of these names and so many patterns.
 fn table_over(
     alloc: Global,
+    count: usize,
     names: &Map<String, Value>,
     meter: &mut Meter,
 ) -> Result<PatternTable, Fail> {
-    let patterns = patterns(alloc)?;
+    let patterns = patterns(alloc, count)?;
     let table = precompute_property_pattern_indices(alloc, names, &patterns, meter);
     drop(patterns);
     Ok(table?)
 }
 
-fn table_in(alloc: Global, declared: &Value, meter: &mut Meter) -> Result<PatternTable, Fail> {
+fn table_in(
+    alloc: Global,
+    count: usize,
+    declared: &Value,
+    meter: &mut Meter,
+) -> Result<PatternTable, Fail> {
     match declared.as_object() {
-        Some(names) => table_over(alloc, names, meter),
+        Some(names) => table_over(alloc, count, names, meter),
         None => Err(Fail::new("no object")),
     }
 }
 
-/// The table of these declared names.
-fn table_of(alloc: Global, declared: &str, meter: &mut Meter) -> Result<PatternTable, Fail> {
+/// The table of these declared names and so many patterns.
+fn table_of(
+    alloc: Global,
+    count: usize,
+    declared: &str,
+    meter: &mut Meter,
+) -> Result<PatternTable, Fail> {
     let declared = Value::from_str(alloc, declared)?;
-    let table = table_in(alloc, &declared, meter);
+    let table = table_in(alloc, count, &declared, meter);
     drop(declared);
     table
 }
 
-/// The table of the names `ab`, `b` and `cd`, which stand in that order.
+// The names `ab`, `b` and `cd`, which stand in that order.
+const NAMES: &str = r#"{"cd":true,"b":true,"ab":true}"#;
+
+/// The table of these names and 65 patterns.
 fn table(alloc: Global, meter: &mut Meter) -> Result<PatternTable, Fail> {
-    table_of(alloc, r#"{"cd":true,"b":true,"ab":true}"#, meter)
+    table_of(alloc, 65, NAMES, meter)
 }
 
 /// No row is answered otherwise than it says.
@@ -165,47 +180,63 @@ fn wrong_nothing(table: &PatternTable) -> Option<(usize, bool)> {
 #[test]
 fn a_name_that_nothing_matches(rt: HostRuntime) -> Result<(), Fail> {
     let declared = r#"{"a":true,"b":true,"dd":true}"#;
-    let table = table_of(rt.alloc(), declared, &mut Meter::new())?;
+    let table = table_of(rt.alloc(), 65, declared, &mut Meter::new())?;
     let wrong = wrong_nothing(&table);
     drop(table);
     expect_none(wrong)
 }
 
-/// Whether the patterns at these places are left unfinished, and so many match.
-fn are_these(indices: &[PatternIndex], matched: usize, unfinished: &[usize]) -> bool {
-    let mut left = unfinished.iter();
+/// Each place, with a question mark where the match is left unfinished.
+fn push_places(text: &mut String, indices: &[PatternIndex]) -> Result<(), AllocError> {
     for entry in indices {
-        if !entry.finished && left.next() != Some(&entry.index) {
-            return false;
-        }
+        let before = if text.is_empty() { "" } else { " " };
+        let mark = if entry.finished { "" } else { "?" };
+        text.write(format_args!("{before}{}{mark}", entry.index))?;
     }
-    left.next().is_none() && indices.len().checked_sub(unfinished.len()) == Some(matched)
+    Ok(())
 }
 
-// A name, how many patterns match it, and those that are left unfinished.
-const INDICES: [(&str, usize, &[usize]); 4] = [
-    ("ab", 62, &[1, 64]),
-    ("b", 62, &[]),
-    ("cd", 1, &[]),
-    ("bb", 0, &[]),
-];
-
-fn wrong_indices(alloc: Global, table: &PatternTable) -> Result<Option<&'static str>, AllocError> {
-    for (name, matched, unfinished) in INDICES {
-        let indices = table.indices(alloc, name)?;
-        if !are_these(&indices, matched, unfinished) {
-            return Ok(Some(name));
-        }
+fn places_text(alloc: Global, indices: &[PatternIndex]) -> Result<String, AllocError> {
+    if indices.is_empty() {
+        return String::from_str(alloc, "none");
     }
-    Ok(None)
+    let mut text = String::new(alloc);
+    push_places(&mut text, indices)?;
+    Ok(text)
 }
+
+fn places_of(alloc: Global, table: &PatternTable, name: &str) -> Result<String, AllocError> {
+    let indices = table.indices(alloc, name)?;
+    let text = places_text(alloc, &indices);
+    drop(indices);
+    text
+}
+
+/// The places that a table of so many patterns lists of a name.
+fn places(alloc: Global, cells: &str) -> Result<String, Fail> {
+    let (count, name) = two(cells);
+    let count = count.parse().map_err(|_| Fail::new("no number"))?;
+    let table = table_of(alloc, count, NAMES, &mut Meter::new())?;
+    let text = places_of(alloc, &table, name);
+    drop(table);
+    Ok(text?)
+}
+
+// How many patterns there are, a name, and the places that are listed of it, which follow by hand
+// from `pattern`.
+const PLACES: &str =
+    "65 | ab | 0 1? 2 4 5 6 7 8 9 10 11 12 13 14 15 16 17 18 19 20 21 22 23 24 25 26 27 28 29 30 31 32 33 34 35 36 37 38 39 40 41 42 43 44 45 46 47 48 49 50 51 52 53 54 55 56 57 58 59 60 61 62 63 64?
+65 | b | 0 2 4 5 6 7 8 9 10 11 12 13 14 15 16 17 18 19 20 21 22 23 24 25 26 27 28 29 30 31 32 33 34 35 36 37 38 39 40 41 42 43 44 45 46 47 48 49 50 51 52 53 54 55 56 57 58 59 60 61 62 63
+65 | cd | 3
+65 | bb | none
+66 | ab | 0 1? 2 4 5 6 7 8 9 10 11 12 13 14 15 16 17 18 19 20 21 22 23 24 25 26 27 28 29 30 31 32 33 34 35 36 37 38 39 40 41 42 43 44 45 46 47 48 49 50 51 52 53 54 55 56 57 58 59 60 61 62 63 64? 65
+66 | b | 0 2 4 5 6 7 8 9 10 11 12 13 14 15 16 17 18 19 20 21 22 23 24 25 26 27 28 29 30 31 32 33 34 35 36 37 38 39 40 41 42 43 44 45 46 47 48 49 50 51 52 53 54 55 56 57 58 59 60 61 62 63 65
+66 | cd | 3
+66 | bb | none";
 
 #[test]
-fn indices_of_a_name(rt: HostRuntime) -> Result<(), Fail> {
-    let table = table(rt.alloc(), &mut Meter::new())?;
-    let wrong = wrong_indices(rt.alloc(), &table);
-    drop(table);
-    expect_none(wrong?)
+fn places_of_a_name(rt: HostRuntime) -> Result<(), Fail> {
+    expect_rows(rt.alloc(), PLACES, places)
 }
 
 fn knows_nothing(alloc: Global, table: &PatternTable) -> Result<bool, AllocError> {
