@@ -1,9 +1,10 @@
 //! `pattern` (JSON Schema 2020-12 Validation, 6.3.3).
 ghost use Rattle.std.specs.Prelude.{◌≡◌, true, false, Some, IfOk, MatchOption, string_bytes};
 ghost use Rattle.olk_base.specs.Nodes.{data_of};
+ghost use Rattle.olk_spec.specs.Names.{Text};
 ghost use Rattle.olk_regexes.specs.Built.{expr_of_engine};
 ghost use Rattle.olk_regexes.specs.Says.{builds, expr_of_pattern};
-ghost use Rattle.olk_vocabulary.specs.Patterns.{has_found};
+ghost use Rattle.olk_vocabulary.specs.Patterns.{is_found, has_found};
 
 use crate::lengths::text_of;
 use olk_base::Node;
@@ -15,7 +16,8 @@ use std::alloc::{AllocError, Global};
 pub struct TextPattern {
     text: String,
     engine: Pattern,
-    ghost read: { expr_of_pattern (string_bytes text) ≡ Some (expr_of_engine engine) },
+    ghost answers: { (s : Text) → is_found (expr_of_pattern (string_bytes text)) s
+        ≡ is_found (Some (expr_of_engine engine)) s },
 }
 
 impl TextPattern {
