@@ -156,7 +156,10 @@ fn unsupported_pattern<'s>(
     alloc: Global,
     pattern: &str,
 ) -> Result<Option<Unsupported<'s>>, AllocError> {
-    Ok(why_refused(alloc, pattern)?.map(Unsupported::Pattern))
+    match why_refused(alloc, pattern)? {
+        Some(refusal) => Ok(Some(Unsupported::Pattern(refusal))),
+        None => Ok(None),
+    }
 }
 
 /// Whether this is a kind in draft 3 alone: any, or a schema.

@@ -8,7 +8,8 @@ use std::alloc::{AllocError, Global};
 const DEEPEST: u8 = u8::MAX;
 
 /// A line for each place of the schema at which something is not supported, or a pattern is
-/// malformed: a JSON pointer, and what it is. Places are looked for where building reads them, member by member.
+/// malformed: a JSON pointer, and what it is. Places are looked for where building reads them,
+/// member by member.
 ///
 /// # Errors
 ///
