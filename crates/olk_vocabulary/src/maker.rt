@@ -55,12 +55,7 @@ pub fn is_unread(name: &str) -> bool
 {
     matches!(
         name,
-        "prefixItems"
-            | "items"
-            | "contains"
-            | "minContains"
-            | "maxContains"
-            | "uniqueItems"
+        "prefixItems" | "items" | "contains" | "minContains" | "maxContains" | "uniqueItems"
     )
 }
 
