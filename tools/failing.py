@@ -64,6 +64,7 @@ def cases():
         "l": {"maxLength": 0, "minLength": 9},
         "n": {"exclusiveMaximum": 7, "exclusiveMinimum": 7, "maximum": 6, "minimum": 8, "multipleOf": 2},
         "o": {"maxProperties": 0, "minProperties": 2},
+        "p": {"pattern": "^[a-z]+(b|\\d){2,}$"},
         "t": {"type": ["null", "integer"]},
     }
     return [
@@ -80,7 +81,7 @@ def cases():
         ("66 patterns, one left unfinished", {**one, "patternProperties": {**many, "(slow)m64": False}}, {"m64": 1}),
         ("annotations", {"properties": {"a": {"properties": {"b": {}}}}, "patternProperties": {"a": {}}}, {"a": {"b": 1}}),
         ("every keyword", every_keyword, {"c": 1, "d": 2, "k": "t"}),
-        ("every leaf", {"properties": leaves}, {"c": 1, "e": 1, "i": [1], "l": "text", "n": 7, "o": {"a": 1}, "t": "a"}),
+        ("every leaf", {"properties": leaves}, {"c": 1, "e": 1, "i": [1], "l": "text", "n": 7, "o": {"a": 1}, "p": "q", "t": "a"}),
         ("16 declared names", {**of_names, "required": ["p00", "zz"]}, dict.fromkeys(names, "x")),
         (
             "16 declared names, patterns and a rest",

@@ -3,8 +3,9 @@ use Rattle.std.specs.Prelude.{◌≡◌, ◌⊎◌, ℕ, Bool, true, false, List
 use Rattle.serde_json.specs.Data.{Data}
 use Rattle.serde_json.specs.Read.{read}
 use Rattle.olk_spec.specs.Names.{Text}
-use Rattle.olk_spec.specs.World.{World, unmatched}
+use Rattle.olk_spec.specs.World.{World}
 use Rattle.olk_spec.specs.Meaning.{accepts}
+use Rattle.olk_regexes.specs.Says.{builds, says}
 use Rattle.olk_vocabulary.specs.Vocabulary.{vocabulary_reads, vocabulary_fits, vocabulary_faults}
 use Rattle.olk.specs.declared.console.Status.{Status}
 use Rattle.olk.specs.declared.console.Status.TheVariants.{Valid, Invalid, Failed, Memory}
@@ -50,9 +51,9 @@ abbrev pub IsChecked : World → Data → Status → List (Option Text) → Stat
 IsChecked W S old [] new = new ≡ old
 IsChecked W S old (it ∷ rest) new = (s : Status) × IsStatusOf W S it s × IsChecked W S (worse old s) rest new
 
--- the vocabulary, with a matcher that takes no pattern
+-- the vocabulary, and regular expressions
 abbrev pub vocabulary_world : World
-vocabulary_world = record { reads = vocabulary_reads; fits = vocabulary_fits; faults = vocabulary_faults; builds = λ p. false; says = λ p n. unmatched }
+vocabulary_world = record { reads = vocabulary_reads; fits = vocabulary_fits; faults = vocabulary_faults; builds = builds; says = says }
 
 -- a run by a schema S: it can't be used; or what is read is checked, of each path one text, unless each line is a value
 abbrev pub IsRunBy : Data → Bool → ℕ → Status → Type 0

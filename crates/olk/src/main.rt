@@ -1,7 +1,8 @@
 //! Checks files of JSON values by a schema.
 //!
-//! Stands on `olk_validator`, `olk_vocabulary`, `olk_replies` and `olk_places`. Tested by its files
-//! `args`, `data` and `stdout`, and by `tools/checked_files` and `tools/positions`.
+//! Stands on `olk_validator`, `olk_vocabulary`, `olk_regexes`, `olk_replies` and `olk_places`.
+//! Tested by its files `args`, `data` and `stdout`, and by `tools/checked_files` and
+//! `tools/positions`.
 #![tactic(auto)]
 
 mod answer;

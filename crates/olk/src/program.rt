@@ -13,7 +13,8 @@ use crate::words::first_no_text;
 use clap::Error;
 use clap::error::ErrorKind;
 use olk_places::Visible;
-use olk_validator::{BuildError, Meter, NoRegexes, Validator};
+use olk_regexes::Regexes;
+use olk_validator::{BuildError, Meter, Validator};
 use olk_vocabulary::Vocabulary;
 use serde_json::Value;
 use std::alloc::AllocError;
@@ -148,7 +149,7 @@ fn check_by<'c, T: Files + Input + Print + Eprint + Clock + AllocGlobal>(
         return Ok(());
     }
     let mut meter = Meter::new();
-    match Validator::build(rt.alloc(), &Vocabulary, &NoRegexes, schema, &mut meter) {
+    match Validator::build(rt.alloc(), &Vocabulary, &Regexes, schema, &mut meter) {
         Ok(validator) => {
             let checker = Checker {
                 options: &*options,

@@ -1,7 +1,7 @@
 //! Places of errors in a text, and of what is not supported in a schema, and how they are told.
 //!
-//! Stands on `olk_reports`, `olk_answers` and `olk_vocabulary`. Tested by the files of `olk`, and
-//! by `tools/checked_files` and `tools/positions`.
+//! Stands on `olk_reports`, `olk_answers`, `olk_regexes` and `olk_vocabulary`. Tested by the files
+//! of `olk`, and by `tools/checked_files` and `tools/positions`.
 #![tactic(auto)]
 
 mod json;

@@ -1,5 +1,6 @@
 //! What is supported of a keyword of JSON Schema, of 2020-12 and of older drafts.
 use olk_base::analyze_pattern;
+use olk_regexes::{Refusal, why_refused};
 use olk_vocabulary::{JsonNumber, Keyword, is_unread};
 use serde_json::{Map, Number, Value};
 use std::alloc::{AllocError, Global};
@@ -16,15 +17,15 @@ pub struct Member<'s> {
     pub value: &'s Value,
 }
 
-/// What is not supported at a place of a schema.
+/// What is not supported at a place of a schema, or is a malformed pattern.
 #[derive(Clone, Copy)]
 pub enum Unsupported<'s> {
     /// A keyword.
     Keyword(&'s str),
     /// The value that a keyword has here.
     Value(&'s str),
-    /// A pattern.
-    Pattern,
+    /// A pattern, and why it is refused.
+    Pattern(Refusal),
 }
 
 impl Display for Unsupported<'_> {
@@ -32,7 +33,10 @@ impl Display for Unsupported<'_> {
         match self {
             Unsupported::Keyword(name) => write!(f, "\"{name}\" is not supported"),
             Unsupported::Value(name) => write!(f, "this value of \"{name}\" is not supported"),
-            Unsupported::Pattern => f.write_str("this pattern is not supported"),
+            Unsupported::Pattern(refusal) if refusal.reason().is_unsupported() => {
+                write!(f, "{refusal}")
+            }
+            Unsupported::Pattern(refusal) => write!(f, "malformed pattern: {refusal}"),
         }
     }
 }
@@ -54,13 +58,20 @@ pub enum Held {
 
 impl<'s> Member<'s> {
     /// What of the keyword is not supported, but for what is at its entries.
-    pub fn unsupported(self) -> Option<Unsupported<'s>> {
+    ///
+    /// # Errors
+    ///
+    /// Out of memory.
+    pub fn unsupported(self, alloc: Global) -> Result<Option<Unsupported<'s>>, AllocError> {
         if self.is_unsupported() {
-            Some(Unsupported::Keyword(self.name))
-        } else if self.has_unsupported_value() {
-            Some(Unsupported::Value(self.name))
-        } else {
-            None
+            return Ok(Some(Unsupported::Keyword(self.name)));
+        }
+        if self.has_unsupported_value() {
+            return Ok(Some(Unsupported::Value(self.name)));
+        }
+        match (self.name, self.value) {
+            ("pattern", Value::String(pattern)) => unsupported_pattern(alloc, pattern.as_str()),
+            _ => Ok(None),
         }
     }
 
@@ -78,7 +89,7 @@ impl<'s> Member<'s> {
         match self.name {
             "patternProperties" => match analyze_pattern(alloc, key)? {
                 Some(_) => Ok(None),
-                None => Ok(Some(Unsupported::Pattern)),
+                None => unsupported_pattern(alloc, key),
             },
             // draft 3: the name of a property that has to be there
             "dependencies" if entry.is_string() => Ok(Some(Unsupported::Value(self.name))),
@@ -137,6 +148,17 @@ impl<'s> Member<'s> {
             Value::Number(number) => has_unsupported_number(self.name, number),
             Value::Null | Value::Object(_) => false,
         }
+    }
+}
+
+/// Why a pattern is refused, if it is.
+fn unsupported_pattern<'s>(
+    alloc: Global,
+    pattern: &str,
+) -> Result<Option<Unsupported<'s>>, AllocError> {
+    match why_refused(alloc, pattern)? {
+        Some(refusal) => Ok(Some(Unsupported::Pattern(refusal))),
+        None => Ok(None),
     }
 }
 

@@ -7,8 +7,9 @@ use std::alloc::{AllocError, Global};
 /// How deep places are looked for: deeper than they are in any schema that `serde_json` reads.
 const DEEPEST: u8 = u8::MAX;
 
-/// A line for each place of the schema at which something is not supported: a JSON pointer, and
-/// what it is. Places are looked for where building reads them, member by member.
+/// A line for each place of the schema at which something is not supported, or a pattern is
+/// malformed: a JSON pointer, and what it is. Places are looked for where building reads them,
+/// member by member.
 ///
 /// # Errors
 ///
@@ -63,7 +64,7 @@ impl Found {
         member: Member<'s>,
         left: u8,
     ) -> Result<(), AllocError> {
-        if let Some(what) = member.unsupported() {
+        if let Some(what) = member.unsupported(self.alloc)? {
             self.add(place, what)?;
         }
         match (member.held(), member.value) {

@@ -14,7 +14,8 @@ pub enum Member {
     Set(&'static [Range]),
 }
 
-/// What an escape of a class stands for, and what is behind it. The text begins behind the backslash.
+/// What an escape of a class stands for, and what is behind it. The text begins behind the
+/// backslash.
 pub fn read_class_escape(text: &[char]) -> Option<(Item, &[char])>
     ensures { seen_item result ≡ class_escape text.now }
 {

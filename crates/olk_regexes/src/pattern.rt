@@ -103,8 +103,8 @@ pub fn law_of_finding()
     ensures { (p : Expr) → (w : Text) → Decides (finds (matches p) w) (Finds p w) }
 {}
 
-/// The law of edges: where `^` and `$` stand where they may, an expression is found in a framed text
-/// exactly if it is found in the text with `^` true at its start, and `$` true at its end.
+/// The law of edges: where `^` and `$` stand where they may, an expression is found in a framed
+/// text exactly if it is found in the text with `^` true at its start, and `$` true at its end.
 pub fn law_of_edges()
     ensures found { (p : Expr) → (w : Text) → is_placed p ≡ true → All IsChar w
         → Finds p (framed w) → FindsAt p w }

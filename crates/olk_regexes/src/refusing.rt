@@ -72,6 +72,23 @@ impl Refusal {
     }
 }
 
+impl Reason {
+    /// Whether what is refused for this may be a pattern of ECMA-262 with its flag u, which only
+    /// isn't read. What is refused for another reason is none.
+    pub fn is_unsupported(self) -> bool {
+        match self {
+            Reason::LookAhead | Reason::LookBehind => true,
+            Reason::NamedGroup | Reason::Group => true,
+            Reason::Reference | Reason::Boundary => true,
+            Reason::Property | Reason::Control => true,
+            Reason::TooLarge | Reason::Edge => true,
+            Reason::Escape | Reason::Class => false,
+            Reason::NothingToRepeat | Reason::Quantifier => false,
+            Reason::Bracket | Reason::NotClosed | Reason::NotOpened => false,
+        }
+    }
+}
+
 impl Display for Reason {
     fn fmt<W: Write>(&self, f: &mut Formatter<W>) -> fmt::Result {
         f.write_str(match self {
@@ -90,8 +107,8 @@ impl Display for Reason {
             Reason::Bracket => "a bracket without a backslash",
             Reason::NotClosed => "a group is not closed",
             Reason::NotOpened => "no group to close",
-            Reason::TooLarge => "too large",
-            Reason::Edge => "^ or $ is not supported inside",
+            Reason::TooLarge => "a pattern of this size is not supported",
+            Reason::Edge => "^ or $ inside a pattern is not supported",
         })
     }
 }
@@ -146,9 +163,13 @@ fn escape_reason(text: &[char]) -> Reason {
 
 // Why an escape of a class is refused, behind its backslash.
 fn class_escape_reason(text: &[char]) -> Reason {
-    match read_class_escape(text) {
-        Some(_) => Reason::Class,
-        None => escape_reason(text),
+    if read_class_escape(text).is_some() {
+        return Reason::Class;
+    }
+    match text {
+        ['p' | 'P', ..] => Reason::Property,
+        ['c', ..] => Reason::Control,
+        _ => Reason::Escape,
     }
 }
 

@@ -11,6 +11,7 @@ use Rattle.olk_spec.specs.Schemas.{listed}
 use Rattle.olk_spec.specs.Bench.{names_kind, is_natural_from, shown, unless}
 use Rattle.olk_spec.specs.Bench as bench
 use Rattle.olk_vocabulary.specs.Numbers.{exact, is_below, is_at_most, is_integral, is_multiple_of}
+use Rattle.olk_vocabulary.specs.Patterns.{takes_pattern, pattern_faults}
 use Rattle.olk_vocabulary.specs.Same.{same_value}
 use Rattle.olk_vocabulary.specs.declared.keyword.Bound.{Bound}
 use Rattle.olk_vocabulary.specs.declared.keyword.Bound.TheVariants as bound
@@ -40,6 +41,7 @@ keyword_name keyword.Const = codes "const"
 keyword_name keyword.MultipleOf = codes "multipleOf"
 keyword_name (keyword.Bound b) = bound_name b
 keyword_name (keyword.Limit l) = limit_name l
+keyword_name keyword.Pattern = codes "pattern"
 
 abbrev pub keyword_named : Name → Option Keyword
 keyword_named n =
@@ -57,6 +59,7 @@ keyword_named n =
     else if bytes_eq n (codes "maxItems") then Some (keyword.Limit limit.MaxItems)
     else if bytes_eq n (codes "minProperties") then Some (keyword.Limit limit.MinProperties)
     else if bytes_eq n (codes "maxProperties") then Some (keyword.Limit limit.MaxProperties)
+    else if bytes_eq n (codes "pattern") then Some keyword.Pattern
     else None
 
 -- ---- what a keyword takes
@@ -80,6 +83,7 @@ takes keyword.Const x = true
 takes keyword.MultipleOf x = is_natural_from 1 x
 takes (keyword.Bound b) x = is_some (as_number x)
 takes (keyword.Limit l) x = is_natural_from 0 x
+takes keyword.Pattern x = takes_pattern x
 
 -- ---- 6.1.1: `type`
 
@@ -228,3 +232,4 @@ finds keyword.Const x v = const_faults x v
 finds keyword.MultipleOf x v = multiple_faults x v
 finds (keyword.Bound b) x v = bound_faults b x v
 finds (keyword.Limit l) x v = limit_faults l x v
+finds keyword.Pattern x v = pattern_faults x v

@@ -47,6 +47,8 @@ pub enum Keyword {
     Bound(Bound),
     /// A limit of lengths.
     Limit(Limit),
+    /// `pattern`: what a text is to match.
+    Pattern,
 }
 
 impl Keyword {
@@ -69,6 +71,7 @@ impl Keyword {
             "maxItems" => Some(Keyword::Limit(Limit::MaxItems)),
             "minProperties" => Some(Keyword::Limit(Limit::MinProperties)),
             "maxProperties" => Some(Keyword::Limit(Limit::MaxProperties)),
+            "pattern" => Some(Keyword::Pattern),
             _ => None,
         }
     }
@@ -92,6 +95,7 @@ impl Keyword {
             Keyword::Limit(Limit::MaxItems) => "maxItems",
             Keyword::Limit(Limit::MinProperties) => "minProperties",
             Keyword::Limit(Limit::MaxProperties) => "maxProperties",
+            Keyword::Pattern => "pattern",
         }
     }
 }

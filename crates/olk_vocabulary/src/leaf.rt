@@ -14,8 +14,10 @@ use crate::keyword::{Bound, Keyword, Limit};
 use crate::kinds::{is_of_kind, is_of_some_kind};
 use crate::lengths::is_allowed;
 use crate::numbers::JsonNumber;
+use crate::text_pattern::TextPattern;
 use crate::texts::{
     bound_text, candidates_text, constant_text, kind_text, kinds_text, limit_text, multiple_text,
+    pattern_text,
 };
 use olk_base::{Leaf, Node};
 use olk_bench::{Divisor, ValueKind};
@@ -39,6 +41,8 @@ pub enum VocabularyLeaf {
     Bound(Bound, JsonNumber),
     /// A limit of lengths.
     Limit(Limit, u64),
+    /// `pattern`: what a text is to match.
+    Pattern(TextPattern),
 }
 
 impl Leaf for VocabularyLeaf {
@@ -91,6 +95,7 @@ impl VocabularyLeaf {
             VocabularyLeaf::MultipleOf(_) => Keyword::MultipleOf,
             VocabularyLeaf::Bound(bound, _) => Keyword::Bound(*bound),
             VocabularyLeaf::Limit(limit, _) => Keyword::Limit(*limit),
+            VocabularyLeaf::Pattern(_) => Keyword::Pattern,
         }
     }
 
@@ -107,6 +112,7 @@ impl VocabularyLeaf {
             VocabularyLeaf::MultipleOf(divisor) => is_multiple(*divisor, node),
             VocabularyLeaf::Bound(bound, number) => is_within(*bound, *number, node),
             VocabularyLeaf::Limit(limit, number) => is_allowed(*limit, *number, node),
+            VocabularyLeaf::Pattern(pattern) => pattern.has_found(node),
         }
     }
 
@@ -122,6 +128,7 @@ impl VocabularyLeaf {
             VocabularyLeaf::MultipleOf(divisor) => multiple_text(alloc, node, *divisor),
             VocabularyLeaf::Bound(bound, number) => bound_text(alloc, node, *bound, *number),
             VocabularyLeaf::Limit(limit, number) => limit_text(alloc, node, *limit, *number),
+            VocabularyLeaf::Pattern(pattern) => pattern_text(alloc, node, pattern.text()),
         }
     }
 }

@@ -43,7 +43,8 @@ fn is_up_to(most: u64, count: Option<u64>) -> bool
     }
 }
 
-fn text_of(node: Node<'_>) -> Option<&str>
+/// The text that the node is, if it is one.
+pub(crate) fn text_of(node: Node<'_>) -> Option<&str>
     ensures { option_map (λ s. s.now) result ≡ as_str (data_of node.entry) }
 {
     match node {

@@ -1,7 +1,7 @@
 //! The assertion keywords of JSON Schema 2020-12 Validation that hold no schema, as a leaf set.
 //!
-//! Stands on `olk_base`, and on the kinds of values and the texts of `olk_bench`. Tested by
-//! `olk_vocabulary_tests`.
+//! Stands on `olk_base`, on the kinds of values and the texts of `olk_bench`, and on the patterns
+//! of `olk_regexes`. Tested by `olk_vocabulary_tests`.
 #![tactic(auto)]
 
 mod candidates;
@@ -13,6 +13,7 @@ mod lengths;
 mod maker;
 mod numbers;
 mod ranked;
+mod text_pattern;
 mod texts;
 
 pub use candidates::Candidates;
@@ -20,3 +21,4 @@ pub use keyword::{Bound, Keyword, Limit};
 pub use leaf::VocabularyLeaf;
 pub use maker::{Vocabulary, is_unread};
 pub use numbers::JsonNumber;
+pub use text_pattern::TextPattern;

@@ -10,6 +10,7 @@ use crate::keyword::{Bound, Keyword, Limit};
 use crate::kinds::{is_short, kind_of, kinds_of};
 use crate::leaf::VocabularyLeaf;
 use crate::numbers::JsonNumber;
+use crate::text_pattern::TextPattern;
 use olk_base::{MakeError, MakeLeaf, Meter};
 use olk_bench::Divisor;
 use serde_json::Value;
@@ -19,7 +20,7 @@ use std::alloc::{AllocError, Global};
 /// (6.1 to 6.5).
 ///
 /// The others that assert something are refused with every value: `prefixItems`, `items`,
-/// `contains`, `minContains`, `maxContains`, `pattern` and `uniqueItems`.
+/// `contains`, `minContains`, `maxContains` and `uniqueItems`.
 #[derive(Drop)]
 pub struct Vocabulary;
 
@@ -54,13 +55,7 @@ pub fn is_unread(name: &str) -> bool
 {
     matches!(
         name,
-        "prefixItems"
-            | "items"
-            | "contains"
-            | "minContains"
-            | "maxContains"
-            | "pattern"
-            | "uniqueItems"
+        "prefixItems" | "items" | "contains" | "minContains" | "maxContains" | "uniqueItems"
     )
 }
 
@@ -78,6 +73,7 @@ fn leaf_of(
         Keyword::MultipleOf => Ok(multiple_leaf(value)),
         Keyword::Bound(bound) => Ok(bound_leaf(bound, value)),
         Keyword::Limit(limit) => Ok(limit_leaf(limit, value)),
+        Keyword::Pattern => pattern_leaf(alloc, value),
     }
 }
 
@@ -147,4 +143,16 @@ fn limit_leaf(limit: Limit, value: &Value) -> Option<VocabularyLeaf>
 {
     let number = value.as_u64()?;
     Some(VocabularyLeaf::Limit(limit, number))
+}
+
+fn pattern_leaf(alloc: Global, value: &Value) -> Result<Option<VocabularyLeaf>, AllocError>
+    ensures { IfOk result (IsMade Keyword.Pattern (view value.now)) }
+{
+    match value {
+        Value::String(text) => match TextPattern::new(alloc, text.as_str())? {
+            Some(pattern) => Ok(Some(VocabularyLeaf::Pattern(pattern))),
+            None => Ok(None),
+        },
+        _ => Ok(None),
+    }
 }

@@ -1,6 +1,6 @@
 //! What is said of a value that is not accepted.
 ghost use Rattle.std.specs.Prelude.{◌≡◌, ◌++◌, IfOk, OnOk, string_bytes, codes, map, decimal};
-ghost use Rattle.serde_json.specs.Data.{number};
+ghost use Rattle.serde_json.specs.Data.{number, string};
 ghost use Rattle.serde_json.specs.View.{view};
 ghost use Rattle.serde_json.specs.Written.{compact_text};
 ghost use Rattle.olk_base.specs.Nodes.{data_of};
@@ -8,6 +8,7 @@ ghost use Rattle.olk_spec.specs.Bench.{shown};
 ghost use Rattle.olk_vocabulary.specs.Keywords.{bound_words, limit_words, one_thing, many_things, bound_text, limit_text, multiple_text, led, separated, candidates};
 ghost use Rattle.olk_vocabulary.specs.Leaves.{kind_value};
 ghost use Rattle.olk_vocabulary.specs.Numbers.{num_of};
+ghost use Rattle.olk_vocabulary.specs.Patterns.{pattern_text};
 
 use crate::keyword::{Bound, Limit};
 use crate::numbers::JsonNumber;
@@ -190,6 +191,19 @@ pub(crate) fn constant_text(alloc: Global, value: &Value) -> Result<String, Allo
         ≡ shown (view value.now) ++ codes " was expected") }
 {
     text_of(alloc, Node::Value(value), " was expected")
+}
+
+pub(crate) fn pattern_text(
+    alloc: Global,
+    node: Node<'_>,
+    pattern: &str,
+) -> Result<String, AllocError>
+    ensures { IfOk result (λ s. string_bytes s ≡ pattern_text pattern.now (data_of node.entry)) }
+{
+    let mut text = text_of(alloc, node, " does not match ")?;
+    let shown = shown_text(alloc, Node::Name(pattern))?;
+    text.push_str(shown.as_str())?;
+    Ok(text)
 }
 
 pub(crate) fn candidates_text(

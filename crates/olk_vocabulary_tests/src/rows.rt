@@ -145,12 +145,38 @@ maxProperties | 1 | {"a":1,"b":2} | {"a":1,"b":2} has more than 1 property
 maxProperties | 0 | {"a":1} | {"a":1} has more than 0 properties
 maxProperties | 0 | null | -
 maxProperties | -1 | {} | refused
+pattern | "^a*$" | "aaa" | -
+pattern | "^a*$" | "abc" | "abc" does not match "^a*$"
+pattern | "^a*$" | "" | -
+pattern | "^a*$" | true | -
+pattern | "^a*$" | 123 | -
+pattern | "^a*$" | ["abc"] | -
+pattern | "^a*$" | null | -
+pattern | "a+" | "xxaayy" | -
+pattern | "a+" | "xxyy" | "xxyy" does not match "a+"
+pattern | "abc" | "xabcx" | -
+pattern | "^(\\([0-9]{3}\\))?[0-9]{3}-[0-9]{4}$" | "555-1212" | -
+pattern | "^(\\([0-9]{3}\\))?[0-9]{3}-[0-9]{4}$" | "(888)555-1212" | -
+pattern | "^(\\([0-9]{3}\\))?[0-9]{3}-[0-9]{4}$" | "(800)FLOWERS" | "(800)FLOWERS" does not match "^(\\([0-9]{3}\\))?[0-9]{3}-[0-9]{4}$"
+pattern | "^\\d$" | "0" | -
+pattern | "^\\d$" | "߀" | "߀" does not match "^\\d$"
+pattern | "^\\w$" | "é" | "é" does not match "^\\w$"
+pattern | "^\\s$" | " " | -
+pattern | "^🐲*$" | "🐲🐲" | -
+pattern | "^🐲*$" | "🐉" | "🐉" does not match "^🐲*$"
+pattern | "^.$" | "𝄞" | -
+pattern | "[\"]" | "'" | "'" does not match "[\"]"
+pattern | "" | "" | -
+pattern | "^(?!a)" | "b" | refused
+pattern | "^a(" | "a" | refused
+pattern | "\\a" | "a" | refused
+pattern | 5 | "5" | refused
+pattern | ["a"] | "a" | refused
 prefixItems | [] | [] | refused
 items | true | [] | refused
 contains | true | [] | refused
 minContains | 0 | [] | refused
 maxContains | 1 | [] | refused
-pattern | "a" | "a" | refused
 uniqueItems | false | [] | refused"#;
 
 #[test]
