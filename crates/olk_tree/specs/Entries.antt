@@ -1,5 +1,5 @@
 -- Names in order, and what stands at each, as maps lend them.
-use Rattle.std.specs.Prelude.{◌≡◌, ℕ, List, [], ◌∷◌, map, Option, MatchOption}
+use Rattle.std.specs.Prelude.{◌≡◌, ℕ, List, [], ◌∷◌, Option, MatchOption}
 use denote.Ref.{Bor}
 use Rattle.std.specs.List.{zip}
 use Rattle.olk_spec.specs.Names.{Name}

@@ -49,10 +49,7 @@ impl<'a, N> Iterator for DeclaredMembers<'a, N> {
 
 impl<'a, N> DeclaredMembers<'a, N> {
     /// The members whose names are declared, each with the node that stands beside its name.
-    pub fn of(
-        entries: Entries<'a, N>,
-        members: &'a Map<String, Value>,
-    ) -> DeclaredMembers<'a, N>
+    pub fn of(entries: Entries<'a, N>, members: &'a Map<String, Value>) -> DeclaredMembers<'a, N>
         ensures by_members { left_of result
             ≡ members_declared entries.entry (listed (members_view members.now.entries)) }
         ensures by_names { left_of result

@@ -1,4 +1,4 @@
-use Rattle.std.proofs.Common.{◌≡◌, ap, ◌∙◌}
+use Rattle.std.proofs.Common.{ap, ◌∙◌}
 use Rattle.olk_spec.specs.Schemas.{at}
 use Rattle.olk_tree.specs.Entries.{each_left}
 use Rattle.olk_tree.specs.Questions.{every}

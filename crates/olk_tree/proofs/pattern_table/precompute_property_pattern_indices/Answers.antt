@@ -1,4 +1,4 @@
-use Rattle.std.proofs.Common.{◌≡◌, ◌*◌, List, length, map, refl, sym, ap, subst, ◌∙◌}
+use Rattle.std.proofs.Common.{◌≡◌, ◌*◌, List, length, map, sym, ap, subst, ◌∙◌}
 use Rattle.std.specs.List.{AllZip}
 use Rattle.std.proofs.lemmas.List.{length-map}
 use Rattle.serde_json.specs.View.{members_view}
@@ -8,7 +8,6 @@ use Rattle.olk_spec.specs.Schemas.{listed}
 use Rattle.olk_tree.specs.declared.sorted_name.SortedName.{SortedName}
 use Rattle.olk_tree.specs.Sorted.{name_of}
 use Rattle.olk_tree.specs.Tables.{patterns_of, IsRowOf, how_many_cost, count_asks, AsksAtMost}
-use Rattle.olk_tree.specs.Maps.{keys_in, nodes_in}
 use Rattle.olk_tree.proofs.Tables.{is_table, nothing_else, on_err}
 use Rattle.olk_tree.proofs.pattern_table.precompute_property_pattern_indices.Goals as goal
 

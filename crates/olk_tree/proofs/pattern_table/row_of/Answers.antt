@@ -1,4 +1,4 @@
-use Rattle.std.proofs.Common.{◌≡◌, ◌≤◌, ◌<◌, length, sym, ap, ◌∙◌, arith}
+use Rattle.std.proofs.Common.{sym, ap, ◌∙◌, arith}
 use Rattle.std.proofs.lemmas.List.{take_all}
 use Rattle.olk_tree.specs.Tables.{patterns_of, how_many_cost, count_asks}
 use Rattle.olk_tree.proofs.Tables.{no_asks, asked_more, all_noted, as_many_patterns, pattern_here}

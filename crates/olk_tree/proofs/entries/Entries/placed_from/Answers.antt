@@ -1,5 +1,4 @@
 use Rattle.std.proofs.Common.{sym, ap, ◌∙◌}
-use Rattle.std.specs.Option.{option_map}
 use Rattle.olk_spec.specs.Names.{lookup_name}
 use Rattle.olk_tree.specs.Maps.{placed_entries}
 use Rattle.olk_tree.specs.Sorted.{names_of}

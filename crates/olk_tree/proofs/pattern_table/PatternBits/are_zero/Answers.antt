@@ -1,4 +1,4 @@
-use Rattle.std.proofs.Common.{◌∷◌, ◌&&◌, ap, sym, ◌∙◌}
+use Rattle.std.proofs.Common.{◌&&◌, ap, sym, ◌∙◌}
 use Rattle.std.specs.Prelude.{◌==◌}
 use Rattle.std.specs.List.{list_all}
 use Rattle.olk_tree.proofs.pattern_table.PatternBits.are_zero.Goals as goal
