@@ -31,7 +31,7 @@ use Rattle.olk_make.proofs.PatternProperties.{both_stand}
 use Rattle.olk_make.proofs.Makes.{neighbours, part_of_alone, makes_leaf, restriction_named}
 use Rattle.olk_make.proofs.Taking.{apart_by, taken_stands}
 use Rattle.olk_build.specs.Building.{IsMember}
-use Rattle.olk_build.specs.Beside.{takes, takes_of, IsNode, DeclaredBy, IsDeclared, PatternsBy, IsPatterns, TakenStands, MakesTaking}
+use Rattle.olk_build.specs.Beside.{takes, takes_of, IsNode, DeclaredBy, IsDeclared, PatternsBy, IsPatterns, MakesTaking}
 
 abbrev pub has_no_shape : Keyword → Bool
 has_no_shape leaf = true

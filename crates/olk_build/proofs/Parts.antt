@@ -16,14 +16,12 @@ use Rattle.olk_base.specs.Count.{Counts}
 use Rattle.olk_reports.specs.declared.error.BuildError.{BuildError}
 use Rattle.olk_base.specs.Kit.{Kit}
 use Rattle.olk_meaning.specs.Dependencies.{schema_entries}
-use Rattle.olk_read.specs.Refusing.{Spends}
 use Rattle.olk_build.specs.Building.{RefusesPart, later_cost}
 use Rattle.olk_read.specs.Reading.{reads_of, own_faults, own_cost_of, IsShape, Fits, IsRead, RefusesKeyword}
 use Rattle.olk_meaning.specs.Conditions.{Known, known_of, is_conditional_name, IsKnown}
 use Rattle.olk_meaning.proofs.AdditionalPlaces.{additional_places}
 use Rattle.olk_read.specs.declared.shape.ReadPlaces.{ReadPlaces}
 use Rattle.olk_read.specs.declared.shape.ReadPlaces.TheVariants.{Nothing, Itself, Entries, SchemaEntries, InnerEntries, Branches}
-use Rattle.olk_spec.proofs.Named.{Named, named as is_named}
 use Rattle.olk_meaning.proofs.Conditions.{places_by_condition}
 use Rattle.olk_meaning.proofs.PatternProperties.{pattern_properties_known_cost}
 use Rattle.olk_build.specs.Placing.{places_malformed, places_cost, PlacesAreBuilt, RefusesPlaces, IsPart}
@@ -37,7 +35,7 @@ use Rattle.olk_meaning.proofs.Dependencies.{dependencies_places}
 use Rattle.olk_meaning.proofs.PropertyNames.{false_is_no_object}
 use Rattle.olk_meaning.proofs.PropertyDependencies.{inner_places, property_dependencies_places, inner_malformations, inner_costs}
 use Rattle.olk_spec.proofs.CostSums.{sum_last}
-use Rattle.olk_read.proofs.Spending.{spends_append, spends_same, within_after, within_before, within_same, tells_left, tells_right, tells_same}
+use Rattle.olk_read.proofs.Spending.{spends_append, within_after, within_before, within_same, tells_left, tells_right, tells_same}
 
 branch_entries : {X : Type 0} (step : Schema X → X) (d : Data) → branches (read step d) ≡ map (entry step) (numbered (items_of_array d))
 branch_entries step d = branches_read step d ∙ numbered-map (place step) (items_of_array d)

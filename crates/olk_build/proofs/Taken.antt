@@ -1,5 +1,5 @@
 -- What a keyword takes of its neighbours' parts, and what is counted for it.
-use Rattle.std.specs.Prelude.{◌≡◌, ◌*◌, Bool, true, false, List, [], ◌∷◌, ◌++◌, map, length, zip, codes, bytes_eq, Option, Some, None, is_some, unwrap_or, option_to_list}
+use Rattle.std.specs.Prelude.{◌≡◌, ◌*◌, false, List, [], ◌∷◌, ◌++◌, map, length, zip, codes, bytes_eq, Option, Some, None, is_some, unwrap_or, option_to_list}
 use Rattle.std.specs.declared.alloc.AllocError.{AllocError}
 use Rattle.std.proofs.Common.{refl, sym, ◌∙◌, ap, subst}
 use Rattle.std.proofs.lemmas.Grind.{flat_map-append}
@@ -20,7 +20,7 @@ use Rattle.olk_meaning.specs.Conditions.{Known, known_of}
 use Rattle.olk_meaning.specs.PatternProperties.{open_names}
 use Rattle.olk_read.specs.Patterns.{ArePatterns}
 use Rattle.olk_read.specs.Reading.{reads_of, IsShape}
-use Rattle.olk_read.specs.Refusing.{Spends, SpendsWithin}
+use Rattle.olk_read.specs.Refusing.{Spends}
 use Rattle.olk_read.specs.declared.shape.Shape.{Shape}
 use Rattle.olk_read.specs.declared.shape.Shape.TheVariants as shape
 use Rattle.olk_read.proofs.ReadPatterns.{asks, open_cost, spends_asks, within_asks}

@@ -107,8 +107,8 @@ fn compile_object<'a, L: MakeLeaf, M: MakeRegex, N: BuiltNode<L::Leaf, M::Engine
     Ok(keywords)
 }
 
-/// What the keyword of a part of this shape takes of two neighbours, as far as they are there. Where
-/// it takes patterns, each is asked once of each name that is declared beside them.
+/// What the keyword of a part of this shape takes of two neighbours, as far as they are there.
+/// Where it takes patterns, each is asked once of each name that is declared beside them.
 ///
 /// # Errors
 ///

@@ -93,10 +93,12 @@ fn table_of_declared<R: RegexEngine, N>(
         ≡ map (λ e. e.0) (known neighbours.entry).declared) }
     ensures answers { IfOk result (IsTableOf R.answers (patterns_of patterns.now)) }
     ensures asked { OnOk result (meter.new ≡ count_asks
-        (length (known neighbours.entry).declared * how_many_cost R.costs (patterns_of patterns.now))
+        (length (known neighbours.entry).declared
+        * how_many_cost R.costs (patterns_of patterns.now))
         meter.old) }
     ensures asked_at_most { OnErr result (AsksAtMost
-        (length (known neighbours.entry).declared * how_many_cost R.costs (patterns_of patterns.now))
+        (length (known neighbours.entry).declared
+        * how_many_cost R.costs (patterns_of patterns.now))
         meter.old meter.new) }
 {
     match neighbours.declared() {
@@ -145,8 +147,8 @@ fn patterns_of<K: Drop, R: RegexEngine, N: Drop>(
     }
 }
 
-/// What a keyword of this shape takes from its neighbours' parts, as far as they are there. Where it
-/// takes patterns, each is asked once of each name that is declared beside them.
+/// What a keyword of this shape takes from its neighbours' parts, as far as they are there. Where
+/// it takes patterns, each is asked once of each name that is declared beside them.
 ///
 /// # Errors
 ///

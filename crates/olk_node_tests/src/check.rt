@@ -187,9 +187,15 @@ fn properties_of<N: Drop>(
     if many {
         let SmallMap { names, nodes } = properties;
         let properties = BigMap { names, nodes };
-        KeywordOver::BigProperties(BigProperties { properties, location })
+        KeywordOver::BigProperties(BigProperties {
+            properties,
+            location,
+        })
     } else {
-        KeywordOver::SmallProperties(SmallProperties { properties, location })
+        KeywordOver::SmallProperties(SmallProperties {
+            properties,
+            location,
+        })
     }
 }
 

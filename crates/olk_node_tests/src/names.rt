@@ -24,7 +24,10 @@ fn positions(alloc: Global, count: usize) -> Result<Vec<usize>, AllocError> {
 
 /// The first so many names, each with its position.
 fn first_names(alloc: Global, count: usize) -> Result<SmallMap<usize>, AllocError> {
-    beside(sorted_names(alloc, DECLARED, count), positions(alloc, count))
+    beside(
+        sorted_names(alloc, DECLARED, count),
+        positions(alloc, count),
+    )
 }
 
 /// The first names in a map of many, each with its place.
@@ -75,11 +78,7 @@ fn is_at<M: LendsEntries>(map: &M, name: &str, position: Option<usize>) -> bool 
 
 /// The first of these names that is not found as it is to be: the first so many stand in the map,
 /// and no other.
-fn wrong_name<M: LendsEntries>(
-    map: &M,
-    names: &'static str,
-    count: usize,
-) -> Option<&'static str> {
+fn wrong_name<M: LendsEntries>(map: &M, names: &'static str, count: usize) -> Option<&'static str> {
     for (i, name) in names.split(" ").enumerate() {
         let position = if i < count { Some(i) } else { None };
         if !is_at(map, name, position) {
@@ -106,10 +105,7 @@ fn expect_none(wrong: Option<&str>, count: usize) -> Result<(), Fail> {
     }
 }
 
-fn expect_found<M: LendsEntries>(
-    map: Result<M, AllocError>,
-    count: usize,
-) -> Result<(), Fail> {
+fn expect_found<M: LendsEntries>(map: Result<M, AllocError>, count: usize) -> Result<(), Fail> {
     let map = map?;
     let wrong = wrong_look_up(&map, count);
     drop(map);
