@@ -302,7 +302,7 @@ module _ {K R : Type 0} (o : Kit K R) where
   unfolding answers_of
   shows_layer n (Keywords ks) u v Q =
       let by_name = λ (P : Path) (ks : List Name) (ns : List Node) (more : List Tree). ap (λ es. properties_tree (λ (a : Answers). a.tree u) v Q P es more) (zip-map (answers o) ks ns)
-          ∙ properties_tree-map (λ (a : Answers). a.tree u) (λ n. shows n u) (answers o) (λ y w R. refl) v Q P (zip ks ns) more in
+      ∙ properties_tree-map (λ (a : Answers). a.tree u) (λ n. shows n u) (answers o) (λ y w R. refl) v Q P (zip ks ns) more in
       let branches = branch_trees-map (λ (a : Answers). a.tree u) (λ n. shows n u) (answers o) (λ y w R. refl) v Q in
       let any_of = any_of_tree-map (λ (a : Answers). a.tree u) (λ n. shows n u) (answers o) (λ y w R. refl) v Q (λ a. (a.means v).accepts u) (λ n. (means n v).accepts u) (λ n. refl) in
       let one_of = one_of_tree-map (λ (a : Answers). a.tree u) (λ n. shows n u) (answers o) (λ y w R. refl) v Q (λ a. (a.means v).accepts u) (λ n. (means n v).accepts u) (λ n. refl) in

@@ -10,6 +10,7 @@ use Rattle.std.specs.declared.cmp.Ordering.TheVariants.{Less, Equal, Greater}
 use Rattle.std.proofs.lemmas.Cmp.{nat_list_cmp_total}
 use Rattle.std.proofs.lemmas.Map.Text.{is_eq-slice_cmp}
 use Rattle.std.proofs.lemmas.Grind.{common_steps}
+use Rattle.std.proofs.lemmas.List.{get_or_default}
 use Rattle.std.proofs.lemmas.List.Quantifiers.{position-Some}
 use Rattle.std.proofs.lemmas.Slice.Eq.{bytes_eq-Decides}
 use Rattle.olk_spec.specs.Names.{Name, lookup_name, first_if_equal}
@@ -96,6 +97,22 @@ key_read ks n p e = (bytes_eq-Decides (get_or ks p []) n).0 (position-Some (λ k
 module _ {N : Type 0} (ks : List Name) (xs : List N) (n : Name) where
   pub found_placed : (p : ℕ) (o : Option (ℕ × N)) → Some p ≡ position (λ k. bytes_eq k n) ks → o ≡ slice_get (placed xs) p → o ≡ lookup_name n (placed_entries (zip ks xs))
   found_placed p o e is = is ∙ ap (option_and_then (slice_get (placed xs))) e ∙ zip_place ks (placed xs) n ∙ ap (lookup_name n) (sym (placed_zip 0 ks xs))
+
+  module _ (p : ℕ) (d : N) (e : Some p ≡ position (λ k. bytes_eq k n) ks) (within : length ks ≤ length xs) where
+    abbrev x : N
+    x = get_or xs p d
+
+    pub place_inside : p < length xs
+    place_inside = omega (arith, (position-Some (λ k. bytes_eq k n) ks p [] (sym e)).0, within)
+
+    here : Some x ≡ slice_get xs p
+    here = sym (slice_get_read xs (length xs) p x refl place_inside (get_or_default xs p d x place_inside))
+
+    pub node_here : Some x ≡ lookup_name n (zip ks xs)
+    node_here = here ∙ ap (option_and_then (slice_get xs)) e ∙ zip_place ks xs n
+
+    pub node_here_placed : Some (p, x) ≡ lookup_name n (placed_entries (zip ks xs))
+    node_here_placed = found_placed p (Some (p, x)) e (ap (option_map {U = ℕ × N} (λ y. (p, y))) here ∙ sym (numbered_get 0 xs p p (omega arith)))
 
   pub none_placed : None ≡ position (λ k. bytes_eq k n) ks → None ≡ lookup_name n (placed_entries (zip ks xs))
   none_placed e = zip_none ks (placed xs) n e ∙ ap (lookup_name n) (sym (placed_zip 0 ks xs))

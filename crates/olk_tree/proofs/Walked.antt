@@ -1,5 +1,5 @@
 -- What is left of a walk over the members whose names are declared.
-use Rattle.std.proofs.Common.{◌≡◌, ℕ, zero, suc, ◌<◌, ◌≤◌, length, get_or, arith, Bool, true, false, cond, List, [], ◌∷◌, ◌++◌, Option, Some, None, option_to_list, String, Global, string_bytes, string_cmp, refl, sym, ap, subst, ◌∙◌}
+use Rattle.std.proofs.Common.{◌≡◌, ℕ, zero, suc, ◌<◌, ◌≤◌, min, take, length, get_or, arith, Bool, true, false, cond, List, [], ◌∷◌, ◌++◌, Option, Some, None, option_to_list, String, Global, string_bytes, string_cmp, refl, sym, ap, subst, ◌∙◌}
 use Rattle.std.specs.List.{flat_map, zip}
 use Rattle.std.specs.Ordering.{nat_cmp}
 use Rattle.std.specs.Cmp.Lexicographic.{slice_cmp}
@@ -11,7 +11,10 @@ use Rattle.olk_spec.specs.Names.{Name, lookup_name}
 use Rattle.olk_spec.specs.Schemas.{listed}
 use Rattle.std.specs.List.Sorted.{IsStrictlySortedBy}
 use Rattle.std.specs.Map.{keys_of}
-use Rattle.olk_tree.specs.Ascending.{Ascend}
+use Rattle.std.proofs.lemmas.List.{take-map, length-take-le, get_or-take}
+use Rattle.olk_tree.specs.Ascending.{Ascend, AscendWithin}
+use Rattle.olk_tree.specs.Sorted.{name_of, names_of}
+use Rattle.olk_tree.specs.declared.sorted_name.SortedName.{SortedName}
 use Rattle.olk_tree.specs.Maps.{keys_in, nodes_in}
 use Rattle.olk_tree.proofs.Merge.{Rising, in_step, ascending_rising, sorted_rising}
 use Rattle.olk_tree.specs.Visited.{Declared, declared_as, members_declared, names_met}
@@ -75,9 +78,45 @@ module _ {N : Type 0} where
   no_longer (k ∷ ks) (x ∷ xs) (suc i) lt = let l = no_longer ks xs i (omega arith) in omega arith
   no_longer _ _ i lt = absurd (omega arith)
 
+  no_names_taken : (k : ℕ) (xs : List N) → zip {K = Name} (take k []) xs ≡ []
+  no_names_taken zero xs = refl
+  no_names_taken (suc k) xs = refl
+
+  no_nodes_taken : (ks : List Name) → zip {X = N} ks [] ≡ []
+  no_nodes_taken [] = refl
+  no_nodes_taken (k ∷ ks) = refl
+
+  -- what has no name beside it, or no node, is left out
+  pub zip_within : (ks : List Name) (xs : List N) → zip (take (min (length ks) (length xs)) ks) xs ≡ zip ks xs
+  zip_within (k ∷ ks) (x ∷ xs) =
+      let more : min (suc (length ks)) (suc (length xs)) ≡ suc (min (length ks) (length xs)) = omega arith in
+      ap (λ n. zip (take n (k ∷ ks)) (x ∷ xs)) more ∙ ap (λ es. (k, x) ∷ es) (zip_within ks xs)
+  zip_within [] xs = no_names_taken (min 0 (length xs)) xs
+  zip_within (k ∷ ks) [] = no_nodes_taken (take (min (length (k ∷ ks)) 0) (k ∷ ks))
+
   pub no_more_than_names : (ks : List Name) (xs : List N) → length (zip ks xs) ≤ length ks
   no_more_than_names (k ∷ ks) (x ∷ xs) = let few = no_more_than_names ks xs in omega arith
   no_more_than_names _ _ = omega arith
+
+  -- as many names as have something beside them
+  module _ (ns : List SortedName) (xs : List N) (k : ℕ) (count : k ≡ min (length (names_of ns)) (length xs)) where
+    cut_names : names_of (take k ns) ≡ take k (names_of ns)
+    cut_names = sym (take-map name_of k ns)
+
+    cut_length : length (take k (names_of ns)) ≡ k
+    cut_length = length-take-le k (names_of ns) (omega (arith, count))
+
+    pub cut_within : Ascend (names_of ns) → AscendWithin (names_of (take k ns)) xs
+    cut_within asc = subst (λ ks. AscendWithin ks xs) (sym cut_names) record {
+      ascend = λ i j lt l.
+          let few : j < k = omega (arith, cut_length, l) in
+          subst (λ n. slice_cmp nat_cmp n (get_or (take k (names_of ns)) j []) ≡ Less) (sym (get_or-take k (names_of ns) i [] (omega arith)))
+          (subst (λ n. slice_cmp nat_cmp (get_or (names_of ns) i []) n ≡ Less) (sym (get_or-take k (names_of ns) j [] few)) (asc i j lt (omega (arith, count))));
+      within = omega (arith, cut_length, count);
+    }
+
+    pub cut_zip : zip (names_of (take k ns)) xs ≡ zip (names_of ns) xs
+    cut_zip = ap (λ ks. zip ks xs) (cut_names ∙ ap (λ m. take m (names_of ns)) count) ∙ zip_within (names_of ns) xs
 
   -- names that ascend do so where things stand beside them
   pub keys_ascend : (ks : List Name) (xs : List N) → Ascend ks → Ascend (keys_in (zip ks xs))

@@ -10,6 +10,11 @@ use Rattle.olk_spec.specs.Names.{Name}
 abbrev pub Ascend : List Name → Type 0
 Ascend ks = (i j : ℕ) → i < j → j < length ks → slice_cmp nat_cmp (get_or ks i []) (get_or ks j []) ≡ Less
 
+-- strictly ascending, and no more names than there are of what stands beside them
+pub record AscendWithin {N : Type 0} (ks : List Name) (xs : List N) : Type 0 where
+  pub ascend : Ascend ks
+  pub within : length ks ≤ length xs
+
 -- the first eight bytes of a name, as a number: zeros follow where it has fewer
 abbrev pub first_bytes : Name → ℕ
 first_bytes n = from_be_bytes w64 n

@@ -1,6 +1,6 @@
 //! Names in order, and what stands at each, as maps lend them.
-ghost use Rattle.std.specs.Prelude.{◌≡◌, ◌≤◌, IfSome, length, option_copied, option_map, slice_get};
-ghost use Rattle.std.specs.List.{enumerate_from, zip};
+ghost use Rattle.std.specs.Prelude.{◌≡◌, ◌≤◌, IfSome, length, option_copied, option_map};
+ghost use Rattle.std.specs.List.{zip};
 ghost use Rattle.olk_spec.specs.Names.{lookup_name};
 ghost use Rattle.olk_tree.specs.Entries.{each_left, NextEntry};
 ghost use Rattle.olk_tree.specs.Ascending.{Ascend};
@@ -22,14 +22,14 @@ impl<'a, N> Model for Entries<'a, N> {
     ghost use Rattle.std.specs.Prelude.{List};
     ghost use Rattle.std.specs.List.{zip};
     ghost use Rattle.olk_spec.specs.Names.{Name};
-    ghost use Rattle.olk_tree.specs.Ascending.{Ascend};
+    ghost use Rattle.olk_tree.specs.Ascending.{AscendWithin};
     ghost use Rattle.olk_tree.specs.Sorted.{names_of};
 
     ghost Value = { List (Name × N) };
 
     ghost view = { λ m. zip (names_of m.names.now) m.nodes.now };
 
-    ghost invariant = { λ m. Ascend (names_of m.names.now) };
+    ghost invariant = { λ m. AscendWithin (names_of m.names.now) m.nodes.now };
 }
 
 impl<'a, N> Entries<'a, N> {
@@ -38,8 +38,9 @@ impl<'a, N> Entries<'a, N> {
     pub fn of(names: &'a SortedNames, nodes: &'a [N]) -> Entries<'a, N>
         ensures { result ≡ zip names.now nodes.now }
     {
+        let count = names.len().min(nodes.len());
         Entries {
-            names: names.as_slice(),
+            names: &names.as_slice()[..count],
             nodes,
         }
     }
@@ -74,10 +75,10 @@ impl<'a, N> Entries<'a, N> {
         ensures { option_copied result.1 ≡ lookup_name name.now self.now }
     {
         if stands_at(self.names, hint, name) {
-            return (hint.wrapping_add(1), self.nodes.get(hint));
+            return (hint.wrapping_add(1), Some(&self.nodes[hint]));
         }
         match find_apart(self.names, hint, name) {
-            Ok(place) => (place.wrapping_add(1), self.nodes.get(place)),
+            Ok(place) => (place.wrapping_add(1), Some(&self.nodes[place])),
             Err(next) => (next, None),
         }
     }
@@ -92,10 +93,10 @@ impl<'a, N> Entries<'a, N> {
             ≡ lookup_name name.now (placed_entries self.now) }
     {
         if stands_at(self.names, hint, name) {
-            return (hint.wrapping_add(1), node_at(self.nodes, hint));
+            return (hint.wrapping_add(1), Some((hint, &self.nodes[hint])));
         }
         match find_apart(self.names, hint, name) {
-            Ok(place) => (place.wrapping_add(1), node_at(self.nodes, place)),
+            Ok(place) => (place.wrapping_add(1), Some((place, &self.nodes[place]))),
             Err(next) => (next, None),
         }
     }
@@ -106,24 +107,10 @@ impl<'a, N> Entries<'a, N> {
         ensures node { option_map (λ found. found.1.now) result
             ≡ lookup_name name.now self.now }
     {
-        let Ok(place) = find_apart(self.names, 0, name) else {
-            return None;
-        };
-        match self.nodes.get(place) {
-            Some(node) => Some((self.names[place].as_str(), node)),
-            None => None,
+        match find_apart(self.names, 0, name) {
+            Ok(place) => Some((self.names[place].as_str(), &self.nodes[place])),
+            Err(_) => None,
         }
-    }
-}
-
-/// What stands at the place, with the place.
-#[inline(always)]
-fn node_at<N>(nodes: &[N], place: usize) -> Option<(usize, &N)>
-    ensures { option_map (λ f. (f.0, f.1.now)) result ≡ slice_get (enumerate_from 0 nodes.now) place }
-{
-    match nodes.get(place) {
-        Some(node) => Some((place, node)),
-        None => None,
     }
 }
 

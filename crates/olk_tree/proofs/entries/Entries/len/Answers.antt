@@ -14,4 +14,4 @@ returns-clause-at_least g c =
     (let few : length (zip (names_of names) c.self.inside.nodes.now) ≤ length (names_of names) = no_more_than_names (names_of names) c.self.inside.nodes.now in omega (arith, as_many_names names, few))
 
 pub returns-clause-ordered : goal.returns-clause-ordered
-returns-clause-ordered g c = subst (λ es. Ascend (keys_in es)) c.self.view_is (keys_ascend (names_of c.self.inside.names.now) c.self.inside.nodes.now c.self.invariant)
+returns-clause-ordered g c = subst (λ es. Ascend (keys_in es)) c.self.view_is (keys_ascend (names_of c.self.inside.names.now) c.self.inside.nodes.now c.self.invariant.ascend)

@@ -1,19 +1,19 @@
-use Rattle.std.proofs.Common.{refl, sym, ap, ◌∙◌}
+use Rattle.std.proofs.Common.{sym, ap, ◌∙◌}
 use Rattle.olk_spec.specs.Names.{lookup_name}
 use Rattle.olk_tree.specs.Sorted.{names_of}
-use Rattle.olk_tree.proofs.Lookups.{zip_found, zip_none}
+use Rattle.olk_tree.proofs.Lookups.{node_here, zip_none}
 use Rattle.olk_tree.proofs.entries.Entries.node_from.Goals as goal
 
 pub returns-then-stands_at : goal.returns-then-stands_at
 returns-then-stands_at g c =
-    zip_found (names_of c.self.inside.names.now) c.self.inside.nodes.now _ c.args.name.now c.args.hint c.get.result refl (sym (c.stands_at.ensures.0 c.if-stands_at.true))
-    c.get.ensures.lookup.1 c.get.ensures.lookup.3
+    node_here (names_of c.self.inside.names.now) c.self.inside.nodes.now c.args.name.now c.args.hint c.index-self-hint.result (sym (c.stands_at.ensures.0 c.if-stands_at.true))
+    c.self.invariant.within
     ∙ ap (lookup_name c.args.name.now) c.self.view_is
 
 pub returns-in-Ok : goal.returns-in-Ok
 returns-in-Ok g c =
-    zip_found (names_of c.self.inside.names.now) c.self.inside.nodes.now _ c.args.name.now c.in-Ok.place c.get-in-Ok.result refl c.in-Ok.ensures
-    c.get-in-Ok.ensures.lookup.1 c.get-in-Ok.ensures.lookup.3
+    node_here (names_of c.self.inside.names.now) c.self.inside.nodes.now c.args.name.now c.in-Ok.place c.index-self-place.result c.in-Ok.ensures
+    c.self.invariant.within
     ∙ ap (lookup_name c.args.name.now) c.self.view_is
 
 pub returns-in-Err : goal.returns-in-Err
