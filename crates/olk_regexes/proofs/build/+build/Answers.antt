@@ -15,11 +15,15 @@ exactly-build-requires t c =
     (search rules, fits_exactly (c.args.times - 1) c.args.times (expr_of c.args.part.now) (omega arith) c.requires)
 
 pub times_then-before-requires : goal.times_then-before-requires
-times_then-before-requires t c =
-    (search rules, subst (λ p. fits (seq (expr_of c.args.part.now) p) ≡ true) (sym c.loop.invariant)
-    (fits_times c.loop.counter c.args.times (expr_of c.args.part.now) (expr c.args.last.regex) c.loop-test.true c.requires))
+times_then-before-requires t c = (
+  search rules,
+  subst (λ p. fits (seq (expr_of c.args.part.now) p) ≡ true) (sym c.loop.invariant)
+      (fits_times c.loop.counter c.args.times (expr_of c.args.part.now) (expr c.args.last.regex) c.loop-test.true c.requires),
+)
 
 pub up_to_more-maybe_before-requires : goal.up_to_more-maybe_before-requires
-up_to_more-maybe_before-requires t c =
-    (search rules, subst (λ p. fits (alt (seq (expr_of c.args.part.now) p) blank) ≡ true) (sym c.loop.invariant)
-    (fits_options c.loop.counter c.args.times (expr_of c.args.part.now) c.loop-test.true c.requires))
+up_to_more-maybe_before-requires t c = (
+  search rules,
+  subst (λ p. fits (alt (seq (expr_of c.args.part.now) p) blank) ≡ true) (sym c.loop.invariant)
+      (fits_options c.loop.counter c.args.times (expr_of c.args.part.now) c.loop-test.true c.requires),
+)
