@@ -1,5 +1,5 @@
--- What is too large stays so in a larger expression.
-use Rattle.std.proofs.Common.{◌≡◌, ℕ, suc, zero, ◌<◌, ◌≤◌, Bool, true, false, cond, ◌⊎◌, inl, inr, Some, None, refl, sym, ap, arith}
+-- What is too large stays so in a larger expression, and what is not has no part that is.
+use Rattle.std.proofs.Common.{◌≡◌, ℕ, suc, zero, ◌<◌, ◌≤◌, Bool, true, false, cond, ◌⊎◌, inl, inr, Some, None, refl, ap, subst, arith}
 use Rattle.std.proofs.lemmas.Bool.Decides.{nat_tests}
 use Rattle.olk_regexes.specs.Language.{Expr, blank, seq, alt}
 use Rattle.olk_regexes.specs.Limits.{marks_of, depth_of, parts_of, within, fits, fitting}
@@ -19,18 +19,30 @@ pub no_more : (p q : Expr) → marks_of p ≤ marks_of q → depth_of p ≤ dept
 no_more p q hm hd hs h =
     of_none (fits q) q (within_more (marks_of p) (depth_of p) (parts_of p) (marks_of q) (depth_of q) (parts_of q) hm hd hs (none_of (fits p) p h))
 
-pub no_first : (p q : Expr) → None ≡ fitting p → None ≡ fitting (seq p q)
-no_first p q = no_more p (seq p q) (omega arith) (omega arith) (omega arith)
-
-pub no_second : (p q : Expr) → None ≡ fitting q → None ≡ fitting (seq p q)
+no_second : (p q : Expr) → None ≡ fitting q → None ≡ fitting (seq p q)
 no_second p q = no_more q (seq p q) (omega arith) (omega arith) (omega arith)
-
-pub no_left : (p q : Expr) → None ≡ fitting p → None ≡ fitting (alt p q)
-no_left p q = no_more p (alt p q) (omega arith) (omega arith) (omega arith)
 
 pub no_last : (n : ℕ) (p q : Expr) → None ≡ fitting q → None ≡ fitting (times_then n p q)
 no_last zero p q h = h
 no_last (suc n) p q h = no_second p (times_then n p q) (no_last n p q h)
+
+-- ---- what is in an expression that is not too large
+
+within_less : (m d s m1 d1 s1 : ℕ) → m ≤ m1 → d ≤ d1 → s ≤ s1 → within m1 d1 s1 ≡ true → within m d s ≡ true
+within_less m d s m1 d1 s1 hm hd hs h = grind (arith, nat_tests)
+
+fits_less : (p q : Expr) → marks_of p ≤ marks_of q → depth_of p ≤ depth_of q → parts_of p ≤ parts_of q → fits q ≡ true → fits p ≡ true
+fits_less p q hm hd hs h = within_less (marks_of p) (depth_of p) (parts_of p) (marks_of q) (depth_of q) (parts_of q) hm hd hs h
+
+fits_second : (p q : Expr) → fits (seq p q) ≡ true → fits q ≡ true
+fits_second p q = fits_less q (seq p q) (omega arith) (omega arith) (omega arith)
+
+fits_left : (p q : Expr) → fits (alt p q) ≡ true → fits p ≡ true
+fits_left p q = fits_less p (alt p q) (omega arith) (omega arith) (omega arith)
+
+fits_last : (n : ℕ) (p q : Expr) → fits (times_then n p q) ≡ true → fits q ≡ true
+fits_last zero p q h = h
+fits_last (suc n) p q h = fits_last n p q (fits_second p (times_then n p q) h)
 
 nat_split : (i n : ℕ) → i < suc n → (i < n) ⊎ (i ≡ n)
 nat_split zero zero h = inr refl
@@ -43,28 +55,24 @@ nat_split (suc i) (suc n) h =
     ]
 
 -- a turn of the loop that puts another before the rest
-pub no_times : (i n : ℕ) (p q : Expr) → i < n → None ≡ fitting (seq p (times_then i p q)) → None ≡ fitting (times_then n p q)
-no_times i zero p q h e = absurd (omega arith)
-no_times i (suc n) p q h e =
-    elim (nat_split i n (omega arith)) as (λ _. None ≡ fitting (seq p (times_then n p q))) [
-      | inl a ↦ no_second p (times_then n p q) (no_times i n p q a e)
-      | inr b ↦ rw (sym b) e
+pub fits_times : (i n : ℕ) (p q : Expr) → i < n → fits (times_then n p q) ≡ true → fits (seq p (times_then i p q)) ≡ true
+fits_times i zero p q h e = absurd (omega arith)
+fits_times i (suc n) p q h e =
+    elim (nat_split i n (omega arith)) as (λ _. fits (seq p (times_then i p q)) ≡ true) [
+      | inl a ↦ fits_times i n p q a (fits_second p (times_then n p q) e)
+      | inr b ↦ rw b e
     ]
 
-pub no_options : (i n : ℕ) (p : Expr) → i < n → None ≡ fitting (alt (seq p (up_to_more i p)) blank) → None ≡ fitting (up_to_more n p)
-no_options i zero p h e = absurd (omega arith)
-no_options i (suc n) p h e =
-    elim (nat_split i n (omega arith)) as (λ _. None ≡ fitting (alt (seq p (up_to_more n p)) blank)) [
-      | inl a ↦ no_left (seq p (up_to_more n p)) blank (no_second p (up_to_more n p) (no_options i n p a e))
-      | inr b ↦ rw (sym b) e
+pub fits_options : (i n : ℕ) (p : Expr) → i < n → fits (up_to_more n p) ≡ true → fits (alt (seq p (up_to_more i p)) blank) ≡ true
+fits_options i zero p h e = absurd (omega arith)
+fits_options i (suc n) p h e =
+    elim (nat_split i n (omega arith)) as (λ _. fits (alt (seq p (up_to_more i p)) blank) ≡ true) [
+      | inl a ↦ fits_options i n p a (fits_second p (up_to_more n p) (fits_left (seq p (up_to_more n p)) blank e))
+      | inr b ↦ rw b e
     ]
 
-pub no_option : (n : ℕ) (p : Expr) → None ≡ fitting (alt p blank) → None ≡ fitting (up_to_more n p)
-no_option zero p e = e
-no_option (suc n) p e = no_left (seq p (up_to_more n p)) blank (no_second p (up_to_more n p) (no_option n p e))
+pub fits_between : (n k m : ℕ) (p : Expr) → m ≡ suc k → fits (between n m p) ≡ true → fits (up_to_more k p) ≡ true
+fits_between n k m p h e = fits_last n p (up_to_more k p) (subst (λ j. fits (between n j p) ≡ true) h e)
 
-pub no_between : (n k m : ℕ) (p : Expr) → m ≡ suc k → None ≡ fitting (up_to_more k p) → None ≡ fitting (between n m p)
-no_between n k m p h e = rw h (no_last n p (up_to_more k p) e)
-
-pub no_exactly : (n m : ℕ) (p : Expr) → m ≡ suc n → None ≡ fitting p → None ≡ fitting (exactly m p)
-no_exactly n m p h e = rw h (no_last n p p e)
+pub fits_exactly : (n m : ℕ) (p : Expr) → m ≡ suc n → fits (exactly m p) ≡ true → fits p ≡ true
+fits_exactly n m p h e = fits_last n p p (subst (λ j. fits (exactly j p) ≡ true) h e)

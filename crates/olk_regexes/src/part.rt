@@ -1,9 +1,9 @@
 //! Building an expression from its parts.
-ghost use Rattle.std.specs.Prelude.{◌≡◌, ◌≤◌, ◌<◌, ◌+◌, [], IfOk, length};
+ghost use Rattle.std.specs.Prelude.{◌≡◌, ◌≤◌, true, [], IfOk};
 ghost use Rattle.std.specs.Bool.{Decides};
 ghost use Rattle.std.specs.Str.{chars};
 ghost use Rattle.olk_regexes.specs.Language.{blank, one, seq, alt, star, framed, Finds};
-ghost use Rattle.olk_regexes.specs.Limits.{marks_of, depth_of, parts_of, within, fits, fitting};
+ghost use Rattle.olk_regexes.specs.Limits.{marks_of, depth_of, parts_of, fits};
 ghost use Rattle.olk_regexes.specs.Search.{finds};
 ghost use Rattle.olk_regexes.specs.Marks.{size, expr, matches, IsBuilt, IsBuilt-prop};
 
@@ -11,7 +11,7 @@ use crate::class::Class;
 use crate::edges::is_placed;
 use crate::regex::Regex;
 use crate::search::search;
-use crate::size::{DEPTH, MARKS, PARTS, larger};
+use crate::size::larger;
 use std::alloc::{AllocError, Global};
 
 /// An expression that is not too large, how large it is, and whether it matches the empty text.
@@ -33,12 +33,6 @@ pub struct Part {
     ghost empties: { empty ≡ matches (expr regex) [] },
 }
 
-fn is_within(marks: usize, depth: usize, parts: usize) -> bool
-    ensures { result ≡ within marks depth parts }
-{
-    marks <= MARKS && depth <= DEPTH && parts <= PARTS
-}
-
 impl Part {
     ghost use Rattle.olk_regexes.specs.Built.{seen_part};
     ghost use Rattle.olk_regexes.specs.Says.{placed};
@@ -56,39 +50,33 @@ impl Part {
         }
     }
 
-    /// Matches a character of the class. None where the class is too large.
-    pub fn one(class: Class) -> Option<Part>
-        ensures { seen_part result ≡ fitting (one class.negated class.ranges.items) }
+    /// Matches a character of the class.
+    pub fn one(class: Class) -> Part
+        requires { fits (one class.negated class.ranges.items) ≡ true }
+        ensures { expr result.regex ≡ one class.negated class.ranges.items }
     {
         let ranges = class.ranges.len();
-        if ranges < PARTS {
-            Some(Part {
-                regex: Regex::One(class),
-                marks: 0,
-                depth: 0,
-                parts: 1 + ranges,
-                empty: false,
-            })
-        } else {
-            None
+        Part {
+            regex: Regex::One(class),
+            marks: 0,
+            depth: 0,
+            parts: 1 + ranges,
+            empty: false,
         }
     }
 
-    /// Matches a text of `self` and then one of `next`. None where that is too large.
+    /// Matches a text of `self` and then one of `next`.
     ///
     /// # Errors
     ///
     /// There is no memory.
-    pub fn then(self, alloc: Global, next: Part) -> Result<Option<Part>, AllocError>
-        ensures { IfOk result
-            (λ o. seen_part o ≡ fitting (seq (expr self.regex) (expr next.regex))) }
+    pub fn then(self, alloc: Global, next: Part) -> Result<Part, AllocError>
+        requires { fits (seq (expr self.regex) (expr next.regex)) ≡ true }
+        ensures { IfOk result (λ p. expr p.regex ≡ seq (expr self.regex) (expr next.regex)) }
     {
         let marks = 1 + self.marks + next.marks;
         let depth = 1 + larger(self.depth, next.depth);
         let parts = 1 + self.parts + next.parts;
-        if !is_within(marks, depth, parts) {
-            return Ok(None);
-        }
         let empty = self.empty && next.empty;
         let regex = Regex::Then {
             first: Box::new(alloc, self.regex)?,
@@ -97,67 +85,62 @@ impl Part {
             second: Box::new(alloc, next.regex)?,
             second_empty: next.empty,
         };
-        Ok(Some(Part {
+        Ok(Part {
             regex,
             marks,
             depth,
             parts,
             empty,
-        }))
+        })
     }
 
-    /// Matches the texts of both. None where that is too large.
+    /// Matches the texts of both.
     ///
     /// # Errors
     ///
     /// There is no memory.
-    pub fn or(self, alloc: Global, other: Part) -> Result<Option<Part>, AllocError>
-        ensures { IfOk result
-            (λ o. seen_part o ≡ fitting (alt (expr self.regex) (expr other.regex))) }
+    pub fn or(self, alloc: Global, other: Part) -> Result<Part, AllocError>
+        requires { fits (alt (expr self.regex) (expr other.regex)) ≡ true }
+        ensures { IfOk result (λ p. expr p.regex ≡ alt (expr self.regex) (expr other.regex)) }
     {
         let marks = self.marks + other.marks;
         let depth = 1 + larger(self.depth, other.depth);
         let parts = 1 + self.parts + other.parts;
-        if !is_within(marks, depth, parts) {
-            return Ok(None);
-        }
         let empty = self.empty || other.empty;
         let regex = Regex::Or {
             first: Box::new(alloc, self.regex)?,
             marks: self.marks,
             second: Box::new(alloc, other.regex)?,
         };
-        Ok(Some(Part {
+        Ok(Part {
             regex,
             marks,
             depth,
             parts,
             empty,
-        }))
+        })
     }
 
-    /// Matches any number of texts of `self`, joined. None where that is too large.
+    /// Matches any number of texts of `self`, joined.
     ///
     /// # Errors
     ///
     /// There is no memory.
-    pub fn star(self, alloc: Global) -> Result<Option<Part>, AllocError>
-        ensures { IfOk result (λ o. seen_part o ≡ fitting (star (expr self.regex))) }
+    pub fn star(self, alloc: Global) -> Result<Part, AllocError>
+        requires { fits (star (expr self.regex)) ≡ true }
+        ensures { IfOk result (λ p. expr p.regex ≡ star (expr self.regex)) }
     {
         let marks = 1 + self.marks;
         let depth = 1 + self.depth;
         let parts = 1 + self.parts;
-        if !is_within(marks, depth, parts) {
-            return Ok(None);
-        }
         let regex = Regex::Star(Box::new(alloc, self.regex)?);
-        Ok(Some(Part {
+        Ok(Part {
             regex,
             marks,
             depth,
             parts,
             empty: true,
-        }))
+        })
     }
 
     /// The part, if `^` and `$` stand in it where they may.

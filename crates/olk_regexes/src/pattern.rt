@@ -161,10 +161,7 @@ fn built_of(alloc: Global, tree: &Tree) -> Result<Option<Part>, AllocError>
     if measure(tree).is_none() {
         return Ok(None);
     }
-    match build(alloc, tree)? {
-        Some(part) => Ok(part.placed()),
-        None => Ok(None),
-    }
+    Ok(build(alloc, tree)?.placed())
 }
 
 /// The expression of the pattern; none where it is refused.
