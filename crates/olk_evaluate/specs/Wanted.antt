@@ -1,5 +1,5 @@
 -- What an evaluation is to show, and what it shows.
-use Rattle.std.specs.Prelude.{◌≡◌, ⊤, ℕ, length, Bool, true, false, not, ◌&&◌, List, [], ◌∷◌, ◌++◌, map, None, IsPermutation}
+use Rattle.std.specs.Prelude.{◌≡◌, ⊤, ℕ, length, Bool, true, false, not, List, [], ◌∷◌, map, None, IsPermutation}
 use Rattle.serde_json.specs.Data.{Data}
 use Rattle.std.specs.List.{list_all}
 use Rattle.olk_spec.specs.Names.{Name, Text, Path, filter_once, put_if, is_empty}

@@ -98,11 +98,12 @@ fn show_properties<'a, N: Located<'a> + 'a>(
     outcome: &mut EvaluationResult<'a>,
 ) -> Result<(), AllocError>
     requires { shown_of outcome.old ≡ nothing_shown }
-    ensures { Shows result ctx.old ctx.new (λ _. (P : Path) → IsShown
-        (properties_tree (λ n. N.tree n ctx.old.validation.answer) (subject_data node.entry)
-        ctx.old.path P properties.entry [],
-        (properties_mean N.means properties.entry (subject_data node.entry)).accepts
-        ctx.old.validation.answer)
+    ensures { Shows result ctx.old ctx.new (λ _. (P : Path) → IsShown (
+      properties_tree (λ n. N.tree n ctx.old.validation.answer) (subject_data node.entry)
+          ctx.old.path P properties.entry [],
+      (properties_mean N.means properties.entry (subject_data node.entry)).accepts
+          ctx.old.validation.answer,
+    )
         (node_at P ctx.old.path (shown_of outcome.new))) }
 {
     match node.as_object() {

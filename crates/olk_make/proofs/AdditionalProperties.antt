@@ -91,10 +91,6 @@ module _ {K R N : Type 0} (o : Kit K R) (answers : N → Answers) where
   abbrev tree : N → Bool → Data → Path → Tree
   tree n = (answers n).tree
 
-  -- patterns with their nodes, as they are kept
-  abbrev PatternNodes : Type 0
-  PatternNodes = Vec (CompiledPattern R × N) Global
-
   -- ---- nodes that stand for schemas answer as these
 
   answers_as : (n : N) (S : Data) (P : Path) → Stands o answers n S P → AnswersAs o means report tree n S P

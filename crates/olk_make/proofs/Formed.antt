@@ -86,9 +86,6 @@ module _ {K R N : Type 0} (o : Kit K R) (answers : N → Answers) where
       pub each_nodes : nodes_in ds ≡ ns
       each_nodes = ap nodes_in held ∙ seconds-zip (keys_in es) ns (each_count o answers w ns es L each)
 
-      pub each_long : length ds ≡ length (keys_in es)
-      each_long = sym (length-map ds (λ e. e.0)) ∙ ap length each_keys
-
       pub each_held_formed : list_all has_form (nodes_in ds) ≡ true
       each_held_formed = ap (list_all has_form) each_nodes ∙ each_formed w ns es L each
 

@@ -41,10 +41,6 @@ spends_leaf a b e = e ∙ rw (raised_zero a.compiled, raised_zero a.made, raised
 
 -- ---- values of a kind
 
-pub array_of : (d : Data) → is_array d ≡ true → (ds : Items) × (d ≡ array ds)
-array_of (array ds) e = (ds, refl)
-array_of d e = absurd (true≢false (sym e))
-
 pub no_text_missed : (d : Data) (L : Path) → is_array d ≡ false → not_a_text d L ≡ []
 no_text_missed (array ds) L e = absurd (true≢false e)
 no_text_missed d L e = refl

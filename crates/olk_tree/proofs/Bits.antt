@@ -1,12 +1,10 @@
 -- A bit that is set in a list of words.
-use Rattle.std.proofs.Common.{◌≡◌, ℕ, suc, ◌-◌, ◌≤◌, ◌∷◌, ◌*◌, ◌/◌, ◌%◌, ◌^◌, ◌<◌, true, false, List, length, get_or, slice_index_or, slice_set, bit_or, w64, inl, inr, ap, sym, ◌∙◌, arith}
+use Rattle.std.proofs.Common.{◌≡◌, ℕ, suc, ◌-◌, ◌≤◌, ◌∷◌, ◌*◌, ◌/◌, ◌%◌, ◌^◌, ◌<◌, true, List, length, get_or, slice_index_or, slice_set, bit_or, w64, inl, inr, ap, sym, ◌∙◌, arith}
 use Rattle.std.specs.Prelude.{◌≢◌, ◌==◌}
 use Rattle.std.specs.Int.{bit_at}
-use Rattle.std.specs.List.{list_all}
-use Rattle.std.proofs.lemmas.Bool.{cases_eq, cases_lt, eqb-true, true_from_ne_false, true≢false}
-use Rattle.std.proofs.lemmas.List.{get_or-set_same, get_or-set_other, get_or_past}
-use Rattle.std.proofs.lemmas.List.Folds.{list_all_at}
-use Rattle.std.proofs.lemmas.Nat.Bits.{bit_at-zero, bit_at_set_same, bit_at_set_other}
+use Rattle.std.proofs.lemmas.Bool.{cases_eq}
+use Rattle.std.proofs.lemmas.List.{get_or-set_same, get_or-set_other}
+use Rattle.std.proofs.lemmas.Nat.Bits.{bit_at_set_same, bit_at_set_other}
 use Rattle.olk_tree.specs.Tables.{has_bit}
 
 -- the word of bit i with that bit, and the words with it
@@ -31,17 +29,6 @@ module _ (words : List ℕ) (i : ℕ) (within : i / 64 < length words) where
             ∙ ap (λ k. bit_at (get_or words k 0) (j % 64) == 1) (sym same)
         | inr other ↦ ap (λ w. bit_at w (j % 64) == 1) (get_or-set_other words (i / 64) (j / 64) (word_with words i) 0 other)
       ]
-
--- no bit is set where all words are zero
-word_is_zero : (words : List ℕ) (k : ℕ) → list_all (λ w. w == 0) words ≡ true → get_or words k 0 ≡ 0
-word_is_zero words k zero =
-    elim (cases_lt k _) [
-      | inl within ↦ eqb-true _ 0 (true_from_ne_false _ (λ is. true≢false (sym zero ∙ list_all_at _ words k 0 within is)))
-      | inr past ↦ get_or_past words k 0 past
-    ]
-
-pub no_bit_is_set : (words : List ℕ) (i : ℕ) → list_all (λ w. w == 0) words ≡ true → has_bit words i ≡ false
-no_bit_is_set words i zero = ap (λ w. bit_at w (i % 64) == 1) (word_is_zero words _ zero) ∙ ap (λ b. b == 1) (bit_at-zero (i % 64))
 
 -- ---- the first word apart
 

@@ -62,11 +62,7 @@ module _ {X : Type 0} where
       by Equal e h = ap (option_and_then (slice_get (x ∷ xs))) (position-here (λ k. bytes_eq k n) k ks e)
       by Greater e h = ap (option_and_then (slice_get (x ∷ xs))) (position-later _ k ks e) ∙ later x xs _ ∙ h
 
-  -- what is read at the place of a name, and where the name has no place
-  pub zip_found : (ks : List Name) (xs slice : List X) (n : Name) (i : ℕ) (o : Option (Bor X)) → slice ≡ xs → Some i ≡ position (λ k. bytes_eq k n) ks
-      → IfSome o (λ x. x.now ≡ get_or slice i x.now) → MatchOption o (length slice ≤ i) (λ x. (i < length slice) × HoldsAt (λ y. x.now ≡ y) slice i) → option_copied o ≡ lookup_name n (zip ks xs)
-  zip_found ks xs slice n i o same e h m = read_in xs slice i o same h m ∙ ap (option_and_then _) e ∙ zip_place ks xs n
-
+  -- where the name has no place
   pub zip_none : (ks : List Name) (xs : List X) (n : Name) → None ≡ position (λ k. bytes_eq k n) ks → None ≡ lookup_name n (zip ks xs)
   zip_none ks xs n e = ap (option_and_then _) e ∙ zip_place ks xs n
 
@@ -74,15 +70,6 @@ module _ {X : Type 0} where
   numbered_get k [] i j e = refl
   numbered_get k (x ∷ xs) zero j e = ap (λ p. Some (p, x)) (let f : k ≡ j = omega arith in f)
   numbered_get k (x ∷ xs) (suc i) j e = numbered_get (k + 1) xs i j (omega arith)
-
-  -- what is read at an index, with the index
-  pub numbered_at : (xs : List X) (i : ℕ) (o : Option (Bor X)) → IfSome o (λ x. x.now ≡ get_or xs i x.now) → MatchOption o (length xs ≤ i)
-      (λ x. (i < length xs) × HoldsAt (λ y. x.now ≡ y) xs i) → option_map {U = ℕ × X} (λ x. (i, x.now)) o ≡ slice_get (placed xs) i
-  numbered_at xs i o h m = with_index o ∙ ap (option_map {U = ℕ × X} _) (read_at xs i o h m) ∙ sym (numbered_get 0 xs i i (omega arith))
-    where
-      with_index : (o : Option (Bor X)) → option_map {U = ℕ × X} (λ x. (i, x.now)) o ≡ option_map {U = ℕ × X} (λ x. (i, x)) (option_copied o)
-      with_index None = refl
-      with_index (Some x) = refl
 
 -- what stands beside names has the places of the names
 placed_zip : {N : Type 0} (k : ℕ) (ks : List Name) (xs : List N) → zip (keys_in (zip ks xs)) (enumerate_from k (nodes_in (zip ks xs))) ≡ zip ks (enumerate_from k xs)
