@@ -1,6 +1,5 @@
 -- What holds `additionalProperties`, with all that it takes over.
-use Rattle.std.specs.Prelude.{◌≡◌, ◌<◌, ℕ, suc, Bool, true, false, not, ◌||◌, List, [], ◌∷◌, ◌++◌, map, zip, length, slice_get, slice_index_or as get_or, codes, Option, Some, None, is_some, option_map, option_to_list, cond, Vec, ◌&&◌}
-use Rattle.std.specs.declared.alloc.Global.{Global}
+use Rattle.std.specs.Prelude.{◌≡◌, ◌<◌, ℕ, suc, Bool, true, false, not, ◌||◌, List, [], ◌∷◌, ◌++◌, map, zip, length, slice_get, slice_index_or as get_or, codes, Option, Some, None, is_some, option_map, option_to_list, cond, ◌&&◌}
 use Rattle.std.specs.Ordering.{nat_cmp, is_eq}
 use Rattle.std.specs.Cmp.Lexicographic.{slice_cmp}
 use Rattle.std.proofs.Common.{refl, sym, ◌∙◌, ap, subst, arith}

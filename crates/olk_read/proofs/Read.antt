@@ -5,7 +5,7 @@ use Rattle.std.specs.declared.alloc.AllocError.{AllocError}
 use Rattle.std.proofs.Common.{refl, sym, ◌∙◌, ap, subst}
 use Rattle.std.proofs.Math.Bool.{or-false}
 use mathlib.Core.Bool.{true≢false}
-use Rattle.serde_json.specs.Data.{Data, array, Items}
+use Rattle.serde_json.specs.Data.{Data, array}
 use Rattle.olk_spec.specs.Names.{Name, Path, is_among}
 use Rattle.olk_spec.specs.World.{World}
 use Rattle.olk_spec.specs.Vocabulary.{Keyword, leaf, unsupported, unsupported_names, keyword_named}
