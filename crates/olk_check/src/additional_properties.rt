@@ -177,7 +177,7 @@ fn names_accept<'a, A: Asked, N: Check>(
     match asked.as_object() {
         Some(members) => {
             law_of_names(members);
-            declared_accept(&properties.entries(), members, rest, ctx)
+            declared_accept(properties.entries(), members, rest, ctx)
         }
         None => Accepted::One,
     }
@@ -199,7 +199,7 @@ fn names_accept_with<A: Asked, N: Check>(
     match asked.as_object() {
         Some(members) => {
             law_of_names(members);
-            declared_accept_with(&properties.entries(), members, required.as_str(), ctx)
+            declared_accept_with(properties.entries(), members, required.as_str(), ctx)
         }
         None => Accepted::One,
     }
@@ -245,12 +245,12 @@ fn each_value_accepted<N: Check>(
 /// The verdict of `are_properties_valid`.
 #[inline(always)]
 fn declared_accept<'a, N: Check>(
-    properties: &Entries<'a, N>,
+    properties: Entries<'a, N>,
     members: &Map<String, Value>,
     rest: Option<&'a N>,
     ctx: &mut ValidationContext,
 ) -> Accepted
-    ensures { AsksOne ctx.old ctx.new (names_mean N.means properties.now
+    ensures { AsksOne ctx.old ctx.new (names_mean N.means properties.entry
         (option_copied rest.entry) (object_of members.now.entries)) result }
 {
     match rest {
@@ -263,11 +263,11 @@ fn declared_accept<'a, N: Check>(
 /// names, one of them is not declared.
 #[inline(always)]
 fn declared_alone<N: Check>(
-    properties: &Entries<'_, N>,
+    properties: Entries<'_, N>,
     members: &Map<String, Value>,
     ctx: &mut ValidationContext,
 ) -> Accepted
-    ensures { AsksOne ctx.old ctx.new (names_mean N.means properties.now
+    ensures { AsksOne ctx.old ctx.new (names_mean N.means properties.entry
         None (object_of members.now.entries)) result }
 {
     if members.len() > properties.len() {
@@ -280,12 +280,12 @@ fn declared_alone<N: Check>(
 /// name.
 #[inline(always)]
 fn declared_accept_with<N: Check>(
-    properties: &Entries<'_, N>,
+    properties: Entries<'_, N>,
     members: &Map<String, Value>,
     required: &str,
     ctx: &mut ValidationContext,
 ) -> Accepted
-    ensures { AsksOne ctx.old ctx.new (both (names_mean N.means properties.now
+    ensures { AsksOne ctx.old ctx.new (both (names_mean N.means properties.entry
         None (object_of members.now.entries)) (always (is_empty (missing
         (required.now ∷ []) (object_of members.now.entries))))) result }
 {
@@ -298,12 +298,12 @@ fn declared_accept_with<N: Check>(
 /// Whether each member is declared, and accepted by what is declared at its name.
 #[inline(never)]
 fn each_declared<N: Check>(
-    properties: &Entries<'_, N>,
+    properties: Entries<'_, N>,
     members: &Map<String, Value>,
     ctx: &mut ValidationContext,
 ) -> Accepted
     ensures { AsksOne ctx.old ctx.new (names_mean N.means
-        properties.now
+        properties.entry
         None (object_of members.now.entries)) result }
 {
     Accepted::one_if(each_declared_or_rest(properties, members, None, ctx))
@@ -313,13 +313,13 @@ fn each_declared<N: Check>(
 /// member at the required name.
 #[inline(never)]
 fn all_declared<N: Check>(
-    properties: &Entries<'_, N>,
+    properties: Entries<'_, N>,
     members: &Map<String, Value>,
     required: &str,
     ctx: &mut ValidationContext,
 ) -> Accepted
     ensures { AsksOne ctx.old ctx.new (both (names_mean N.means
-        properties.now
+        properties.entry
         None (object_of members.now.entries)) (always (is_empty (missing
         (required.now ∷ []) (object_of members.now.entries))))) result }
 {
@@ -341,20 +341,20 @@ pub fn are_properties_valid<N: Check>(
         (mapped properties.now)
         (option_copied additional.entry) (object_of members.now.entries)) result }
 {
-    each_declared_or_rest(&properties.entries(), members, additional, ctx)
+    each_declared_or_rest(properties.entries(), members, additional, ctx)
 }
 
 /// The verdict of `are_properties_valid`; inlined, so that a walk for which nothing else is
 /// expected doesn't look for it.
 #[inline(always)]
 fn each_declared_or_rest<'a, N: Check>(
-    properties: &Entries<'a, N>,
+    properties: Entries<'a, N>,
     members: &Map<String, Value>,
     additional: Option<&'a N>,
     ctx: &mut ValidationContext,
 ) -> bool
     ensures { Asks ctx.old ctx.new (names_mean N.means
-        properties.now
+        properties.entry
         (option_copied additional.entry) (object_of members.now.entries)) result }
 {
     let mut hint = 0;
@@ -390,13 +390,13 @@ fn is_accepted<N: Check>(
 /// only where that name was met.
 #[inline(always)]
 fn each_declared_with<N: Check>(
-    properties: &Entries<'_, N>,
+    properties: Entries<'_, N>,
     members: &Map<String, Value>,
     required: &str,
     ctx: &mut ValidationContext,
 ) -> bool
     ensures { Asks ctx.old ctx.new (both (names_mean N.means
-        properties.now
+        properties.entry
         None (object_of members.now.entries)) (always (is_empty (missing
         (required.now ∷ []) (object_of members.now.entries))))) result }
 {

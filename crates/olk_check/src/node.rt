@@ -176,9 +176,9 @@ fn first_accept_apart<A: Asked, K: Leaf, R: RegexEngine, N: Check>(
         if keywords.len() > 1
             && let Some(name) = only_required_name(&keywords[1])
         {
-            return properties_with_required_accept(&properties, name, asked, ctx);
+            return properties_with_required_accept(properties, name, asked, ctx);
         }
-        return properties_accept(&properties, asked, ctx);
+        return properties_accept(properties, asked, ctx);
     }
     match keyword {
         KeywordOver::PropertiesWithRequired2(properties) => {

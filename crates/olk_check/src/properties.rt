@@ -22,13 +22,13 @@ use serde_json::{Map, Value};
 
 impl<N: Check> Check for SmallProperties<N> {
     fn check<A: Asked>(&self, asked: A, ctx: &mut ValidationContext) -> bool {
-        properties_accept(&self.properties.entries(), asked, ctx).is_some()
+        properties_accept(self.properties.entries(), asked, ctx).is_some()
     }
 }
 
 impl<N: Check> Check for BigProperties<N> {
     fn check<A: Asked>(&self, asked: A, ctx: &mut ValidationContext) -> bool {
-        properties_accept(&self.properties.entries(), asked, ctx).is_some()
+        properties_accept(self.properties.entries(), asked, ctx).is_some()
     }
 }
 
@@ -41,12 +41,12 @@ impl<N: Check> Check for SmallPropertiesWithRequired2<N> {
 /// Whether each member whose name is declared is accepted, where the value is an object.
 #[inline(always)]
 pub(crate) fn properties_accept<A: Asked, N: Check>(
-    properties: &Entries<'_, N>,
+    properties: Entries<'_, N>,
     asked: A,
     ctx: &mut ValidationContext,
 ) -> Accepted
     ensures { AsksOne ctx.old ctx.new
-        (properties_mean N.means properties.now (A.stands_for asked)) result }
+        (properties_mean N.means properties.entry (A.stands_for asked)) result }
 {
     match asked.as_object() {
         Some(members) => members_accepted(properties, members, ctx),
@@ -58,13 +58,13 @@ pub(crate) fn properties_accept<A: Asked, N: Check>(
 /// name, where the value is an object.
 #[inline(always)]
 pub(crate) fn properties_with_required_accept<A: Asked, N: Check>(
-    properties: &Entries<'_, N>,
+    properties: Entries<'_, N>,
     name: &str,
     asked: A,
     ctx: &mut ValidationContext,
 ) -> Accepted
     ensures { AsksTwo ctx.old ctx.new
-        (properties_mean N.means properties.now (A.stands_for asked))
+        (properties_mean N.means properties.entry (A.stands_for asked))
         (always (is_empty (missing (name.now ∷ []) (A.stands_for asked)))) result }
 {
     match asked.as_object() {
@@ -96,12 +96,12 @@ pub(crate) fn properties_with_required2_accept<A: Asked, N: Check>(
 /// that asks a keyword stays small.
 #[inline(never)]
 fn members_accepted<N: Check>(
-    properties: &Entries<'_, N>,
+    properties: Entries<'_, N>,
     members: &Map<String, Value>,
     ctx: &mut ValidationContext,
 ) -> Accepted
     ensures { AsksOne ctx.old ctx.new (properties_mean N.means
-        properties.now
+        properties.entry
         (object_of members.now.entries)) result }
 {
     Accepted::one_if(all_accepted(properties, members, ctx))
@@ -111,13 +111,13 @@ fn members_accepted<N: Check>(
 /// member at the name.
 #[inline(never)]
 fn members_accepted_with<N: Check>(
-    properties: &Entries<'_, N>,
+    properties: Entries<'_, N>,
     members: &Map<String, Value>,
     name: &str,
     ctx: &mut ValidationContext,
 ) -> Accepted
     ensures { AsksTwo ctx.old ctx.new (properties_mean N.means
-        properties.now
+        properties.entry
         (object_of members.now.entries))
         (always (is_empty (missing (name.now ∷ []) (object_of members.now.entries)))) result }
 {
@@ -140,7 +140,7 @@ fn members_accepted_with_both<N: Check>(
 {
     let (first, second) = (keyword.first.as_str(), keyword.second.as_str());
     Accepted::one_if(all_accepted_with_both(
-        &keyword.properties.entries(),
+        keyword.properties.entries(),
         members,
         first,
         second,
@@ -152,12 +152,12 @@ fn members_accepted_with_both<N: Check>(
 /// as long as two members that are walked.
 #[inline(always)]
 fn all_accepted<N: Check>(
-    properties: &Entries<'_, N>,
+    properties: Entries<'_, N>,
     members: &Map<String, Value>,
     ctx: &mut ValidationContext,
 ) -> bool
     ensures { Asks ctx.old ctx.new (properties_mean N.means
-        properties.now
+        properties.entry
         (object_of members.now.entries)) result }
 {
     if members.len() / 2 < properties.len() {
@@ -170,12 +170,12 @@ fn all_accepted<N: Check>(
 /// Whether each member is accepted by what is declared at its name, if anything is, member by
 /// member.
 fn each_member_accepted<N: Check>(
-    properties: &Entries<'_, N>,
+    properties: Entries<'_, N>,
     members: &Map<String, Value>,
     ctx: &mut ValidationContext,
 ) -> bool
     ensures { Asks ctx.old ctx.new (every (λ x. every (λ n. N.means n x.1) (option_to_list
-        (lookup_name x.0 properties.now)))
+        (lookup_name x.0 properties.entry)))
         (listed (members_view members.now.entries))) result }
 {
     let mut hint = 0;
@@ -193,13 +193,13 @@ fn each_member_accepted<N: Check>(
 /// are walked once.
 #[inline(always)]
 fn all_accepted_with<N: Check>(
-    properties: &Entries<'_, N>,
+    properties: Entries<'_, N>,
     members: &Map<String, Value>,
     name: &str,
     ctx: &mut ValidationContext,
 ) -> bool
     ensures { Asks ctx.old ctx.new (both
-        (properties_mean N.means properties.now
+        (properties_mean N.means properties.entry
         (object_of members.now.entries))
         (always (is_empty (missing (name.now ∷ []) (object_of members.now.entries))))) result }
 {
@@ -212,14 +212,14 @@ fn all_accepted_with<N: Check>(
 
 /// The verdict of `each_member_accepted`, and whether there is a member at the name.
 fn each_member_accepted_with<N: Check>(
-    properties: &Entries<'_, N>,
+    properties: Entries<'_, N>,
     members: &Map<String, Value>,
     required: &str,
     ctx: &mut ValidationContext,
 ) -> bool
     ensures { Asks ctx.old ctx.new (both
         (every (λ x. every (λ n. N.means n x.1) (option_to_list
-        (lookup_name x.0 properties.now)))
+        (lookup_name x.0 properties.entry)))
         (listed (members_view members.now.entries)))
         (always (is_empty (missing (required.now ∷ [])
         (object_of members.now.entries))))) result }
@@ -242,7 +242,7 @@ fn each_member_accepted_with<N: Check>(
 /// members are walked once.
 #[inline(always)]
 fn all_accepted_with_both<N: Check>(
-    properties: &Entries<'_, N>,
+    properties: Entries<'_, N>,
     members: &Map<String, Value>,
     first: &str,
     second: &str,
@@ -251,7 +251,7 @@ fn all_accepted_with_both<N: Check>(
     ensures { Asks ctx.old ctx.new (both
         (always (is_empty (missing (first.now ∷ second.now ∷ [])
         (object_of members.now.entries))))
-        (properties_mean N.means properties.now
+        (properties_mean N.means properties.entry
         (object_of members.now.entries))) result }
 {
     if members.len() / 2 < properties.len() {
@@ -263,7 +263,7 @@ fn all_accepted_with_both<N: Check>(
 
 /// The verdict of `each_member_accepted`, and whether there is a member at both names.
 fn each_member_accepted_with_both<N: Check>(
-    properties: &Entries<'_, N>,
+    properties: Entries<'_, N>,
     members: &Map<String, Value>,
     first: &str,
     second: &str,
@@ -273,7 +273,7 @@ fn each_member_accepted_with_both<N: Check>(
         (always (is_empty (missing (first.now ∷ second.now ∷ [])
         (object_of members.now.entries))))
         (every (λ x. every (λ n. N.means n x.1) (option_to_list
-        (lookup_name x.0 properties.now)))
+        (lookup_name x.0 properties.entry)))
         (listed (members_view members.now.entries)))) result }
 {
     let mut hint = 0;
@@ -308,12 +308,12 @@ fn accepted_if_declared<N: Check>(
 
 /// Whether each member whose name is declared is accepted, declared name by declared name.
 fn each_name_accepted<N: Check>(
-    properties: &Entries<'_, N>,
+    properties: Entries<'_, N>,
     members: &Map<String, Value>,
     ctx: &mut ValidationContext,
 ) -> bool
     ensures { Asks ctx.old ctx.new (properties_mean N.means
-        properties.now
+        properties.entry
         (object_of members.now.entries)) result }
 {
     for (name, node) in properties.iter() {

@@ -97,7 +97,7 @@ fn walk_members<'a, N: Walk<'a> + 'a>(
         (object_of members.now.entries) (path_at trail.now)) }
 {
     if members.len() / 2 < properties.len() {
-        walk_each_member(&properties, members, trail, ctx, sink)
+        walk_each_member(properties, members, trail, ctx, sink)
     } else {
         walk_each_name(properties, members, trail, ctx, sink)
     }
@@ -106,14 +106,14 @@ fn walk_members<'a, N: Walk<'a> + 'a>(
 /// Walks over the members whose names are declared, member by member.
 #[inline(never)]
 fn walk_each_member<'a, N: Walk<'a> + 'a>(
-    properties: &Entries<'a, N>,
+    properties: Entries<'a, N>,
     members: &'a Map<String, Value>,
     trail: &Trail<'_, 'a>,
     ctx: &mut ValidationContext,
     sink: &mut ErrorSink<'a>,
 ) -> Result<(), Stop>
     ensures { Walks result sink.old sink.new ctx.old ctx.new
-        (of_declared N.means N.first N.report ctx.old.answer (members_declared properties.now
+        (of_declared N.means N.first N.report ctx.old.answer (members_declared properties.entry
         (listed (members_view members.now.entries))) (path_at trail.now)) }
 {
     let mut hint = 0;

@@ -7,7 +7,7 @@ use Rattle.olk_check.proofs.additional_properties.declared_accept.Goals as goal
 
 pub returns-in-None : goal.returns-in-None
 returns-in-None g c =
-    subst (λ o. AsksOne c.args.ctx.now c.declared_alone.new.ctx (names_mean g.N.Means.means c.args.properties.now (option_copied o) (object_of c.args.members.now.entries)) c.declared_alone.result)
+    subst (λ o. AsksOne c.args.ctx.now c.declared_alone.new.ctx (names_mean g.N.Means.means c.args.properties (option_copied o) (object_of c.args.members.now.entries)) c.declared_alone.result)
     (sym c.in-None.is) c.declared_alone.ensures
 
 pub returns-in-Some : goal.returns-in-Some

@@ -14,7 +14,7 @@ use Rattle.olk_check.proofs.additional_properties.declared_accept_with.Goals as 
 
 pub returns-then-len : goal.returns-then-len
 returns-then-len g c =
-    let declared = c.args.properties.now in
+    let declared = c.args.properties in
     let entries = c.args.members.now.entries in
     let fewer : length declared < length (listed (members_view entries)) =
     let many = c.len.ensures.len in

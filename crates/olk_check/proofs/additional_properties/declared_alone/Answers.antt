@@ -9,7 +9,7 @@ use Rattle.olk_check.proofs.additional_properties.declared_alone.Goals as goal
 
 pub returns-then-len : goal.returns-then-len
 returns-then-len g c =
-    let declared = c.args.properties.now in
+    let declared = c.args.properties in
     let entries = c.args.members.now.entries in
     let fewer : length declared < length (listed (members_view entries)) =
     let many = c.len.ensures.len in

@@ -10,7 +10,7 @@ use Rattle.olk_check.proofs.properties.all_accepted_with.Goals as goal
 
 pub returns-then-len : goal.returns-then-len
 returns-then-len g c =
-    let declared = c.args.properties.now in
+    let declared = c.args.properties in
     rw (← means_of_members (members_view c.args.members.now.entries) g.N.Means.means declared (walks_agree declared c.args.members.now.entries c.len-2.ensures.ordered c.len.ensures.ordered)) c.each_member_accepted_with.ensures
 
 pub returns-then-is_present : goal.returns-then-is_present
@@ -19,4 +19,4 @@ returns-then-is_present g c = both_where c.each_name_accepted.ensures (sym (one_
 pub returns-else-is_present : goal.returns-else-is_present
 returns-else-is_present g c =
     rw c.if-is_present.false
-    (refused_where c.args.ctx.now (properties_mean g.N.Means.means c.args.properties.now (object_of c.args.members.now.entries)) (sym (one_met c.args.name.now c.is_present.ensures) ∙ c.if-is_present.false))
+    (refused_where c.args.ctx.now (properties_mean g.N.Means.means c.args.properties (object_of c.args.members.now.entries)) (sym (one_met c.args.name.now c.is_present.ensures) ∙ c.if-is_present.false))

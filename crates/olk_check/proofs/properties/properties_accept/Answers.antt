@@ -5,4 +5,4 @@ use Rattle.olk_check.proofs.properties.properties_accept.Goals as goal
 
 pub returns-in-None : goal.returns-in-None
 returns-in-None g c =
-    asks_as (sym (means_nothing c.args.properties.now (g.A.Asked.stands_for c.args.asked) c.in-None.ensures g.N.Means.means)) (unasked c.args.ctx.now true)
+    asks_as (sym (means_nothing c.args.properties (g.A.Asked.stands_for c.args.asked) c.in-None.ensures g.N.Means.means)) (unasked c.args.ctx.now true)

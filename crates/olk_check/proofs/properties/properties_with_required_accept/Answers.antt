@@ -7,5 +7,5 @@ use Rattle.olk_check.proofs.Missing.{lacks_nothing}
 use Rattle.olk_check.proofs.properties.properties_with_required_accept.Goals as goal
 
 pub returns-in-None : goal.returns-in-None
-returns-in-None g c = asks_as (sym ((λ i. both (means_nothing c.args.properties.now (g.A.Asked.stands_for c.args.asked) c.in-None.ensures g.N.Means.means i)
+returns-in-None g c = asks_as (sym ((λ i. both (means_nothing c.args.properties (g.A.Asked.stands_for c.args.asked) c.in-None.ensures g.N.Means.means i)
     (always (lacks_nothing (c.args.name.now ∷ []) (g.A.Asked.stands_for c.args.asked) c.in-None.ensures i))) ∙ both_last (always true))) (unasked c.args.ctx.now true)
