@@ -167,10 +167,12 @@ pub fn precompute_property_pattern_indices<R: RegexEngine, N>(
     ensures nothing_else { IfOk result
         (λ t. (p i : ℕ) → length t.names ≤ p → table_says t p i ≡ unfinished) }
     ensures asked { OnOk result (meter.new ≡ count_asks
-        (length (listed (members_view properties.now.entries)) * how_many_cost R.costs (patterns_of patterns.now))
+        (length (listed (members_view properties.now.entries))
+        * how_many_cost R.costs (patterns_of patterns.now))
         meter.old) }
     ensures asked_at_most { OnErr result (AsksAtMost
-        (length (listed (members_view properties.now.entries)) * how_many_cost R.costs (patterns_of patterns.now))
+        (length (listed (members_view properties.now.entries))
+        * how_many_cost R.costs (patterns_of patterns.now))
         meter.old meter.new) }
 {
     let names = SortedNames::of(alloc, properties)?;
@@ -192,7 +194,8 @@ fn rows_of<R: RegexEngine, N>(
     ensures answers { IfOk result (λ rows. AllZip (IsRowOf R.answers (patterns_of patterns.now))
         (map name_of names.now) rows.items) }
     ensures asked { OnOk result (meter.new
-        ≡ count_asks (length names.now * how_many_cost R.costs (patterns_of patterns.now)) meter.old) }
+        ≡ count_asks (length names.now * how_many_cost R.costs (patterns_of patterns.now))
+        meter.old) }
     ensures asked_at_most { OnErr result (AsksAtMost
         (length names.now * how_many_cost R.costs (patterns_of patterns.now)) meter.old meter.new) }
 {
