@@ -20,7 +20,8 @@ pub use olk_keywords::{
 pub use olk_validator::{
     BuiltNode, Check, Context, DEFERRED_MEMBERS, ErrorSink, Errors, Evaluate, EvaluationContext,
     HASHMAP_THRESHOLD, IsValid, Located, Makers, Means, Meter, Reports, Show, Stop, Validate,
-    ValidationContext, Validator, Walk, are_properties_valid, compile, holds_whole_numbers,
+    ValidationContext, Validator, Verdicts, Walk, are_properties_valid, compile,
+    holds_whole_numbers, verdicts_of,
 };
 
 // What is answered.
@@ -61,9 +62,9 @@ pub use olk_validator::{
     AdditionalPropertiesWithPatterns, AdditionalPropertiesWithPatternsFalse,
     AdditionalPropertiesWithPatternsNotEmpty, AdditionalPropertiesWithPatternsNotEmptyFalse, AllOf,
     AnyOf, BigMap, BigProperties, Body, DeclaredMembers, Dependencies, DependentRequired,
-    DependentSchemas, Entries, IfElse, IfThen, IfThenElse, KeywordOver, Not, OneOf, PatternIndex,
-    PatternProperties, PatternTable, PropertiesValidatorsMap, PropertyDependencies, PropertyNames,
-    Restriction, SingleAnyOf, SingleOneOf, SingleValueAllOf, SingleValuePatternProperties,
-    SmallMap, SmallProperties, SmallPropertiesWithRequired2, SortedName, SortedNames,
-    pattern_table, precompute_property_pattern_indices, properties_map,
+    DependentSchemas, Entries, IfElse, IfThen, IfThenElse, KeywordOver, MapRef, Not, OneOf,
+    PatternIndex, PatternProperties, PatternTable, PropertiesValidatorsMap, PropertyDependencies,
+    PropertyNames, Restriction, SingleAnyOf, SingleOneOf, SingleValueAllOf,
+    SingleValuePatternProperties, SmallMap, SmallProperties, SmallPropertiesWithRequired2,
+    SortedName, SortedNames, pattern_table, precompute_property_pattern_indices, properties_map,
 };

@@ -43,6 +43,15 @@ fn push_in_brackets(text: &mut String, lines: &[String]) -> Result<(), AllocErro
     text.push_str("}")
 }
 
+/// The lines of errors in their own order.
+fn in_order(alloc: Global, errors: &[ValidationError<'_>]) -> Result<Vec<String>, AllocError> {
+    let mut lines = Vec::new(alloc);
+    for error in errors {
+        lines.push(line(alloc, error)?)?;
+    }
+    Ok(lines)
+}
+
 fn push_branch(
     alloc: Global,
     text: &mut String,
@@ -205,6 +214,38 @@ fn inner_lines(alloc: Global, errors: &[ValidationError<'_>]) -> Result<String, 
     Ok(text)
 }
 
+fn push_list_in_order(
+    alloc: Global,
+    text: &mut String,
+    errors: &[ValidationError<'_>],
+) -> Result<(), AllocError> {
+    let lines = in_order(alloc, errors)?;
+    let pushed = push_in_brackets(text, &lines);
+    drop(lines);
+    pushed
+}
+
+fn push_branches_in_order(
+    alloc: Global,
+    text: &mut String,
+    branches: &[Vec<ValidationError<'_>>],
+) -> Result<(), AllocError> {
+    for branch in branches {
+        push_list_in_order(alloc, text, branch)?;
+    }
+    Ok(())
+}
+
+/// Errors, and those of each branch in their contexts, all in their own order.
+fn lists_in_order(alloc: Global, errors: &[ValidationError<'_>]) -> Result<String, AllocError> {
+    let mut text = String::new(alloc);
+    push_list_in_order(alloc, &mut text, errors)?;
+    for error in errors {
+        push_branches_in_order(alloc, &mut text, branches_of(error))?;
+    }
+    Ok(text)
+}
+
 /// What each error speaks of.
 fn instances(alloc: Global, errors: &[ValidationError<'_>]) -> Result<String, AllocError> {
     let mut text = String::new(alloc);
@@ -244,6 +285,18 @@ fn all_lines<V: Asked>(
 ) -> Result<String, AllocError> {
     let errors = collected(validator, alloc, instance)?;
     let text = joined(alloc, &errors);
+    drop(errors);
+    text
+}
+
+/// All errors and those in their contexts, as the walk comes to them.
+fn told_in_order<V: Asked>(
+    validator: &V,
+    alloc: Global,
+    instance: &Value,
+) -> Result<String, AllocError> {
+    let errors = collected(validator, alloc, instance)?;
+    let text = lists_in_order(alloc, &errors);
     drop(errors);
     text
 }
@@ -628,6 +681,8 @@ pub(crate) enum Found {
     AndShown(Option<u64>),
     /// The errors in the contexts of errors.
     Inside,
+    /// All errors and those in their contexts, in their own order.
+    InOrder,
     /// What the errors speak of.
     Instances,
     /// All errors, in a list that they are put into twice.
@@ -649,6 +704,7 @@ impl Question for Found {
             Found::Told => told(validator, alloc, instance),
             Found::AndShown(errors) => told_and_shown(validator, alloc, instance, *errors),
             Found::Inside => told_inside(validator, alloc, instance),
+            Found::InOrder => told_in_order(validator, alloc, instance),
             Found::Instances => told_instances(validator, alloc, instance),
             Found::Twice => told_twice(validator, alloc, instance),
             Found::Trees => shown_trees(validator, alloc, instance),
@@ -792,6 +848,20 @@ a context in else | {"anyOf":[{"else":{"oneOf":[]},"if":false}]} | "x" | "x" is 
 #[test]
 fn contexts_in_a_context(rt: HostRuntime) -> Result<(), Fail> {
     expect(&Found::Inside, rt.alloc(), Table::Named(IN_A_BRANCH))
+}
+
+// A name, a schema, an instance, and its errors, and behind them those of each branch in their
+// contexts: keyword by keyword in the order of the names, and so the members, the branches and the
+// wanted names.
+const IN_ORDER: &str =
+    r##"keywords | {"type":"integer","required":["b","a"],"allOf":[{"type":"string"},false]} | {"c":1} |  {{"c":1} is not of type "string" @ "", /allOf/0/type;False schema does not allow {"c":1} @ "", /allOf/1;"b" is a required property @ "", /required;"a" is a required property @ "", /required;{"c":1} is not of type "integer" @ "", /type;}
+members | {"properties":{"b":{"type":"string"},"a":{"type":"string","minimum":5}}} | {"b":1,"a":2} |  {2 is less than the minimum of 5 @ "/a", /properties/a/minimum;2 is not of type "string" @ "/a", /properties/a/type;1 is not of type "string" @ "/b", /properties/b/type;}
+branches | {"anyOf":[{"required":["a","b"]},{"type":"string","minimum":5}]} | {} |  {{} is not valid under any of the schemas listed in the 'anyOf' keyword @ "", /anyOf;} {"a" is a required property @ "", /anyOf/0/required;"b" is a required property @ "", /anyOf/0/required;} {{} is not of type "string" @ "", /anyOf/1/type;}
+one of the branches | {"oneOf":[{"type":"string","minimum":5},{"required":["a"],"type":"string"}]} | 1 |  {1 is not valid under any of the schemas listed in the 'oneOf' keyword @ "", /oneOf;} {1 is less than the minimum of 5 @ "", /oneOf/0/minimum;1 is not of type "string" @ "", /oneOf/0/type;} {1 is not of type "string" @ "", /oneOf/1/type;}"##;
+
+#[test]
+fn errors_in_the_order_of_the_walk(rt: HostRuntime) -> Result<(), Fail> {
+    expect(&Found::InOrder, rt.alloc(), Table::Named(IN_ORDER))
 }
 
 // A schema, an instance, and what its errors are in a list that has them already: what was in the

@@ -20,3 +20,5 @@ mod nesting;
 mod rows;
 #[cfg(test)]
 mod validator;
+#[cfg(test)]
+mod verdicts;

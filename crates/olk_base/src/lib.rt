@@ -17,7 +17,7 @@ pub mod traits;
 pub use analysis::{PatternOptimization, analyze_pattern, contains_ecma_whitespace, scan_body};
 pub use context::ValidationContext;
 pub use equality::is_same_text;
-pub use lists::{append, append_all, one};
+pub use lists::{append, one};
 pub use meter::Meter;
 pub use names::{KeyHead, PropertyName};
 pub use no_regexes::{NoRegex, NoRegexes};

@@ -17,17 +17,6 @@ pub fn append<T: Drop>(items: &mut Vec<T>, item: T) -> Result<(), AllocError>
     Ok(())
 }
 
-/// Adds items at the end.
-///
-/// # Errors
-///
-/// Out of memory.
-pub fn append_all<T: Drop>(items: &mut Vec<T>, mut more: Vec<T>) -> Result<(), AllocError>
-    ensures { OnOk result (items.new.items ≡ items.old.items ++ more.items) }
-{
-    items.append(&mut more)
-}
-
 /// A list of one item.
 ///
 /// # Errors

@@ -3,11 +3,11 @@ use Rattle.std.specs.Prelude.{◌≡◌, ◌&&◌, Bool, true, false, not, cond,
 use Rattle.std.proofs.Common.{refl, sym, ◌∙◌, ap, subst}
 use Rattle.std.proofs.Math.Bool.{and-false}
 use mathlib.Core.Bool.{true≢false}
-use Rattle.serde_json.specs.Data.{Data, boolean, Members}
+use Rattle.serde_json.specs.Data.{Data, Members}
 use Rattle.olk_spec.specs.Names.{Name, Path, ◌//◌, lookup_name}
 use Rattle.olk_spec.specs.Vocabulary.{Keyword, leaf, unread, keyword_named}
 use Rattle.olk_spec.specs.Malformed.{has_repeat}
-use Rattle.olk_spec.specs.Schemas.{listed, members, is_truth}
+use Rattle.olk_spec.specs.Schemas.{listed, members}
 use Rattle.olk_base.specs.Kit.{Kit}
 use Rattle.olk_tree.specs.Answers.{Answers}
 use Rattle.olk_tree.specs.Places.{Stands}
@@ -19,6 +19,7 @@ use Rattle.olk_read.specs.Reading.{reads_of, IsShape, Fits}
 use Rattle.olk_read.specs.declared.shape.Shape.{Shape}
 use Rattle.olk_read.specs.declared.shape.Shape.TheVariants as shape
 use Rattle.olk_read.specs.declared.shape.ReadPlaces.TheVariants.{Itself}
+use Rattle.olk_meaning.proofs.AdditionalPlaces.{true_allows}
 use Rattle.olk_make.specs.Made.{IsMade}
 use Rattle.olk_make.specs.Making.{KeywordsMean, MakesPart, IsMadeOf}
 use Rattle.olk_make.specs.Standing.{StandAt, EntriesStand, PartStands, Fills, is_if_shape, is_restriction_shape, is_taken, DeclaredStand, PatternsStand, CasesStand, BesideStands}
@@ -192,13 +193,9 @@ module _ {K R N : Type 0} (o : Kit K R) (answers : N → Answers) where
     same_takes shape.NoOthers k d s f found =
         takes_beside ms k s.0 (ap is_restriction (ap (λ n. lookup_name n (listed ms)) (sym s.0) ∙ found) ∙ (restriction_named o answers shape.NoOthers k d s refl).1)
     same_takes shape.AnyOthers k d s f found =
-        let free = ap is_restriction (ap (λ n. lookup_name n (listed ms)) (sym s.0) ∙ found) ∙ allowed d s.1 in
+        let free = ap is_restriction (ap (λ n. lookup_name n (listed ms)) (sym s.0) ∙ found) ∙ true_allows d s.1 in
         takes_none (is_condition ms) (is_restricted ms) _ _ ((λ i. is_condition ms && bytes_eq (codes "if") (s.0 i)) ∙ and-false (is_condition ms))
         (ap (λ r. r && bytes_eq (codes "additionalProperties") k) free) _ _
-      where
-        allowed : (d : Data) → is_truth true d ≡ true → is_restriction (Some d) ≡ false
-        allowed (boolean true) e = refl
-        allowed d e = absurd (true≢false (sym e))
     same_takes (shape.Leaf l) k d s f found = nameless ms k (ap has_no_shape s.0)
     same_takes shape.Unread k d s f found = nameless ms k (ap has_no_shape s)
     same_takes x k d s f found = at_name ms _ k s.0 refl refl

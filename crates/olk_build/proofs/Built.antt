@@ -33,7 +33,10 @@ use Rattle.olk_tree.specs.declared.node.KeywordOver.{KeywordOver}
 use Rattle.olk_tree.specs.declared.node.Body.{Body}
 use Rattle.olk_tree.specs.declared.node.Body.TheVariants.{True, False, Keywords}
 use Rattle.olk_read.proofs.Spending.{spends_append, spends_same, spends_place, within_after, within_same, within_exactly, tells_same}
+use Rattle.olk_meaning.specs.Chosen.{object_form, validators}
+use Rattle.olk_meaning.proofs.Standing.{object_stands}
 use Rattle.olk_meaning.proofs.Objects.{IsNoSchema, no_schema_malformed, no_schema_cost, object_accepts, object_asks, object_report, object_tree, object_malformed, object_cost}
+use Rattle.olk_tree.specs.Questions.{of_asked}
 
 abbrev pub truth_body : {W : Type 0} → Bool → Body W
 truth_body true = True
@@ -75,15 +78,16 @@ module _ {K R : Type 0} (o : Kit K R) (ms : Members) (P : Path) {a m b : Counts}
 
 module _ {K R N : Type 0} {o : Kit K R} {answers : N → Answers} {n : N} {P : Path} {a m : Counts} (c : m ≡ count_compiled a) where
   pub built_truth : {d : Data} (t : Bool) → AnswersBy o answers P (truth_body t) n → d ≡ boolean t → IsBuilt o answers n d P a m
-  unfolding meaning malformations_at cost
+  unfolding meaning malformations_at cost validators
   built_truth true is e = rw e record {
     stands = record {
       verdict = λ u v. ap (λ q. q.accepts u) (is.verdict v);
-      asks_within = λ u v. let q = ap (λ q. q.asks u) (is.verdict v) in omega (arith, q);
+      asks_within = λ u v. let q = ap (λ q. q.asks of_asked u) (is.verdict v) in omega (arith, q);
       faults = λ u v Q. ∼_same (is.faults u v Q);
       evaluation = is.evaluation;
       place = is.place;
       formed = is.formed;
+      forms = is.forms;
     };
     clean = refl;
     spends = spends_place a m c;
@@ -91,11 +95,12 @@ module _ {K R N : Type 0} {o : Kit K R} {answers : N → Answers} {n : N} {P : P
   built_truth false is e = rw e record {
     stands = record {
       verdict = λ u v. ap (λ q. q.accepts u) (is.verdict v);
-      asks_within = λ u v. let q = ap (λ q. q.asks u) (is.verdict v) in omega (arith, q);
+      asks_within = λ u v. let q = ap (λ q. q.asks of_asked u) (is.verdict v) in omega (arith, q);
       faults = λ u v Q. ∼_same (is.faults u v Q);
       evaluation = is.evaluation;
       place = is.place;
       formed = is.formed;
+      forms = is.forms;
     };
     clean = refl;
     spends = spends_place a m c;
@@ -106,11 +111,12 @@ module _ {K R N : Type 0} {o : Kit K R} {answers : N → Answers} {n : N} {P : P
   built_object {ms} {z = z} is h = record {
     stands = record {
       verdict = λ u v. ap (λ q. q.accepts u) (is.verdict v) ∙ h.mean.covers.verdict u v ∙ sym (object_accepts o.world ms u v);
-      asks_within = λ u v. let q = ap (λ q. q.asks u) (is.verdict v) in let r = h.mean.covers.asks_within u v in let t = object_asks o.world ms u v in omega (arith, q, r, t);
+      asks_within = λ u v. let q = ap (λ q. q.asks of_asked u) (is.verdict v) in let r = h.mean.covers.asks_within u v in let t = object_asks o.world ms u v in omega (arith, q, r, t);
       faults = λ u v Q. like_through (∼_same (is.faults u v Q)) (like_through (h.mean.covers.faults u v Q) (∼_same (sym (object_report o.world ms u v P Q))));
       evaluation = λ u v Q. is.evaluation u v Q ∙ ap (plain P Q) (h.mean.shows h.clean u v Q) ∙ sym (object_tree o.world ms u v P Q);
       place = is.place;
       formed = is.formed ∙ h.mean.formed;
+      forms = is.forms ∙ ap (λ l. (P, object_form) ∷ l) (h.mean.forms h.clean) ∙ sym (object_stands o.world ms P);
     };
     clean = object_malformed o.world ms P ∙ h.clean;
     spends = spends_same a z _ _ (sym (object_cost o.world ms)) (spends_append a m z one_place _ (spends_place a m c) h.spends);

@@ -1,7 +1,7 @@
 -- Each member is read with the members that it takes; what is read together are all members.
-use Rattle.std.specs.Prelude.{◌≡◌, ◌+◌, ◌&&◌, ◌||◌, Bool, true, false, cond, List, [], ◌∷◌, ◌++◌, codes, bytes_eq, Option, Some, None, is_some, IsPermutation}
+use Rattle.std.specs.Prelude.{◌≡◌, ◌+◌, ◌&&◌, ◌||◌, Bool, true, false, cond, List, [], ◌∷◌, ◌++◌, codes, bytes_eq, Some, None, IsPermutation}
 use Rattle.std.specs.List.{flat_map}
-use Rattle.std.proofs.Common.{refl, sym, ◌∙◌, ap, subst, arith}
+use Rattle.std.proofs.Common.{refl, sym, ◌∙◌, ap, subst}
 use Rattle.std.proofs.lemmas.List.{append-nil}
 use Rattle.std.proofs.lemmas.List.Sorted.{IsPermutation-refl, IsPermutation-trans, IsPermutation-append}
 use mathlib.Core.Bool.{true≢false}
@@ -12,19 +12,20 @@ use Rattle.olk_spec.specs.Schemas.{listed}
 use Rattle.olk_spec.specs.Malformed.{has_repeat}
 use Rattle.olk_spec.specs.Costs.{Cost, ◌⊕◌, total_cost}
 use Rattle.olk_spec.proofs.CostSums.{sum_around}
-use Rattle.olk_spec.proofs.Each.{Each}
+use Rattle.olk_spec.proofs.Each.{Each, Each-implies}
 use Rattle.olk_spec.proofs.Order.{along_permutation}
-use Rattle.olk_spec.proofs.Truth.{and_first}
+use Rattle.olk_spec.proofs.Truth.{and_first, and_second}
 use Rattle.olk_spec.proofs.Walks.{same_name, bytes_eq-sym, Distinct-from, Each-found}
 use Rattle.olk_meaning.specs.AdditionalProperties.{rows_at}
 use Rattle.olk_meaning.specs.Conditions.{is_condition, is_restricted}
 use Rattle.olk_meaning.specs.Plans.{Planned, is_case, tells_members, head, claims}
-use Rattle.olk_meaning.proofs.Claims.{members_named, members_found, named_once, claims_condition}
-use Rattle.olk_meaning.proofs.Heads.{names_of, claims_are_all, those_split, those_none, filter_once-same}
-use Rattle.olk_meaning.proofs.Listed.{lookup_among}
+use Rattle.olk_meaning.proofs.Claims.{members_named, members_found, named_once, claims_condition, condition_there as if_there}
+use Rattle.olk_meaning.proofs.PatternProperties.{other_way}
+use Rattle.olk_meaning.proofs.Heads.{names_of, claims_are_all, those_none, filter_once-same}
+use Rattle.olk_meaning.proofs.Listed.{lookup_among, named_first}
 use Rattle.olk_meaning.proofs.RestrictedClaims.{head_of_restriction}
 use Rattle.olk_meaning.proofs.TakenOver.{restriction_there}
-use Rattle.olk_make.proofs.Entries.{Rows}
+use Rattle.olk_meaning.proofs.Rows.{Rows}
 use Rattle.olk_make.proofs.Taking.{apart_by}
 use Rattle.olk_make.specs.Standing.{is_taken}
 use Rattle.olk_build.specs.Beside.{rows_taken, rows_read}
@@ -36,19 +37,12 @@ module _ {X : Type 0} (c : X → Cost) where
   turned x y xs = sym (sum_around (c x) (c y) _) ∙ ap (λ z. z ⊕ total_cost c xs) (exchanged (c x) (c y)) ∙ sum_around (c y) (c x) _
     where
       exchanged : (a b : Cost) → a ⊕ b ≡ b ⊕ a
-      exchanged a b = λ i. record { places = p i; leaf_places = l i; pattern_places = m i; table_asks = t i }
-        where
-          p : a.places + b.places ≡ b.places + a.places
-          p = omega arith
-
-          l : a.leaf_places + b.leaf_places ≡ b.leaf_places + a.leaf_places
-          l = omega arith
-
-          m : a.pattern_places + b.pattern_places ≡ b.pattern_places + a.pattern_places
-          m = omega arith
-
-          t : a.table_asks + b.table_asks ≡ b.table_asks + a.table_asks
-          t = omega arith
+      exchanged a b = λ i. record {
+        places = other_way a.places b.places i;
+        leaf_places = other_way a.leaf_places b.leaf_places i;
+        pattern_places = other_way a.pattern_places b.pattern_places i;
+        table_asks = other_way a.table_asks b.table_asks i;
+      }
 
   pub total_cost-permuted : (xs ys : List X) → IsPermutation xs ys → total_cost c xs ≡ total_cost c ys
   total_cost-permuted = along_permutation (λ xs ys. total_cost c xs ≡ total_cost c ys) (λ xs. refl) (λ x xs ys h. ap (λ z. c x ⊕ z) h) turned (λ xs ys zs h k. h ∙ k)
@@ -100,11 +94,7 @@ module _ (ms : Members) (distinct : has_repeat (names_of (listed ms)) ≡ false)
   plan = unfused (is_condition ms) (is_restricted ms)
 
   condition_there : is_condition ms ≡ true → is_among (codes "if") (names_of (listed ms)) ≡ true
-  condition_there e = by (lookup_name (codes "if") (listed ms)) refl (and_first (is_some (lookup_name (codes "if") (listed ms))) _ e)
-    where
-      by : (o : Option Data) → lookup_name (codes "if") (listed ms) ≡ o → is_some o ≡ true → is_among (codes "if") (names_of (listed ms)) ≡ true
-      by (Some d) q h = lookup_among (codes "if") d (listed ms) q
-      by None q h = absurd (true≢false (sym h))
+  condition_there e = let i = if_there ms e in lookup_among (codes "if") i.0 (listed ms) i.1
 
   head_there : (x : Name × Data) → lookup_name x.0 (listed ms) ≡ Some x.1 → is_among (head plan x.0) (names_of (listed ms)) ≡ true
   head_there x there = by (is_restricted ms) (is_condition ms) refl refl (tells_members x.0) (is_case x.0)
@@ -123,14 +113,7 @@ module _ (ms : Members) (distinct : has_repeat (names_of (listed ms)) ≡ false)
       by false false i j a b = itself
 
   heads_there : Each (λ x. is_among (head plan x.0) (names_of (listed ms)) ≡ true) (listed ms)
-  heads_there = along (listed ms) (Each-found (listed ms) (Distinct-from (listed ms) distinct))
-    where
-      along : (es : Rows) → Each (λ x. lookup_name x.0 (listed ms) ≡ Some x.1) es → Each (λ x. is_among (head plan x.0) (names_of (listed ms)) ≡ true) es
-      along [] h = tt
-      along (x ∷ es) h = (head_there x h.0, along es h.1)
-
-  rows_found : (k : Name) → members_named k (listed ms) ≡ rows_at k ms
-  rows_found k = members_found ms distinct k (lookup_name k (listed ms)) refl
+  heads_there = Each-implies (λ x. lookup_name x.0 (listed ms) ≡ Some x.1) _ head_there (listed ms) (Each-found (listed ms) (Distinct-from (listed ms) distinct))
 
   -- ---- what a member is read with is what it is the head of
 
@@ -147,63 +130,45 @@ module _ (ms : Members) (distinct : has_repeat (names_of (listed ms)) ≡ false)
 
   of_condition : (d : Data) → is_condition ms ≡ true → lookup_name (codes "if") (listed ms) ≡ Some d
       → IsPermutation ((codes "if", d) ∷ (rows_at (codes "then") ms ++ rows_at (codes "else") ms)) (group (codes "if", d))
-  of_condition d read there = subst (λ l. IsPermutation ((codes "if", d) ∷ l) (group (codes "if", d))) (λ i. rows_found (codes "then") i ++ rows_found (codes "else") i)
+  of_condition d read there = subst (λ l. IsPermutation ((codes "if", d) ∷ l) (group (codes "if", d))) (λ i. members_found ms distinct (codes "then") _ refl i ++ members_found ms distinct (codes "else") _ refl i)
       (claims_condition ms distinct plan read d there)
 
   of_restriction : (d : Data) → is_restricted ms ≡ true → lookup_name (codes "additionalProperties") (listed ms) ≡ Some d
       → IsPermutation ((codes "additionalProperties", d) ∷ (rows_at (codes "properties") ms ++ rows_at (codes "patternProperties") ms)) (group (codes "additionalProperties", d))
   of_restriction d restricted there = subst₂ IsPermutation
       (λ i. named_once (codes "additionalProperties") d (listed ms) (Distinct-from (listed ms) distinct) there i
-      ++ (rows_found (codes "properties") i ++ last i))
+      ++ (members_found ms distinct (codes "properties") _ refl i ++ last i))
       (filter_once-same _ _ (λ x. sym (head_of_restriction plan restricted refl x.0)) (listed ms))
       split
     where
       last : members_named (codes "patternProperties") (listed ms) ++ filter_once (λ x. false) (listed ms) ≡ rows_at (codes "patternProperties") ms
-      last = (λ i. rows_found (codes "patternProperties") i ++ those_none (listed ms) i) ∙ append-nil _
-
-      apart_of : (k : Name) (test : Name → Bool) → test k ≡ false → (x : Name × Data) → bytes_eq k x.0 ≡ true → test x.0 ≡ false
-      apart_of k test e x q = ap test (sym (same_name k x.0 q)) ∙ e
-
-      one_more : (k : Name) (test : Name → Bool) {xs : Rows} → test k ≡ false → IsPermutation xs (filter_once (λ x. test x.0) (listed ms))
-          → IsPermutation (members_named k (listed ms) ++ xs) (filter_once (λ x. bytes_eq k x.0 || test x.0) (listed ms))
-      one_more k test {xs} e h =
-          IsPermutation-trans _ _ _ (IsPermutation-append _ _ _ _ (IsPermutation-refl _) h)
-          (those_split (λ x. bytes_eq k x.0) _ (apart_of k test e) (listed ms))
+      last = (λ i. members_found ms distinct (codes "patternProperties") _ refl i ++ those_none (listed ms) i) ∙ append-nil _
 
       split : IsPermutation (members_named (codes "additionalProperties") (listed ms)
           ++ (members_named (codes "properties") (listed ms) ++ (members_named (codes "patternProperties") (listed ms) ++ filter_once (λ x. false) (listed ms))))
           (filter_once (λ x. bytes_eq (codes "additionalProperties") x.0 || (bytes_eq (codes "properties") x.0 || (bytes_eq (codes "patternProperties") x.0 || false))) (listed ms))
-      split = one_more (codes "additionalProperties") (λ n. bytes_eq (codes "properties") n || (bytes_eq (codes "patternProperties") n || false)) refl
-          (one_more (codes "properties") (λ n. bytes_eq (codes "patternProperties") n || false) refl (one_more (codes "patternProperties") (λ n. false) refl (IsPermutation-refl _)))
+      split = named_first (listed ms) (codes "additionalProperties") (λ n. bytes_eq (codes "properties") n || (bytes_eq (codes "patternProperties") n || false)) refl
+          (named_first (listed ms) (codes "properties") (λ n. bytes_eq (codes "patternProperties") n || false) refl (named_first (listed ms) (codes "patternProperties") (λ n. false) refl (IsPermutation-refl _)))
 
   read_as_grouped : (m : Name × Data) → lookup_name m.0 (listed ms) ≡ Some m.1 → IsPermutation (rows_read ms m) (group m)
   read_as_grouped m there = by (is_taken plan m.0) (is_condition ms && bytes_eq (codes "if") m.0) (is_restricted ms && bytes_eq (codes "additionalProperties") m.0) refl refl refl
     where
-      both : (a b : Bool) → (a && b) ≡ true → (a ≡ true) × (b ≡ true)
-      both true b h = (refl, h)
-      both false b h = absurd (true≢false (sym h))
-
       by : (t a b : Bool) → is_taken plan m.0 ≡ t → (is_condition ms && bytes_eq (codes "if") m.0) ≡ a → (is_restricted ms && bytes_eq (codes "additionalProperties") m.0) ≡ b
           → IsPermutation (cond t [] (m ∷ rows_taken ms (cond a (Some (codes "then", codes "else")) (cond b (Some (codes "properties", codes "patternProperties")) None)))) (group m)
       by true a b q i j = subst (λ l. IsPermutation [] l) (sym (of_taken m q)) (IsPermutation-refl [])
       by false false false q i j = subst (λ l. IsPermutation (m ∷ []) l) (sym (of_alone m there q i j)) (IsPermutation-refl (m ∷ []))
       by false true b q i j =
-          let h = both (is_condition ms) (bytes_eq (codes "if") m.0) i in
-          let n = same_name (codes "if") m.0 h.1 in
+          let n = same_name (codes "if") m.0 (and_second (is_condition ms) _ i) in
           subst (λ k. IsPermutation ((k, m.1) ∷ (rows_at (codes "then") ms ++ rows_at (codes "else") ms)) (group (k, m.1))) n
-          (of_condition m.1 h.0 (ap (λ k. lookup_name k (listed ms)) n ∙ there))
+          (of_condition m.1 (and_first _ _ i) (ap (λ k. lookup_name k (listed ms)) n ∙ there))
       by false false true q i j =
-          let h = both (is_restricted ms) (bytes_eq (codes "additionalProperties") m.0) j in
-          let n = same_name (codes "additionalProperties") m.0 h.1 in
+          let n = same_name (codes "additionalProperties") m.0 (and_second (is_restricted ms) _ j) in
           subst (λ k. IsPermutation ((k, m.1) ∷ (rows_at (codes "properties") ms ++ rows_at (codes "patternProperties") ms)) (group (k, m.1))) n
-          (of_restriction m.1 h.0 (ap (λ k. lookup_name k (listed ms)) n ∙ there))
+          (of_restriction m.1 (and_first _ _ j) (ap (λ k. lookup_name k (listed ms)) n ∙ there))
 
   -- what is read for all members are all members
   pub rows_read_are_all : IsPermutation (flat_map (rows_read ms) (listed ms)) (listed ms)
   rows_read_are_all = IsPermutation-trans _ _ _
-      (flat_map-permuted (rows_read ms) group (listed ms) (along (listed ms) (Each-found (listed ms) (Distinct-from (listed ms) distinct))))
+      (flat_map-permuted (rows_read ms) group (listed ms)
+      (Each-implies (λ x. lookup_name x.0 (listed ms) ≡ Some x.1) _ read_as_grouped (listed ms) (Each-found (listed ms) (Distinct-from (listed ms) distinct))))
       (claims_are_all (head plan) (listed ms) distinct heads_there)
-    where
-      along : (es : Rows) → Each (λ x. lookup_name x.0 (listed ms) ≡ Some x.1) es → Each (λ x. IsPermutation (rows_read ms x) (group x)) es
-      along [] h = tt
-      along (x ∷ es) h = (read_as_grouped x h.0, along es h.1)

@@ -6,9 +6,8 @@ use Rattle.std.proofs.Common.{refl, sym, ◌∙◌, ap, subst, inl, inr}
 use Rattle.std.proofs.lemmas.Grind.{flat_map-append}
 use Rattle.std.proofs.lemmas.List.{append-nil, append_assoc}
 use Rattle.std.proofs.lemmas.List.Elements.{Contains-append_left, Contains-append_right, Contains-append_cases}
-use mathlib.Core.Bool.{true≢false}
 use Rattle.serde_json.specs.Data.{Data, Members}
-use Rattle.olk_spec.specs.Names.{Name, Path, is_empty}
+use Rattle.olk_spec.specs.Names.{Name, Path}
 use Rattle.olk_spec.specs.Faults.{Fault}
 use Rattle.olk_spec.specs.Schemas.{listed}
 use Rattle.olk_spec.specs.Vocabulary.{keyword_named}
@@ -27,11 +26,12 @@ use Rattle.olk_meaning.proofs.Claims.{heads_there}
 use Rattle.olk_meaning.proofs.Listed.{found_each}
 use Rattle.olk_read.specs.Refusing.{Spends, Refuses}
 use Rattle.olk_read.proofs.Spending.{spends_nothing, spends_append, spends_same, within_same, refuses_among, memory_among, tells}
+use Rattle.olk_meaning.proofs.Clean.{nothing_in}
 use Rattle.olk_make.specs.Holding.{all_malformed}
 use Rattle.olk_make.specs.Chooser.{HaveForms, AreChosen}
 use Rattle.olk_make.specs.Making.{KeywordsMean}
 use Rattle.olk_make.specs.Standing.{is_taken}
-use Rattle.olk_make.proofs.Entries.{Rows}
+use Rattle.olk_meaning.proofs.Rows.{Rows}
 use Rattle.olk_make.proofs.Together.{no_keywords_mean, one_more_keyword, heads_mean_all}
 use Rattle.olk_build.specs.Building.{IsMember, ObjectIsBuilt, RefusesObject, all_cost}
 use Rattle.olk_build.specs.Beside.{rows_read, MemberIsBuilt, RefusesMember}
@@ -57,14 +57,10 @@ module _ {X : Type 0} (f : X → List Fault) where
   abbrev AllIn : List X → List X → Type 0
   AllIn xs ys = (e : Fault) → Contains (flat_map f xs) e → Contains (flat_map f ys) e
 
-  both_empty : (a b : List Fault) → a ++ b ≡ [] → (a ≡ []) × (b ≡ [])
-  both_empty [] b e = (refl, e)
-  both_empty (x ∷ a) b e = absurd (true≢false (sym (ap is_empty e)))
-
   none_permuted : (xs ys : List X) → IsPermutation xs ys → NoneIn xs ys
   none_permuted = along_permutation NoneIn (λ xs e. e)
-      (λ x xs ys h e. let b = both_empty (f x) (flat_map f xs) e in λ i. b.0 i ++ h b.1 i)
-      (λ x y xs e. let b = both_empty (f x) (f y ++ flat_map f xs) e in let d = both_empty (f y) (flat_map f xs) b.1 in λ i. d.0 i ++ (b.0 i ++ d.1 i))
+      (λ x xs ys h e. let b = nothing_in (f x) (flat_map f xs) e in λ i. b.0 i ++ h b.1 i)
+      (λ x y xs e. let b = nothing_in (f x) (f y ++ flat_map f xs) e in let d = nothing_in (f y) (flat_map f xs) b.1 in λ i. d.0 i ++ (b.0 i ++ d.1 i))
       (λ xs ys zs h k e. k (h e))
 
   all_permuted : (xs ys : List X) → IsPermutation xs ys → AllIn xs ys

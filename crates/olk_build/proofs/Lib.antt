@@ -1,6 +1,5 @@
 pub mod Built
 mod Groups
-mod Found
 pub mod Neighbouring
 mod Keywords
 mod Member

@@ -24,12 +24,16 @@ use Rattle.olk_reports.specs.declared.error.BuildError.TheVariants.{Memory}
 use Rattle.olk_tree.specs.Answers.{Answers}
 use Rattle.olk_tree.specs.declared.node.KeywordOver.{KeywordOver}
 use Rattle.olk_meaning.specs.Conditions.{Known, known_of, is_condition, is_restricted, IsKnown}
-use Rattle.olk_meaning.specs.Members.{member_child}
+use Rattle.olk_meaning.specs.Chosen.{Placed, standing_step}
+use Rattle.olk_meaning.specs.Members.{member_child, member_standing}
+use Rattle.olk_meaning.proofs.Conditions.{restricted_read}
+use Rattle.olk_meaning.proofs.Standing.{properties_stand_elsewhere, patterns_stand_elsewhere}
 use Rattle.olk_meaning.specs.AdditionalProperties.{declared_beside}
 use Rattle.olk_meaning.specs.PatternProperties.{open_names, names_asked}
 use Rattle.olk_meaning.specs.Plans.{Planned, plan_of, is_case, tells_members, head, claims}
 use Rattle.olk_meaning.proofs.Claims.{claims_no_case}
 use Rattle.olk_meaning.proofs.RestrictedClaims.{claims_no_properties, claims_no_patterns}
+use Rattle.olk_meaning.proofs.TakenOver.{absent_if}
 use Rattle.olk_meaning.proofs.RestrictionShown.{properties_show_none, patterns_show_none}
 use Rattle.olk_read.specs.Reading.{reads_of}
 use Rattle.olk_read.specs.Refusing.{Spends, Refuses}
@@ -38,7 +42,7 @@ use Rattle.olk_make.specs.Chooser.{has_no_validator, HasForm, IsChosen, HaveForm
 use Rattle.olk_make.specs.Holding.{which, Covers}
 use Rattle.olk_make.specs.Standing.{is_taken, StandAt}
 use Rattle.olk_make.specs.declared.part.Part.{Part}
-use Rattle.olk_make.proofs.Entries.{Rows}
+use Rattle.olk_meaning.proofs.Rows.{Rows}
 use Rattle.olk_make.proofs.Together.{no_keywords_mean}
 use Rattle.olk_build.specs.Building.{IsMember, RefusesPart, later_cost}
 use Rattle.olk_build.specs.Placing.{PartsAreBuilt, IsPart}
@@ -123,6 +127,18 @@ module _ {K R : Type 0} (o : Kit K R) (ms : Members) (P : Path) (m : Name × Dat
       by (inr (inr (inl h))) = ap (shown_as u v Q) h.1
       by (inr (inr (inr h))) = ap (shown_as u v Q) h.1
 
+  abbrev placed_as : Name → List Placed
+  placed_as k = member_standing o.world ms (k, m.1) (which o ms (k, m.1)) P
+
+  taken_stands_nowhere : member_standing o.world ms m (which o ms m) P ≡ []
+  taken_stands_nowhere = by taken_by
+    where
+      by : TakenBy → placed_as m.0 ≡ []
+      by (inl h) = ap placed_as h.1 ∙ properties_stand_elsewhere o.world ms P m.1 (restricted_read (standing_step o.world) ms ∙ h.0)
+      by (inr (inl h)) = ap placed_as h.1 ∙ patterns_stand_elsewhere o.world ms P m.1 (restricted_read (standing_step o.world) ms ∙ h.0)
+      by (inr (inr (inl h))) = ap placed_as h.1
+      by (inr (inr (inr h))) = ap placed_as h.1
+
   taken_has_none : has_no_validator ms (which o ms m) m.1 ≡ true
   taken_has_none = by taken_by
     where
@@ -131,10 +147,6 @@ module _ {K R : Type 0} (o : Kit K R) (ms : Members) (P : Path) (m : Name × Dat
       by (inr (inl h)) = ap (λ k. has_no_validator ms (which o ms (k, m.1)) m.1) h.1 ∙ h.0
       by (inr (inr (inl h))) = ap (λ k. has_no_validator ms (which o ms (k, m.1)) m.1) h.1
       by (inr (inr (inr h))) = ap (λ k. has_no_validator ms (which o ms (k, m.1)) m.1) h.1
-
-is_nothing : {X : Type 0} (x : Option X) → is_some x ≡ false → x ≡ None
-is_nothing None e = refl
-is_nothing (Some x) e = absurd (true≢false e)
 
 -- ---- one member
 
@@ -163,6 +175,7 @@ module _ {K R N : Type 0} (o : Kit K R) (answers : N → Answers) (ms : Members)
         covers = subst (λ rows. Covers o answers ms [] rows P) (sym (taken_claims_none o ms P (k, d) taken)) (no_keywords_mean o answers ms P [] refl).covers;
         shows = λ clean u v Q. sym (append-nil _ ∙ taken_shows_none o ms P (k, d) taken u v Q);
         formed = refl;
+        forms = λ clean. sym (append-nil _ ∙ taken_stands_nowhere o ms P (k, d) taken);
       };
       chosen = taken_has_none o ms P (k, d) taken;
     };
@@ -226,7 +239,7 @@ module _ {K R N : Type 0} (o : Kit K R) (answers : N → Answers) (ms : Members)
         -- one that takes nothing
         module _ {any : Bool} (is : any ≡ is_some (takes_of part.shape)) (no : any ≡ false) where
           takes_none : takes_of part.shape ≡ None
-          takes_none = is_nothing (takes_of part.shape) (sym is ∙ no)
+          takes_none = absent_if (takes_of part.shape) (sym is ∙ no)
 
           none_here : IsTaken o answers ms part.shape P y y nothing
           none_here = takes_nothing takes_none

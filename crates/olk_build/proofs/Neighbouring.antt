@@ -62,13 +62,13 @@ module _ {K R : Type 0} (o : Kit K R) (ms : Members) (P : Path) where
 
   -- the name of a member that is there is known as far as its keyword has to know its neighbours
   pub there_known : (k : Name) (d : Data) → lookup_name k (listed ms) ≡ Some d → IsKnown (known_of ms) ms k
-  there_known k d there = ((λ e. (refl, ap is_some there)), λ e. refl)
+  there_known k d there e = (refl, ap is_some there)
 
   -- ---- one neighbour
 
-  pub neighbour_refused : {k : Name} {d : Data} {c : Known} {L : Path} {a b : Counts} {e : BuildError} → c ≡ known_of ms → lookup_name k (listed ms) ≡ Some d → L ≡ P // k
+  pub neighbour_refused : (k : Name) {d : Data} {c : Known} {L : Path} {a b : Counts} {e : BuildError} → c ≡ known_of ms → lookup_name k (listed ms) ≡ Some d → L ≡ P // k
       → RefusesPart o c k d L a b e → RefusesNeighbour o ms k P a b e
-  neighbour_refused {k} {d} {c} {L} {a} {b} {e} known there place h =
+  neighbour_refused k {d} {c} {L} {a} {b} {e} known there place h =
       refuses_among wrong costs (rows_at k ms) a b [] (k, d) [] a e (ap (λ x. map (λ d. (k, d)) (option_to_list x)) (sym there)) (spends_nothing a)
       (h ms P place (subst (λ x. IsKnown x ms k) (sym known) (there_known k d there)))
 

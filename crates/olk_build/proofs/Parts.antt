@@ -8,10 +8,10 @@ use Rattle.serde_json.specs.Data.{Data, boolean, Members}
 use Rattle.olk_spec.specs.Names.{Name, Path, ◌//◌, down}
 use Rattle.olk_spec.specs.Vocabulary.{Keyword, pattern_properties, additional_properties, keyword_named}
 use Rattle.olk_spec.specs.Faults.{Fault}
-use Rattle.olk_spec.specs.Schemas.{Schema, Sub, read, read_members, members, numbered, branches, is_object, is_truth}
+use Rattle.olk_spec.specs.Schemas.{Schema, Sub, read, read_members, members, numbered, is_object, is_truth}
 use Rattle.olk_spec.specs.Malformed.{each, itself, places_where, read_places, malformations_at, malformations_step, items_of_array}
 use Rattle.olk_spec.specs.Costs.{Cost, cost, cost_step, own_cost, total_cost, ◌⊕◌}
-use Rattle.olk_spec.proofs.Reading.{entry, place, whole_read, entries_read, branches_read}
+use Rattle.olk_spec.proofs.Reading.{entry, place, whole_read, entries_read}
 use Rattle.olk_base.specs.Count.{Counts}
 use Rattle.olk_reports.specs.declared.error.BuildError.{BuildError}
 use Rattle.olk_base.specs.Kit.{Kit}
@@ -30,15 +30,12 @@ use Rattle.olk_tree.specs.Answers.{Answers}
 use Rattle.olk_make.specs.declared.part.Part.{Part}
 use Rattle.olk_read.specs.declared.shape.Shape.{Shape}
 use Rattle.olk_read.specs.declared.shape.Shape.TheVariants as shape
-use Rattle.olk_meaning.proofs.Facts.{numbered-map, each_malformations, each_costs}
+use Rattle.olk_meaning.proofs.Facts.{branch_entries, each_malformations, each_costs}
 use Rattle.olk_meaning.proofs.Dependencies.{dependencies_places}
 use Rattle.olk_meaning.proofs.PropertyNames.{false_is_no_object}
 use Rattle.olk_meaning.proofs.PropertyDependencies.{inner_places, property_dependencies_places, inner_malformations, inner_costs}
 use Rattle.olk_spec.proofs.CostSums.{sum_last}
 use Rattle.olk_read.proofs.Spending.{spends_append, within_after, within_before, within_same, tells_left, tells_right, tells_same}
-
-branch_entries : {X : Type 0} (step : Schema X → X) (d : Data) → branches (read step d) ≡ map (entry step) (numbered (items_of_array d))
-branch_entries step d = branches_read step d ∙ numbered-map (place step) (items_of_array d)
 
 true_is_no_object : (d : Data) → is_truth true d ≡ true → is_object d ≡ false
 true_is_no_object (boolean b) e = refl
@@ -142,10 +139,10 @@ module _ {K R : Type 0} (o : Kit K R) (ms : Members) (d : Data) where
 
     -- a shape that is read as it is to be is so in each object that has the keyword
     fits_there : (x : Shape K R) → IsShape o k d x → Fits o c x → Fits o (known_of ms) x
-    fits_there shape.If s f = sym (known.0 (ap is_conditional_name s)).0 ∙ f
-    fits_there shape.Then s f = sym (known.0 (ap is_conditional_name s)).0 ∙ f
-    fits_there shape.Else s f = sym (known.0 (ap is_conditional_name s)).0 ∙ f
-    fits_there shape.Unpaired s f = sym (known.0 s).0 ∙ f
+    fits_there shape.If s f = sym (known (ap is_conditional_name s)).0 ∙ f
+    fits_there shape.Then s f = sym (known (ap is_conditional_name s)).0 ∙ f
+    fits_there shape.Else s f = sym (known (ap is_conditional_name s)).0 ∙ f
+    fits_there shape.Unpaired s f = sym (known s).0 ∙ f
     fits_there x s f = tt
 
 -- ---- one member

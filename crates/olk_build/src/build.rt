@@ -19,7 +19,7 @@ use crate::context::Context;
 use crate::taking::{
     append_alone, append_taking, is_taken, make_taking, take, take_nothing, takes, takes_any,
 };
-use olk_base::{MakeLeaf, MakeRegex, Meter, append, append_all, one};
+use olk_base::{MakeLeaf, MakeRegex, Meter, append, one};
 use olk_make::{Part, Taken};
 use olk_meaning::{Neighbours, Plan};
 use olk_paths::Location;
@@ -313,8 +313,8 @@ fn compile_inner_entries<'a, L: MakeLeaf, M: MakeRegex, N: BuiltNode<L::Leaf, M:
     for (name, entry) in map {
         let location = place.join(alloc, name.as_str())?;
         let reads = ReadPlaces::Entries;
-        let inner = compile_places(alloc, makers, meter, &location, reads, entry)?;
-        append_all(&mut nodes, inner)?;
+        let mut inner = compile_places(alloc, makers, meter, &location, reads, entry)?;
+        nodes.append(&mut inner)?;
     }
     Ok(nodes)
 }

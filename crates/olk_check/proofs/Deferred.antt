@@ -2,7 +2,7 @@
 use Rattle.std.proofs.Common.{◌≡◌, ◌+◌, Bool, true, false, ◌&&◌, List, [], ◌∷◌, ◌++◌, refl, sym, ap, ◌∙◌, arith}
 use Rattle.std.proofs.Math.Bool.{and_comm, and-false}
 use Rattle.olk_base.specs.Lawful.{Asking}
-use Rattle.olk_tree.specs.Questions.{Question, always, both, every}
+use Rattle.olk_tree.specs.Questions.{Tally, Question, always, both, every}
 use Rattle.olk_check.specs.Asks.{Asks}
 use Rattle.olk_check.proofs.Asked.{settles, unasked}
 use Rattle.olk_check.proofs.Together.{both_where}
@@ -19,9 +19,9 @@ module _ {X : Type 0} (h : X → Question) where
   pushed_accepts x (y ∷ ys) u = ap (λ z. (h y).accepts u && z) (pushed_accepts x ys u) ∙ and_around ((h y).accepts u) ((h x).accepts u) ((every h ys).accepts u)
       ∙ ap (λ z. z && (every h ys).accepts u) (and_comm ((h y).accepts u) ((h x).accepts u)) ∙ sym (and_around ((h x).accepts u) ((h y).accepts u) ((every h ys).accepts u))
 
-  pushed_asks : (x : X) (xs : List X) (u : Bool) → (every h (xs ++ x ∷ [])).asks u ≡ (h x).asks u + (every h xs).asks u
-  pushed_asks x [] u = refl
-  pushed_asks x (y ∷ ys) u = let e = pushed_asks x ys u in omega arith
+  pushed_asks : (x : X) (xs : List X) (k : Tally) (u : Bool) → (every h (xs ++ x ∷ [])).asks k u ≡ (h x).asks k u + (every h xs).asks k u
+  pushed_asks x [] k u = refl
+  pushed_asks x (y ∷ ys) k u = let e = pushed_asks x ys k u in omega arith
 
 -- what is left, and what was put off, decide about all, beside any other question
 pub record LeftAndHeld {Y X : Type 0} (f : Y → Question) (h : X → Question) (all rest : List Y) (held : List X) (a b : Asking) : Type 0 where
@@ -32,11 +32,11 @@ module _ {Y X : Type 0} {f : Y → Question} {h : X → Question} {all : List Y}
     -- the other question decides alone, or what was put off does
     pub held_refused : {r p : Bool} → r ≡ p → r ≡ false → Asks a b (both (every f all) (always p)) r
     held_refused {r} {p} same not = w.goes_on (always p) b r (settles (both (both (every f left) (every h held)) (always p)) r (unasked b r)
-        (λ u e. not ∙ sym (and-false ((every f left).accepts u && (every h held).accepts u)) ∙ ap (λ z. ((every f left).accepts u && (every h held).accepts u) && z) (sym not ∙ same)) (λ u e. omega arith))
+        (λ u e. not ∙ sym (and-false ((every f left).accepts u && (every h held).accepts u)) ∙ ap (λ z. ((every f left).accepts u && (every h held).accepts u) && z) (sym not ∙ same)) (λ k u e. omega arith))
 
     pub held_end : {xs : List X} {c : Asking} {r p : Bool} → left ≡ [] → xs ≡ held → Asks b c (every h xs) r → p ≡ true → Asks a c (both (every f all) (always p)) r
     held_end {xs} {c} {r} {p} none same l is = w.goes_on (always p) c r (rw none
-        (both_where (settles (both (always true) (every h held)) r (rw same at l) (λ u e. e) (λ u e. omega arith)) is))
+        (both_where (settles (both (always true) (every h held)) r (rw same at l) (λ u e. e) (λ k u e. omega arith)) is))
 
     module _ {y : Y} {rest : List Y} (next : left ≡ y ∷ rest) where
       at_next : (t : Question) {c : Asking} {r : Bool} → Asks b c (both (both (every f (y ∷ rest)) (every h held)) t) r → Asks a c (both (every f all) t) r
@@ -48,7 +48,7 @@ module _ {Y X : Type 0} {f : Y → Question} {h : X → Question} {all : List Y}
         goes_on = λ t c r l. at_next t (settles (both (both (every f (y ∷ rest)) (every h held)) t) r (rw is at l)
             (λ u e. e ∙ ap (λ z. z && t.accepts u) (ap (λ z. R u && z) (pushed_accepts h x held u) ∙ and_around (R u) ((h x).accepts u) (H u)
             ∙ ap (λ z. z && H u) (and_comm (R u) ((h x).accepts u)) ∙ ap (λ q. (q.accepts u && R u) && H u) same))
-            (λ u e. let p = pushed_asks h x held u in let s = ap (λ q. q.asks u) same in omega arith));
+            (λ k u e. let p = pushed_asks h x held k u in let s = ap (λ q. q.asks k u) same in omega arith));
       }
         where
           R : Bool → Bool
@@ -63,7 +63,7 @@ module _ {Y X : Type 0} {f : Y → Question} {h : X → Question} {all : List Y}
           goes_on = λ t d r l. at_next t (settles (both (both (every f (y ∷ rest)) (every h held)) t) r (both_go_on q l)
               (λ u e. e ∙ and_around ((f y).accepts u) ((every f rest).accepts u && (every h held).accepts u) (t.accepts u) ∙ ap (λ z. z && t.accepts u)
               (and_around ((f y).accepts u) ((every f rest).accepts u) ((every h held).accepts u)))
-              (λ u e. omega arith));
+              (λ k u e. omega arith));
         }
 
         pub held_stop : (t : Question) → Asks b c (f y) false → Asks a c (both (every f all) t) false

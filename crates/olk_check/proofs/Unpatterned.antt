@@ -33,7 +33,7 @@ module _ {N : Type 0} (m : N → Data → Question) where
       → (a : Asking) → Asks a a (every (λ x. declared_or_rest m rest x.1 (lookup_name x.0 es)) ms) false
   crowded rest none es ms r s l a = rw (← none)
       (settles (every (λ x. declared_or_rest m None x.1 (lookup_name x.0 es)) ms) false (unasked a false)
-      (λ u e. sym (one_too_many (λ o x. declared_or_rest m None x o) u (λ x. refl) es ms r s l)) (λ u e. omega arith))
+      (λ u e. sym (one_too_many (λ o x. declared_or_rest m None x o) u (λ x. refl) es ms r s l)) (λ k u e. omega arith))
 
   module _ {R : Type 0} (answers : R → Name → Says) (costs : R → Bool) (known : ℕ → ℕ → Says) where
     without_places : (i : ℕ) (ns : List N) → map (λ f. f.1) (enumerate_from i ns) ≡ ns
@@ -42,8 +42,8 @@ module _ {N : Type 0} (m : N → Data → Question) where
 
     module _ (p : PropertiesMap N) (rest : Option N) where
       at_declared : (d : Option (ℕ × N)) (n : Name) (x : Data) → member_means_at answers costs m (unpatterned p rest known) d n x ≡ declared_or_rest m rest x (option_map (λ f. f.1) d)
-      at_declared None n x = λ i. record { accepts = (rest_means m x rest).accepts; asks = λ u. nothing_first ((rest_means m x rest).asks u) i }
-      at_declared (Some f) n x = λ i. record { accepts = λ u. and-true ((m f.1 x).accepts u) i; asks = λ u. nothing_last ((m f.1 x).asks u) i }
+      at_declared None n x = λ i. record { accepts = (rest_means m x rest).accepts; asks = λ k u. nothing_first ((rest_means m x rest).asks k u) i }
+      at_declared (Some f) n x = λ i. record { accepts = λ u. and-true ((m f.1 x).accepts u) i; asks = λ k u. nothing_last ((m f.1 x).asks k u) i }
 
       found_placed : (n : Name) → lookup_name n (mapped p) ≡ option_map (λ f. f.1) (lookup_name n (placed_entries (mapped p)))
       found_placed n =
@@ -60,7 +60,7 @@ module _ {N : Type 0} (m : N → Data → Question) where
     -- where nothing stands beside the rest
     module _ (rest : N) where
       at_rest : (n : Name) (x : Data) → m rest x ≡ member_means answers costs m (alone rest known) n x
-      at_rest n x = sym (λ i. record { accepts = (m rest x).accepts; asks = λ u. nothing_first ((m rest x).asks u) i })
+      at_rest n x = sym (λ i. record { accepts = (m rest x).accepts; asks = λ k u. nothing_first ((m rest x).asks k u) i })
 
       pub alone_means : (v : Data) → values_mean m rest v ≡ means_in_turn answers costs m (alone rest known) v
       alone_means v = λ i. every (λ x. at_rest x.0 x.1 i) (members v)

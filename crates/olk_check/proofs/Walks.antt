@@ -13,29 +13,29 @@ use Rattle.olk_check.proofs.Asked.{join, settles, unasked}
 
 module _ {a b c : Asking} {p q : Question} {r : Bool} where
   pub both_go_on : Asks a b p true → Asks b c q r → Asks a c (both p q) r
-  both_go_on h k = join (both p q) r h k (λ u e f. f ∙ ap (λ x. x && q.accepts u) e) (λ u e. omega arith)
+  both_go_on h k = join (both p q) r h k (λ u e f. f ∙ ap (λ x. x && q.accepts u) e) (λ k u e. omega arith)
 
   pub either_goes_on : Asks a b p false → Asks b c q r → Asks a c (either p q) r
-  either_goes_on h k = join (either p q) r h k (λ u e f. f ∙ ap (λ x. x || q.accepts u) e) (λ u e. omega arith)
+  either_goes_on h k = join (either p q) r h k (λ u e f. f ∙ ap (λ x. x || q.accepts u) e) (λ k u e. omega arith)
 
 module _ {a b : Asking} {p : Question} (q : Question) where
   pub both_stop : Asks a b p false → Asks a b (both p q) false
-  both_stop h = settles (both p q) false h (λ u e. ap (λ x. x && q.accepts u) e) (λ u e. omega arith)
+  both_stop h = settles (both p q) false h (λ u e. ap (λ x. x && q.accepts u) e) (λ k u e. omega arith)
 
   pub either_stops : Asks a b p true → Asks a b (either p q) true
-  either_stops h = settles (either p q) true h (λ u e. ap (λ x. x || q.accepts u) e) (λ u e. omega arith)
+  either_stops h = settles (either p q) true h (λ u e. ap (λ x. x || q.accepts u) e) (λ k u e. omega arith)
 
 pub opposite_answers : {a b : Asking} {p : Question} {r : Bool} → Asks a b p r → Asks a b (opposite p) (not r)
-opposite_answers {a} {b} {p} {r} h = settles (opposite p) (not r) h (λ u e. ap not e) (λ u e. omega arith)
+opposite_answers {a} {b} {p} {r} h = settles (opposite p) (not r) h (λ u e. ap not e) (λ k u e. omega arith)
 
 -- one question decides which is asked next
 module _ {a b : Asking} {p : Question} where
   module _ {c : Asking} (q r : Question) {s : Bool} where
     pub accepted_then : Asks a b p true → Asks b c q s → Asks a c (conditional p q r) s
-    accepted_then h k = join (conditional p q r) s h k (λ u e f. f ∙ ap (λ x. cond x (q.accepts u) (r.accepts u)) e) (λ u e. let n = ap (λ x. cond x (q.asks u) (r.asks u)) e in omega arith)
+    accepted_then h k = join (conditional p q r) s h k (λ u e f. f ∙ ap (λ x. cond x (q.accepts u) (r.accepts u)) e) (λ k u e. let n = ap (λ x. cond x (q.asks k u) (r.asks k u)) e in omega arith)
 
     pub refused_then : Asks a b p false → Asks b c r s → Asks a c (conditional p q r) s
-    refused_then h k = join (conditional p q r) s h k (λ u e f. f ∙ ap (λ x. cond x (q.accepts u) (r.accepts u)) e) (λ u e. let n = ap (λ x. cond x (q.asks u) (r.asks u)) e in omega arith)
+    refused_then h k = join (conditional p q r) s h k (λ u e f. f ∙ ap (λ x. cond x (q.accepts u) (r.accepts u)) e) (λ k u e. let n = ap (λ x. cond x (q.asks k u) (r.asks k u)) e in omega arith)
 
   pub accepted_alone : (r : Question) → Asks a b p true → Asks a b (conditional p (always true) r) true
   accepted_alone r h = accepted_then (always true) r h (unasked b true)

@@ -31,6 +31,7 @@ use olk_tree::additional_properties::{
     Restriction, SidesOf,
 };
 use olk_tree::entries::Entries;
+use olk_tree::map_ref::MapRef;
 use olk_tree::properties_map::PropertiesMap;
 use serde_json::{Map, Value};
 
@@ -177,7 +178,7 @@ fn names_accept<'a, A: Asked, N: Check>(
     match asked.as_object() {
         Some(members) => {
             law_of_names(members);
-            declared_accept(properties.entries(), members, rest, ctx)
+            declared_accept(properties.as_map(), members, rest, ctx)
         }
         None => Accepted::One,
     }
@@ -199,7 +200,7 @@ fn names_accept_with<A: Asked, N: Check>(
     match asked.as_object() {
         Some(members) => {
             law_of_names(members);
-            declared_accept_with(properties.entries(), members, required.as_str(), ctx)
+            declared_accept_with(properties.as_map(), members, required.as_str(), ctx)
         }
         None => Accepted::One,
     }
@@ -245,7 +246,7 @@ fn each_value_accepted<N: Check>(
 /// The verdict of `are_properties_valid`.
 #[inline(always)]
 fn declared_accept<'a, N: Check>(
-    properties: Entries<'a, N>,
+    properties: MapRef<'a, N>,
     members: &Map<String, Value>,
     rest: Option<&'a N>,
     ctx: &mut ValidationContext,
@@ -255,7 +256,12 @@ fn declared_accept<'a, N: Check>(
 {
     match rest {
         None => declared_alone(properties, members, ctx),
-        Some(_) => Accepted::one_if(each_declared_or_rest(properties, members, rest, ctx)),
+        Some(_) => Accepted::one_if(each_declared_or_rest(
+            properties.entries(),
+            members,
+            rest,
+            ctx,
+        )),
     }
 }
 
@@ -263,7 +269,7 @@ fn declared_accept<'a, N: Check>(
 /// names, one of them is not declared.
 #[inline(always)]
 fn declared_alone<N: Check>(
-    properties: Entries<'_, N>,
+    properties: MapRef<'_, N>,
     members: &Map<String, Value>,
     ctx: &mut ValidationContext,
 ) -> Accepted
@@ -280,7 +286,7 @@ fn declared_alone<N: Check>(
 /// name.
 #[inline(always)]
 fn declared_accept_with<N: Check>(
-    properties: Entries<'_, N>,
+    properties: MapRef<'_, N>,
     members: &Map<String, Value>,
     required: &str,
     ctx: &mut ValidationContext,
@@ -298,7 +304,7 @@ fn declared_accept_with<N: Check>(
 /// Whether each member is declared, and accepted by what is declared at its name.
 #[inline(never)]
 fn each_declared<N: Check>(
-    properties: Entries<'_, N>,
+    properties: MapRef<'_, N>,
     members: &Map<String, Value>,
     ctx: &mut ValidationContext,
 ) -> Accepted
@@ -306,14 +312,14 @@ fn each_declared<N: Check>(
         properties.entry
         None (object_of members.now.entries)) result }
 {
-    Accepted::one_if(each_declared_or_rest(properties, members, None, ctx))
+    Accepted::one_if(each_declared_or_rest(properties.entries(), members, None, ctx))
 }
 
 /// Whether each member is declared, and accepted by what is declared at its name, and there is a
 /// member at the required name.
 #[inline(never)]
 fn all_declared<N: Check>(
-    properties: Entries<'_, N>,
+    properties: MapRef<'_, N>,
     members: &Map<String, Value>,
     required: &str,
     ctx: &mut ValidationContext,
@@ -323,7 +329,7 @@ fn all_declared<N: Check>(
         None (object_of members.now.entries)) (always (is_empty (missing
         (required.now ∷ []) (object_of members.now.entries))))) result }
 {
-    Accepted::one_if(each_declared_with(properties, members, required, ctx))
+    Accepted::one_if(each_declared_with(properties.entries(), members, required, ctx))
 }
 
 /// Whether each member is accepted by what is declared at its name, and any other by `additional`;

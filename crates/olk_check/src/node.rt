@@ -17,7 +17,7 @@ use crate::properties::{
     properties_accept, properties_with_required_accept, properties_with_required2_accept,
 };
 use olk_base::{Asked, Leaf, RegexEngine, ValidationContext};
-use olk_tree::entries::Entries;
+use olk_tree::map_ref::MapRef;
 use olk_tree::node::{Body, KeywordOver};
 
 /// What the keyword asks of the value.
@@ -197,14 +197,14 @@ fn first_accept_apart<A: Asked, K: Leaf, R: RegexEngine, N: Check>(
 #[inline(always)]
 fn declared_names<K: Leaf, R: RegexEngine, N: Check>(
     keyword: &KeywordOver<K, R, N>,
-) -> Option<Entries<'_, N>>
-    ensures { IfSome result (λ entries. (v : Data)
+) -> Option<MapRef<'_, N>>
+    ensures { IfSome result (λ map. (v : Data)
         → validator_means (kit K.Leaf R.RegexEngine) N.means keyword.now v
-        ≡ properties_mean N.means entries v) }
+        ≡ properties_mean N.means map v) }
 {
     match keyword {
-        KeywordOver::SmallProperties(keyword) => Some(keyword.properties.entries()),
-        KeywordOver::BigProperties(keyword) => Some(keyword.properties.entries()),
+        KeywordOver::SmallProperties(keyword) => Some(keyword.properties.as_map()),
+        KeywordOver::BigProperties(keyword) => Some(keyword.properties.as_map()),
         _ => None,
     }
 }

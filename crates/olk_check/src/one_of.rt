@@ -1,6 +1,7 @@
 //! `oneOf`: its verdict.
+ghost use Rattle.std.specs.Prelude.{Bool};
 ghost use Rattle.olk_tree.specs.Questions.{how_many, exactly_one};
-ghost use Rattle.olk_check.specs.Asks.{Asks};
+ghost use Rattle.olk_check.specs.Asks.{Asks, IsAnswer};
 ghost use Rattle.olk_check.specs.Accepting.{IsHowMany, is_one};
 
 use crate::Check;
@@ -29,8 +30,8 @@ pub fn how_many_accept<A: Asked, N: Check>(
 ) -> Accepting
     ensures asks { Asks ctx.old ctx.new
         (exactly_one (λ n. N.means n (A.stands_for asked)) schemas.now.items) (is_one result) }
-    ensures count { IsHowMany result
-        (how_many (λ n. N.means n (A.stands_for asked)) ctx.old.answer schemas.now.items) }
+    ensures count { (u : Bool) → IsAnswer ctx.old ctx.new u → IsHowMany result
+        (how_many (λ n. N.means n (A.stands_for asked)) u schemas.now.items) }
 {
     let mut found = false;
     for schema in schemas {

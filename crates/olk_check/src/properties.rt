@@ -17,18 +17,19 @@ use crate::required::{has_both, is_met, is_present};
 use olk_base::{Asked, ValidationContext};
 use olk_meaning::member;
 use olk_tree::entries::Entries;
+use olk_tree::map_ref::MapRef;
 use olk_tree::properties::{BigProperties, SmallProperties, SmallPropertiesWithRequired2};
 use serde_json::{Map, Value};
 
 impl<N: Check> Check for SmallProperties<N> {
     fn check<A: Asked>(&self, asked: A, ctx: &mut ValidationContext) -> bool {
-        properties_accept(self.properties.entries(), asked, ctx).is_some()
+        properties_accept(self.properties.as_map(), asked, ctx).is_some()
     }
 }
 
 impl<N: Check> Check for BigProperties<N> {
     fn check<A: Asked>(&self, asked: A, ctx: &mut ValidationContext) -> bool {
-        properties_accept(self.properties.entries(), asked, ctx).is_some()
+        properties_accept(self.properties.as_map(), asked, ctx).is_some()
     }
 }
 
@@ -41,7 +42,7 @@ impl<N: Check> Check for SmallPropertiesWithRequired2<N> {
 /// Whether each member whose name is declared is accepted, where the value is an object.
 #[inline(always)]
 pub(crate) fn properties_accept<A: Asked, N: Check>(
-    properties: Entries<'_, N>,
+    properties: MapRef<'_, N>,
     asked: A,
     ctx: &mut ValidationContext,
 ) -> Accepted
@@ -58,7 +59,7 @@ pub(crate) fn properties_accept<A: Asked, N: Check>(
 /// name, where the value is an object.
 #[inline(always)]
 pub(crate) fn properties_with_required_accept<A: Asked, N: Check>(
-    properties: Entries<'_, N>,
+    properties: MapRef<'_, N>,
     name: &str,
     asked: A,
     ctx: &mut ValidationContext,
@@ -96,7 +97,7 @@ pub(crate) fn properties_with_required2_accept<A: Asked, N: Check>(
 /// that asks a keyword stays small.
 #[inline(never)]
 fn members_accepted<N: Check>(
-    properties: Entries<'_, N>,
+    properties: MapRef<'_, N>,
     members: &Map<String, Value>,
     ctx: &mut ValidationContext,
 ) -> Accepted
@@ -111,7 +112,7 @@ fn members_accepted<N: Check>(
 /// member at the name.
 #[inline(never)]
 fn members_accepted_with<N: Check>(
-    properties: Entries<'_, N>,
+    properties: MapRef<'_, N>,
     members: &Map<String, Value>,
     name: &str,
     ctx: &mut ValidationContext,
@@ -140,7 +141,7 @@ fn members_accepted_with_both<N: Check>(
 {
     let (first, second) = (keyword.first.as_str(), keyword.second.as_str());
     Accepted::one_if(all_accepted_with_both(
-        keyword.properties.entries(),
+        keyword.properties.as_map(),
         members,
         first,
         second,
@@ -152,7 +153,7 @@ fn members_accepted_with_both<N: Check>(
 /// as long as two members that are walked.
 #[inline(always)]
 fn all_accepted<N: Check>(
-    properties: Entries<'_, N>,
+    properties: MapRef<'_, N>,
     members: &Map<String, Value>,
     ctx: &mut ValidationContext,
 ) -> bool
@@ -161,7 +162,7 @@ fn all_accepted<N: Check>(
         (object_of members.now.entries)) result }
 {
     if members.len() / 2 < properties.len() {
-        each_member_accepted(properties, members, ctx)
+        each_member_accepted(properties.entries(), members, ctx)
     } else {
         each_name_accepted(properties, members, ctx)
     }
@@ -193,7 +194,7 @@ fn each_member_accepted<N: Check>(
 /// are walked once.
 #[inline(always)]
 fn all_accepted_with<N: Check>(
-    properties: Entries<'_, N>,
+    properties: MapRef<'_, N>,
     members: &Map<String, Value>,
     name: &str,
     ctx: &mut ValidationContext,
@@ -204,7 +205,7 @@ fn all_accepted_with<N: Check>(
         (always (is_empty (missing (name.now ∷ []) (object_of members.now.entries))))) result }
 {
     if members.len() / 2 < properties.len() {
-        each_member_accepted_with(properties, members, name, ctx)
+        each_member_accepted_with(properties.entries(), members, name, ctx)
     } else {
         is_present(members, name) && each_name_accepted(properties, members, ctx)
     }
@@ -242,7 +243,7 @@ fn each_member_accepted_with<N: Check>(
 /// members are walked once.
 #[inline(always)]
 fn all_accepted_with_both<N: Check>(
-    properties: Entries<'_, N>,
+    properties: MapRef<'_, N>,
     members: &Map<String, Value>,
     first: &str,
     second: &str,
@@ -255,7 +256,7 @@ fn all_accepted_with_both<N: Check>(
         (object_of members.now.entries))) result }
 {
     if members.len() / 2 < properties.len() {
-        each_member_accepted_with_both(properties, members, first, second, ctx)
+        each_member_accepted_with_both(properties.entries(), members, first, second, ctx)
     } else {
         has_both(members, first, second) && each_name_accepted(properties, members, ctx)
     }
@@ -308,7 +309,7 @@ fn accepted_if_declared<N: Check>(
 
 /// Whether each member whose name is declared is accepted, declared name by declared name.
 fn each_name_accepted<N: Check>(
-    properties: Entries<'_, N>,
+    properties: MapRef<'_, N>,
     members: &Map<String, Value>,
     ctx: &mut ValidationContext,
 ) -> bool
@@ -316,7 +317,7 @@ fn each_name_accepted<N: Check>(
         properties.entry
         (object_of members.now.entries)) result }
 {
-    for (name, node) in properties.iter() {
+    for (name, node) in properties.entries().iter() {
         if !accepted_if_present(node, member(members, name), ctx) {
             return false;
         }

@@ -8,7 +8,7 @@ use Rattle.olk_spec.specs.Bench.{bench}
 use Rattle.olk_answers.specs.Refusals.{refusal, fault_refusal}
 use Rattle.olk_answers.specs.Told.{verdict}
 use Rattle.olk_answers.specs.Texts.{json_text}
-use Rattle.olk_replies.specs.Replies.{TellsFirst, TellsErrors, TellsEvaluation}
+use Rattle.olk_replies.specs.Replies.{TellsSome, TellsErrors, TellsEvaluation}
 use Rattle.olk_cli.specs.declared.request.Ask.{Ask}
 use Rattle.olk_cli.specs.declared.request.Ask.TheVariants.{Valid, First, Errors, Evaluate}
 use Rattle.olk_cli.specs.Requests.{Asked, Understood, not_json, not_a_request, not_whole, asks, question, understood}
@@ -16,7 +16,7 @@ use Rattle.olk_cli.specs.Requests.{Asked, Understood, not_json, not_a_request, n
 -- the answer by what is asked
 abbrev pub IsReplyBy : Ask → Asked → Text → Type 0
 IsReplyBy Valid r answer = answer ≡ json_text (verdict (accepts bench r.unfinished r.schema r.instance))
-IsReplyBy First r answer = TellsFirst bench (question r) answer
+IsReplyBy First r answer = TellsSome bench (question r) answer
 IsReplyBy Errors r answer = TellsErrors bench (question r) answer
 IsReplyBy Evaluate r answer = TellsEvaluation bench (question r) answer
 

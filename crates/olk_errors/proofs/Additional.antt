@@ -1,5 +1,5 @@
 -- What is asked of a member beside `additionalProperties`, node by node.
-use Rattle.std.proofs.Common.{◌≡◌, ℕ, ◌+◌, Bool, true, false, not, ◌&&◌, ◌||◌, cond, List, [], ◌∷◌, ◌++◌, drop, Option, is_none, is_some, option_to_list, refl, sym, ap, subst, ◌∙◌, Result, Ok}
+use Rattle.std.proofs.Common.{◌≡◌, ℕ, ◌+◌, Bool, true, false, not, ◌&&◌, ◌||◌, cond, List, [], ◌∷◌, ◌++◌, drop, Option, is_none, is_some, option_to_list, refl, sym, ap, subst, ◌∙◌, Result, Ok, Err}
 use Rattle.std.proofs.lemmas.List.{append-nil}
 use Rattle.std.proofs.Math.Bool.{and-false, and-true}
 use Rattle.serde_json.specs.Data.{Data}
@@ -12,12 +12,14 @@ use Rattle.olk_base.specs.declared.pattern.CompiledPattern.{CompiledPattern}
 use Rattle.olk_tree.specs.Questions.{Question, said_to}
 use Rattle.olk_tree.specs.Additional.{Sides, known_at, known_or, known_or_asked, is_matched_by, matching_from}
 use Rattle.olk_tree.specs.AdditionalAgreement.{match_is_said}
+use Rattle.olk_check.specs.Asks.{OnlyAsks, IsAnswer}
+use Rattle.olk_check.proofs.Asked.{answer_first, answer_then}
 use Rattle.olk_errors.specs.Found.{Outcome}
 use Rattle.olk_errors.specs.Outcomes.{of_node, of_branches, declared_nodes, unspoken_from, asked_from, asked_at, unexpected_at, if_matched}
 use Rattle.olk_errors.specs.Sinks.{Walks}
 use Rattle.olk_errors.specs.declared.sink.ErrorSink.{ErrorSink}
 use Rattle.olk_errors.specs.declared.sink.Stop.{Stop}
-use Rattle.olk_errors.proofs.Loops.{Turns, turns_as, Walking, walking_start, walking_end, several_turn, last_turn}
+use Rattle.olk_errors.proofs.Loops.{Turns, turns_as, WalkingEach, each_start, each_end, several_turn, last_turn}
 use Rattle.olk_errors.proofs.Due.{one_branch}
 
 -- a member, and what its nodes answer
@@ -81,19 +83,18 @@ module _ {R N : Type 0} (w : Asked R N) where
   -- ---- at a pattern
 
   module _ (u spoken : Bool) (i : ℕ) where
-    module _ {e : CompiledPattern R × N} (here : drop i w.sides.patterns ≡ e ∷ drop (i + 1) w.sides.patterns) {known : Says} (is : known ≡ known_at w.sides w.declared i) {t : Bool}
-        (same : t ≡ u) where
+    module _ {e : CompiledPattern R × N} (here : drop i w.sides.patterns ≡ e ∷ drop (i + 1) w.sides.patterns) {known : Says} (is : known ≡ known_at w.sides w.declared i) where
       abbrev matched : Bool
       matched = is_matched_by w.answers w.sides w.declared w.name u i e.0
 
       abbrev after : List N
       after = matching_from w.answers w.sides w.declared w.name u (i + 1) (drop (i + 1) w.sides.patterns)
 
-      as_known : matched ≡ reads_as t (known_or known (pattern_answers w.answers e.0 w.name))
-      as_known = sym (λ j. reads_as (same j) (known_or (is j) (pattern_answers w.answers e.0 w.name)))
+      as_known : matched ≡ reads_as u (known_or known (pattern_answers w.answers e.0 w.name))
+      as_known = sym (λ j. reads_as u (known_or (is j) (pattern_answers w.answers e.0 w.name)))
 
-      module _ {b : Bool} (told : b ≡ reads_as t (known_or known (pattern_answers w.answers e.0 w.name))) where
-        pub asked_here : asked_left u spoken i ≡ if_matched w.answers t known e.0 e.1 w.name ++ asked_left u (spoken || b) (i + 1)
+      module _ {b : Bool} (told : b ≡ reads_as u (known_or known (pattern_answers w.answers e.0 w.name))) where
+        pub asked_here : asked_left u spoken i ≡ if_matched w.answers u known e.0 e.1 w.name ++ asked_left u (spoken || b) (i + 1)
         asked_here = ap (λ l. asked_from w.answers u w.sides w.declared w.name spoken i l) here
             ∙ put_apart matched spoken e.1 after (option_to_list w.sides.rest)
             ∙ (λ j. put_if (as_known j) e.1 [] ++ asked_left u (spoken || (as_known ∙ sym told) j) (i + 1))
@@ -129,40 +130,50 @@ module _ {R N : Type 0} (w : Asked R N) where
 
   -- the patterns from an index on are still to be asked
   pub record WalkingMember (Q : Path) (spoken : Bool) (i : ℕ) (old new : ErrorSink) (a b : Asking) : Type 0 where
-    pub walking : Walking asks_at (first_at Q) (report_at Q) (asked a.answer) (asked_left a.answer spoken i) old new a b
-    pub so_far : alone a.answer ≡ alone_left a.answer spoken i
+    pub walking : WalkingEach asks_at (first_at Q) (report_at Q) asked (λ u. asked_left u spoken i) old new a b
+    pub so_far : (u : Bool) → IsAnswer a b u → alone u ≡ alone_left u spoken i
 
   abbrev whole : Bool → Path → Outcome
   whole u Q = outcome u Q (asked u)
 
   pub named_turn : (Q : Path) {a b : Asking} {old new : ErrorSink} {spoken : Bool} {T : Type 0} {r : Result T Stop} → spoken ≡ is_some w.declared
-      → Walks r old new a b (outcome a.answer Q (declared_nodes w.declared)) → Turns r (WalkingMember Q spoken 0 old new a b) (Walks r old new a b (whole a.answer Q))
-  named_turn Q {a} {b} {old} {new} {r = r} e h = turns_as r (λ walking. subst (λ s. WalkingMember Q s 0 old new a b) (sym e) (record { walking = walking; so_far = refl })) (λ left. left)
-      (several_turn {q = asks_at} {s = first_at Q} {f = report_at Q} walking_start (declared_nodes w.declared) (asked_left a.answer (is_some w.declared) 0) refl h)
+      → Walks r old new a b (λ u. outcome u Q (declared_nodes w.declared)) → Turns r (WalkingMember Q spoken 0 old new a b) (Walks r old new a b (λ u. whole u Q))
+  named_turn Q {a} {b} {old} {new} {r = r} e h = turns_as r (λ walking. subst (λ s. WalkingMember Q s 0 old new a b) (sym e) (record { walking = walking; so_far = λ u so. refl })) (λ left. left)
+      (several_turn {q = asks_at} {s = first_at Q} {f = report_at Q} (each_start {all = asked}) (λ u. declared_nodes w.declared) (λ u. asked_left u (is_some w.declared) 0) (λ u so. refl) h)
 
   module _ {Q : Path} {a : Asking} {old : ErrorSink} {spoken : Bool} {i : ℕ} {new : ErrorSink} {b : Asking} (loop : WalkingMember Q spoken i old new a b) where
     pub pattern_turn : {e : CompiledPattern R × N} → drop i w.sides.patterns ≡ e ∷ drop (i + 1) w.sides.patterns → {known : Says} → known ≡ known_at w.sides w.declared i
-        → {m : Bool} → m ≡ reads_as b.answer (known_or known (pattern_answers w.answers e.0 w.name)) → {newer : ErrorSink} {c : Asking} {T : Type 0} {r : Result T Stop}
-        → Walks r new newer b c (outcome b.answer Q (if_matched w.answers b.answer known e.0 e.1 w.name))
-        → Turns r (WalkingMember Q (spoken || m) (i + 1) old newer a c) (Walks r old newer a c (whole a.answer Q))
-    pattern_turn {e} here {known} is {m} told {r = r} h = turns_as r
-        (λ walking. record { walking = walking; so_far = loop.so_far ∙ alone_here a.answer spoken i here is loop.walking.only.answer told }) (λ left. left)
-        (several_turn loop.walking (if_matched w.answers b.answer known e.0 e.1 w.name) (asked_left a.answer (spoken || m) (i + 1))
-        (asked_here a.answer spoken i here is loop.walking.only.answer told) h)
+        → {newer : ErrorSink} {c : Asking} {m : Bool} → ((u : Bool) → IsAnswer b c u → m ≡ reads_as u (known_or known (pattern_answers w.answers e.0 w.name))) → {T : Type 0} {r : Result T Stop}
+        → Walks r new newer b c (λ u. outcome u Q (if_matched w.answers u known e.0 e.1 w.name))
+        → Turns r (WalkingMember Q (spoken || m) (i + 1) old newer a c) (Walks r old newer a c (λ u. whole u Q))
+    pattern_turn {e} here {known} is {m = m} told {r = r} h = turns_as r
+        (λ walking. record {
+          walking = walking;
+          so_far = λ u so. loop.so_far u (answer_first loop.walking.only h.only so) ∙ alone_here u spoken i here is (told u (answer_then loop.walking.only h.only so));
+        }) (λ left. left)
+        (several_turn loop.walking (λ u. if_matched w.answers u known e.0 e.1 w.name) (λ u. asked_left u (spoken || m) (i + 1)) (λ u so. asked_here u spoken i here is (told u so)) h)
+
+    -- where the walk is left there, nothing is told
+    pub pattern_left : {e : CompiledPattern R × N} → drop i w.sides.patterns ≡ e ∷ drop (i + 1) w.sides.patterns → {known : Says} → known ≡ known_at w.sides w.declared i
+        → {newer : ErrorSink} {c : Asking} {T : Type 0} {t : Stop} → Walks {T = T} (Err t) new newer b c (λ u. outcome u Q (if_matched w.answers u known e.0 e.1 w.name))
+        → Walks {T = T} (Err t) old newer a c (λ u. whole u Q)
+    pattern_left {e} here {known} is h = several_turn loop.walking (λ u. if_matched w.answers u known e.0 e.1 w.name)
+        (λ u. asked_left u (spoken || reads_as u (known_or known (pattern_answers w.answers e.0 w.name))) (i + 1)) (λ u so. asked_here u spoken i here is refl) h
 
     module _ (none : drop i w.sides.patterns ≡ []) where
-      pub spoken_expected : spoken ≡ true → false ≡ unexpected a.answer
-      spoken_expected e = expected a.answer spoken i none loop.so_far e
+      pub spoken_expected : spoken ≡ true → (u : Bool) → IsAnswer a b u → false ≡ unexpected u
+      spoken_expected e u so = expected u spoken i none (loop.so_far u so) e
 
-      pub rest_unexpected : {m : Bool} → spoken ≡ false → m ≡ is_none w.sides.rest → m ≡ unexpected a.answer
-      rest_unexpected e is = left_to_rest a.answer spoken i none loop.so_far e is
+      pub rest_unexpected : {c : Asking} {m : Bool} → OnlyAsks b c → spoken ≡ false → m ≡ is_none w.sides.rest → (u : Bool) → IsAnswer a c u → m ≡ unexpected u
+      rest_unexpected only e is u so = left_to_rest u spoken i none (loop.so_far u (answer_first loop.walking.only only so)) e is
 
-      pub spoken_end : {T : Type 0} {y : T} → spoken ≡ true → Walks (Ok y) old new a b (whole a.answer Q)
-      spoken_end e = walking_end loop.walking (none_left a.answer spoken i none e)
+      pub spoken_end : {T : Type 0} {y : T} → spoken ≡ true → Walks (Ok y) old new a b (λ u. whole u Q)
+      spoken_end e = each_end loop.walking (λ u so. none_left u spoken i none e)
 
-      pub rest_end : {newer : ErrorSink} {c : Asking} {T : Type 0} {r : Result T Stop} → spoken ≡ false → Walks r new newer b c (outcome b.answer Q (option_to_list w.sides.rest))
-          → Walks r old newer a c (whole a.answer Q)
-      rest_end {r = r} e h = last_turn asks_at (first_at Q) (report_at Q) (asked a.answer) r (several_turn loop.walking (option_to_list w.sides.rest) [] (rest_left a.answer spoken i none e) h)
+      pub rest_end : {newer : ErrorSink} {c : Asking} {T : Type 0} {r : Result T Stop} → spoken ≡ false → Walks r new newer b c (λ u. outcome u Q (option_to_list w.sides.rest))
+          → Walks r old newer a c (λ u. whole u Q)
+      rest_end {r = r} e h = last_turn asks_at (first_at Q) (report_at Q) asked r
+          (several_turn loop.walking (λ u. option_to_list w.sides.rest) (λ u. []) (λ u so. rest_left u spoken i none e) h)
 
 -- ---- of a single node
 
@@ -172,5 +183,5 @@ pub if_matched_is : {N : Type 0} (u costs : Bool) (known s : Says) (n : N) {b : 
 if_matched_is u costs known s n told = ap (λ b. put_if b n []) (sym (told ∙ match_is_said u costs known s))
 
 module _ {N : Type 0} (m : N → Data → Question) (s r : N → Bool → Data → Path → List Fault) (v : Data) (Q : Path) {ns : List N} where
-  pub one_alone : {t u : Bool} → t ≡ u → {n : N} → ns ≡ n ∷ [] → of_node m s r t n v Q ≡ of_branches m s r u ns v Q
-  one_alone {t} {u} same {n} one = one_branch m s r t v Q n ∙ (λ i. of_branches m s r (same i) (sym one i) v Q)
+  pub one_alone : (u : Bool) {n : N} → ns ≡ n ∷ [] → of_node m s r u n v Q ≡ of_branches m s r u ns v Q
+  one_alone u {n} one = one_branch m s r u v Q n ∙ ap (λ l. of_branches m s r u l v Q) (sym one)

@@ -88,26 +88,26 @@ module _ {R N : Type 0} (answers : R → Name → Says) (costs : R → Bool) (m 
 module _ {R N : Type 0} (answers : R → Name → Says) (costs : R → Bool) (m : N → Data → Question) (s r : N → Bool → Data → Path → List Fault) (v : Data) (Q : Path) {T : Type 0} {t : Result T Stop}
     {old new : ErrorSink} {a b : Asking} where
   -- a walk over the sides of what is held, where no name is wanted
-  pub walks_sides : (k : Held R N) {S : Sides R N} → S ≡ sides_of k → has_neighbours k ≡ true → k.required ≡ None → Walks t old new a b (of_asked_members answers costs m s r a.answer S v k.location Q)
-      → Walks t old new a b (of_held answers costs m s r a.answer k v Q)
-  walks_sides k is beside none = walks_same (ap (λ S. of_asked_members answers costs m s r a.answer S v k.location Q) is ∙ with_none answers costs m s r a.answer k v Q beside none)
+  pub walks_sides : (k : Held R N) {S : Sides R N} → S ≡ sides_of k → has_neighbours k ≡ true → k.required ≡ None → Walks t old new a b (λ u. of_asked_members answers costs m s r u S v k.location Q)
+      → Walks t old new a b (λ u. of_held answers costs m s r u k v Q)
+  walks_sides k is beside none = walks_same (λ u so. ap (λ S. of_asked_members answers costs m s r u S v k.location Q) is ∙ with_none answers costs m s r u k v Q beside none)
 
   -- a walk that was stopped before the name that is wanted
   pub stopped_before_wanted : (k : Held R N) {S : Sides R N} → S ≡ sides_of k → has_neighbours k ≡ true → {U : Type 0} {e : Stop} → IsErr t
-      → Walks {T = U} (Err e) old new a b (of_asked_members answers costs m s r a.answer S v k.location Q) → Walks t old new a b (of_held answers costs m s r a.answer k v Q)
-  stopped_before_wanted k is beside err h = walks_same (with_wanted answers costs m s r a.answer k v Q beside) (walks_left err (walks_before (by_wanted answers costs m s r a.answer k v Q)
-      (walks_same (ap (λ S. of_asked_members answers costs m s r a.answer S v k.location Q) is) h)))
+      → Walks {T = U} (Err e) old new a b (λ u. of_asked_members answers costs m s r u S v k.location Q) → Walks t old new a b (λ u. of_held answers costs m s r u k v Q)
+  stopped_before_wanted k is beside err h = walks_same (λ u so. with_wanted answers costs m s r u k v Q beside) (walks_left err (walks_before (λ u. by_wanted answers costs m s r u k v Q)
+      (walks_same (λ u so. ap (λ S. of_asked_members answers costs m s r u S v k.location Q) is) h)))
 
   -- one to its end, and then the name
   pub then_wanted : (k : Held R N) {S : Sides R N} → S ≡ sides_of k → has_neighbours k ≡ true → {U : Type 0} {y : U} {mid : ErrorSink}
-      → Walks (Ok y) old mid a b (of_asked_members answers costs m s r a.answer S v k.location Q) → Ends t mid new (by_wanted answers costs m s r a.answer k v Q)
-      → Walks t old new a b (of_held answers costs m s r a.answer k v Q)
-  then_wanted k is beside h wants = walks_same (with_wanted answers costs m s r a.answer k v Q beside)
-      (walks_after (goes_same (ap (λ S. of_asked_members answers costs m s r a.answer S v k.location Q) is) h.ends.so) h.only (walks_alone (only_same b) wants))
+      → Walks (Ok y) old mid a b (λ u. of_asked_members answers costs m s r u S v k.location Q) → ((u : Bool) → Ends t mid new (by_wanted answers costs m s r u k v Q))
+      → Walks t old new a b (λ u. of_held answers costs m s r u k v Q)
+  then_wanted k is beside h wants = walks_same (λ u so. with_wanted answers costs m s r u k v Q beside)
+      (walks_after (λ u so. goes_same (ap (λ S. of_asked_members answers costs m s r u S v k.location Q) is) (h.ends u so).so) h.only (walks_alone (only_same b) wants))
 
   -- of a validator that holds the same
-  pub walks_as : {h k : Held R N} → h ≡ k → Walks t old new a b (of_held answers costs m s r a.answer h v Q) → Walks t old new a b (of_held answers costs m s r a.answer k v Q)
-  walks_as = subst (λ k. Walks t old new a b (of_held answers costs m s r a.answer k v Q))
+  pub walks_as : {h k : Held R N} → h ≡ k → Walks t old new a b (λ u. of_held answers costs m s r u h v Q) → Walks t old new a b (λ u. of_held answers costs m s r u k v Q)
+  walks_as = subst (λ k. Walks t old new a b (λ u. of_held answers costs m s r u k v Q))
 
 -- ---- without neighbours no pattern is asked
 

@@ -20,8 +20,8 @@ use Rattle.olk_tree.specs.AdditionalAgreement.{member_accepted}
 use Rattle.olk_tree.specs.Firsts.{or_else, first_of}
 use Rattle.olk_tree.proofs.Faults.{or_around}
 use Rattle.olk_tree.proofs.Members_met.{no_members}
-use Rattle.olk_check.specs.Asks.{OnlyAsks}
-use Rattle.olk_check.proofs.Asked.{only_same, only_then}
+use Rattle.olk_check.specs.Asks.{OnlyAsks, IsAnswer}
+use Rattle.olk_check.proofs.Asked.{only_same, only_then, answer_first, answer_then, own_answer}
 use Rattle.olk_errors.specs.Found.{Outcome, Passes, IsErrorOf}
 use Rattle.olk_errors.specs.Outcomes.{of_branches, declared_nodes, unspoken_from, asked_at, unexpected_at, of_unexpected, of_asked_members}
 use Rattle.olk_errors.specs.Sinks.{wants_one, GoesOn, Stopped, EndsAlone, Walks}
@@ -161,64 +161,74 @@ module _ {R N : Type 0} (answers : R → Name → Says) (costs : R → Bool) (m 
 
   -- what a walk over the rest does from now on, where these names are put aside, is what a walk over all does from the start; where one error is wanted, none is put aside
   pub record WalkingMembers (rest : List (Name × Data)) (aside : List Name) (old new : ErrorSink) (a b : Asking) : Type 0 where
-    pub on : (newer : ErrorSink) → GoesOn new newer (of_left a.answer aside rest) → GoesOn old newer (by_members a.answer)
-    pub stop : (newer : ErrorSink) → Stopped new newer (IsErrorOf (of_left a.answer aside rest)) → Stopped old newer (IsErrorOf (by_members a.answer))
+    pub on : (u : Bool) → IsAnswer a b u → (newer : ErrorSink) → GoesOn new newer (of_left u aside rest) → GoesOn old newer (by_members u)
+    pub stop : (u : Bool) → IsAnswer a b u → (newer : ErrorSink) → Stopped new newer (IsErrorOf (of_left u aside rest)) → Stopped old newer (IsErrorOf (by_members u))
     pub none : wants_one new ≡ true → aside ≡ []
     pub only : OnlyAsks a b
 
   pub members_start : {a : Asking} {rest : List (Name × Data)} {aside : List Name} {old : ErrorSink} → repeats v ≡ false → rest ≡ members v → aside ≡ [] → WalkingMembers rest aside old old a a
   members_start {a} {old = old} distinct all none = subst₂ (λ l xs. WalkingMembers l xs old old a a) (sym all) (sym none)
-      (record { on = λ newer. goes_same (in_turn a.answer distinct); stop = λ newer. stopped_same (in_turn a.answer distinct); none = λ one. refl; only = only_same a })
+      (record { on = λ u so newer. goes_same (in_turn u distinct); stop = λ u so newer. stopped_same (in_turn u distinct); none = λ one. refl; only = only_same a })
 
   module _ {rest : List (Name × Data)} {aside : List Name} {old new : ErrorSink} {a b : Asking} (loop : WalkingMembers rest aside old new a b) where
     module _ {x : Name × Data} {more : List (Name × Data)} (next : rest ≡ x ∷ more) {d : Option (ℕ × N)} (declared : d ≡ at_name (S) x.0) {newer : ErrorSink} {c : Asking} where
       -- the walk over the member was stopped
-      pub members_stop : {T : Type 0} {t : Stop} → Walks {T = T} (Err t) new newer b c (of_asked b.answer d x) → Walks {T = T} (Err t) old newer a c (by_members a.answer)
+      pub members_stop : {T : Type 0} {t : Stop} → Walks {T = T} (Err t) new newer b c (λ u. of_asked u d x) → Walks {T = T} (Err t) old newer a c by_members
       members_stop h = record {
-        ends = record {
-          so = loop.stop newer (subst (λ l. Stopped new newer (IsErrorOf (of_left a.answer aside l))) (sym next)
-              (stopped_same (with_others a.answer aside more x declared) (stopped_before (of_others a.answer aside more x)
-              (subst (λ u. Stopped new newer (IsErrorOf (of_asked u d x))) loop.only.answer h.ends.so))));
+        ends = λ u so. record {
+          so = loop.stop u (answer_first loop.only h.only so) newer (subst (λ l. Stopped new newer (IsErrorOf (of_left u aside l))) (sym next)
+              (stopped_same (with_others u aside more x declared) (stopped_before (of_others u aside more x) (h.ends u (answer_then loop.only h.only so)).so)));
         };
         only = only_then loop.only h.only;
       }
 
       -- it went to its end, and says whether the member is not expected
-      module _ {told_so : Bool} (walked : Walks (Ok told_so) new newer b c (of_asked b.answer d x)) where
+      module _ {told_so : Bool} (walked : Walks (Ok told_so) new newer b c (λ u. of_asked u d x)) where
         abbrev only : OnlyAsks a c
         only = only_then loop.only walked.only
 
-        walked_at : GoesOn new newer (of_asked a.answer d x)
-        walked_at = subst (λ u. GoesOn new newer (of_asked u d x)) loop.only.answer walked.ends.so
+        module _ (u : Bool) (so : IsAnswer a c u) where
+          before : IsAnswer a b u
+          before = answer_first loop.only walked.only so
 
-        goes_left : {newest : ErrorSink} → GoesOn newer newest (of_others a.answer aside more x) → GoesOn new newest (of_left a.answer aside rest)
-        goes_left {newest} h = subst (λ l. GoesOn new newest (of_left a.answer aside l)) (sym next) (goes_same (with_others a.answer aside more x declared) (goes_after walked_at h))
+          walked_at : GoesOn new newer (of_asked u d x)
+          walked_at = (walked.ends u (answer_then loop.only walked.only so)).so
 
-        stops_left : {newest : ErrorSink} → Stopped newer newest (IsErrorOf (of_others a.answer aside more x)) → Stopped new newest (IsErrorOf (of_left a.answer aside rest))
-        stops_left {newest} h = subst (λ l. Stopped new newest (IsErrorOf (of_left a.answer aside l))) (sym next)
-            (stopped_same (with_others a.answer aside more x declared) (stopped_after walked_at h))
+          goes_left : {newest : ErrorSink} → GoesOn newer newest (of_others u aside more x) → GoesOn new newest (of_left u aside rest)
+          goes_left {newest} h = subst (λ l. GoesOn new newest (of_left u aside l)) (sym next) (goes_same (with_others u aside more x declared) (goes_after walked_at h))
+
+          stops_left : {newest : ErrorSink} → Stopped newer newest (IsErrorOf (of_others u aside more x)) → Stopped new newest (IsErrorOf (of_left u aside rest))
+          stops_left {newest} h = subst (λ l. Stopped new newest (IsErrorOf (of_left u aside l))) (sym next)
+              (stopped_same (with_others u aside more x declared) (stopped_after walked_at h))
+
+        same_sink : wants_one newer ≡ wants_one new
+        same_sink = (walked_at a.answer own_answer).same
 
         -- there was no memory to put it aside
-        pub members_cut : {T : Type 0} {r : Result T Stop} → IsErr r → Walks r old newer a c (by_members a.answer)
-        members_cut e = record { ends = ends_left e (loop.stop newer (inr (goes_keeping walked.ends.so))); only = only }
+        pub members_cut : {T : Type 0} {r : Result T Stop} → IsErr r → Walks r old newer a c by_members
+        members_cut e = record { ends = λ u so. ends_left e (loop.stop u (before u so) newer (inr (goes_keeping (walked_at u so)))); only = only }
 
-        module _ (is : told_so ≡ unexpected_at answers b.answer (S) d x.0) where
-          is_so : not_expected a.answer x ≡ told_so
-          is_so = sym (is ∙ ap (λ e. unexpected_at answers b.answer (S) e x.0) declared ∙ unexpected_is answers b.answer (S) x.0 ∙ ap (λ u. not_expected u x) loop.only.answer)
+        module _ (is : (u : Bool) → IsAnswer b c u → told_so ≡ unexpected_at answers u (S) d x.0) where
+          is_so : (u : Bool) → IsAnswer a c u → not_expected u x ≡ told_so
+          is_so u so = sym (is u (answer_then loop.only walked.only so) ∙ ap (λ e. unexpected_at answers u (S) e x.0) declared ∙ unexpected_is answers u (S) x.0)
 
           members_on : {longer : List Name} → longer ≡ aside ++ put_if told_so x.0 [] → (wants_one newer ≡ true → told_so ≡ false) → (wants_one newer ≡ true → longer ≡ [])
               → WalkingMembers more longer old newer a c
-          members_on {longer} put one none = let grown : longer ≡ aside ++ put_if (not_expected a.answer x) x.0 [] = put ∙ ap (λ e. aside ++ put_if e x.0 []) (sym is_so) in record {
-            on = λ newest h. loop.on newest (goes_left (goes_either (of_others a.answer aside more x)
-                (λ w. subst Passes (only_others a.answer aside more x grown (is_so ∙ one w))) (all_others a.answer aside more x grown) h));
-            stop = λ newest h. loop.stop newest (stops_left (stopped_where (λ w f. subst (λ o. IsErrorOf o f) (only_others a.answer aside more x grown (is_so ∙ one w))) h));
+          members_on {longer} put one none = record {
+            on = λ u so newest h. loop.on u (before u so) newest (goes_left u so (goes_either (of_others u aside more x)
+                (λ w. subst Passes (only_others u aside more x (grown u so) (is_so u so ∙ one w))) (all_others u aside more x (grown u so)) h));
+            stop = λ u so newest h. loop.stop u (before u so) newest (stops_left u so (stopped_where
+                (λ w f. subst (λ o. IsErrorOf o f) (only_others u aside more x (grown u so) (is_so u so ∙ one w))) h));
             none = none;
             only = only;
           }
+            where
+              grown : (u : Bool) → IsAnswer a c u → longer ≡ aside ++ put_if (not_expected u x) x.0 []
+              grown u so = put ∙ ap (λ e. aside ++ put_if e x.0 []) (sym (is_so u so))
 
           -- it is expected
           pub members_more : told_so ≡ false → WalkingMembers more aside old newer a c
-          members_more e = members_on (sym (append-nil aside) ∙ ap (λ o. aside ++ put_if o x.0 []) (sym e)) (λ w. e) (λ w. loop.none (sym walked.ends.so.same ∙ w))
+          members_more e = members_on (sym (append-nil aside) ∙ ap (λ o. aside ++ put_if o x.0 []) (sym e)) (λ w. e) (λ w. loop.none (sym same_sink ∙ w))
 
           module _ (e : told_so ≡ true) {longer : List Name} (put : longer ≡ aside ++ x.0 ∷ []) where
             -- it is not, and all are wanted
@@ -226,23 +236,23 @@ module _ {R N : Type 0} (answers : R → Name → Says) (costs : R → Bool) (m 
             members_aside all = members_on (put ∙ ap (λ o. aside ++ put_if o x.0 []) (sym e)) (λ w. absurd (true≢false (sym w ∙ all))) (λ w. absurd (true≢false (sym w ∙ all)))
 
             -- it is not, and one error is wanted
-            pub members_told : {newest : ErrorSink} {T : Type 0} {r : Result T Stop} → wants_one newer ≡ true → EndsAlone r newer newest (of_unexpected longer v P Q) → Walks r old newest a c (by_members a.answer)
+            pub members_told : {newest : ErrorSink} {T : Type 0} {r : Result T Stop} → wants_one newer ≡ true → EndsAlone r newer newest (of_unexpected longer v P Q) → Walks r old newest a c by_members
             members_told {newest} w h = record {
-              ends = ends_through
+              ends = λ u so. ends_through
                   (λ g. absurd (true≢false (sym (goes_passing w g).verdict ∙ ap is_empty put ∙ never_empty aside x.0)))
-                  (λ g. let nothing : aside ≡ [] = loop.none (sym walked.ends.so.same ∙ w) in
-                  loop.stop newest (stops_left (subst (λ l. Stopped newer newest (IsErrorOf (of_others a.answer l more x))) (sym nothing)
-                  (stopped_where (λ o f is. told_of_others a.answer more x (is_so ∙ e) f (is ∙ ap told (put ∙ ap (λ l. l ++ x.0 ∷ []) nothing))) g)))) h;
+                  (λ g. let nothing : aside ≡ [] = loop.none (sym same_sink ∙ w) in
+                  loop.stop u (before u so) newest (stops_left u so (subst (λ l. Stopped newer newest (IsErrorOf (of_others u l more x))) (sym nothing)
+                  (stopped_where (λ o f is. told_of_others u more x (is_so u so ∙ e) f (is ∙ ap told (put ∙ ap (λ l. l ++ x.0 ∷ []) nothing))) g)))) h;
               only = only;
             }
 
     -- no member is left
-    pub members_end : rest ≡ [] → {newer : ErrorSink} {T : Type 0} {r : Result T Stop} → EndsAlone r new newer (of_unexpected aside v P Q) → Walks r old newer a b (by_members a.answer)
+    pub members_end : rest ≡ [] → {newer : ErrorSink} {T : Type 0} {r : Result T Stop} → EndsAlone r new newer (of_unexpected aside v P Q) → Walks r old newer a b by_members
     members_end none {newer} h = record {
-      ends = ends_through
-          (λ g. loop.on newer (subst (λ l. GoesOn new newer (of_left a.answer aside l)) (sym none)
-          (goes_either (of_left a.answer aside []) (λ w p. record { verdict = refl; nothing = refl }) (ap told (sym (append-nil aside))) g)))
-          (λ g. loop.stop newer (stopped_where (λ w f is. absurd (none_is_one f (is ∙ ap told (loop.none w)))) g)) h;
+      ends = λ u so. ends_through
+          (λ g. loop.on u so newer (subst (λ l. GoesOn new newer (of_left u aside l)) (sym none)
+          (goes_either (of_left u aside []) (λ w p. record { verdict = refl; nothing = refl }) (ap told (sym (append-nil aside))) g)))
+          (λ g. loop.stop u so newer (stopped_where (λ w f is. absurd (none_is_one f (is ∙ ap told (loop.none w)))) g)) h;
       only = loop.only;
     }
 

@@ -1,14 +1,17 @@
 -- Lists of errors that grow.
-use Rattle.std.proofs.Common.{◌≡◌, List, [], ◌∷◌, ◌++◌, sym, ap, subst, ◌∙◌, Result, IfErr}
+use Rattle.std.proofs.Common.{◌≡◌, ℕ, ◌+◌, List, [], ◌∷◌, ◌++◌, length, map, refl, sym, ap, subst, ◌∙◌, arith, length-append, Result, Ok, Err, IfErr}
+use Rattle.std.specs.Prelude.{nat_eq}
+use Rattle.std.proofs.lemmas.Bool.Decides.{nat_tests}
+use Rattle.olk_spec.specs.Names.{is_empty}
 use Rattle.std.proofs.lemmas.List.{append_assoc, append-nil, map-append}
 use Rattle.std.proofs.lemmas.Result.{IfErr-weaker}
 use Rattle.olk_reports.specs.declared.error.ValidateError.{ValidateError}
 use Rattle.olk_reports.specs.declared.error.ValidateError.TheVariants.{Invalid, Memory}
 use Rattle.olk_spec.specs.Faults.{Fault, ◌∼◌, like_empty, like_through}
-use Rattle.olk_spec.proofs.Order.{∼_append, ∼_same}
+use Rattle.olk_spec.proofs.Order.{∼_append, ∼_same, ∼_is_empty}
 use Rattle.olk_reports.specs.Errors.{fault_of}
 use Rattle.olk_reports.specs.declared.error.ValidationError.{ValidationError}
-use Rattle.olk_errors.specs.Found.{Appends, IfInvalid}
+use Rattle.olk_errors.specs.Found.{Appends, IfInvalid, IfTold}
 
 pub appends_nothing : (errors : List ValidationError) → Appends errors errors []
 appends_nothing errors = record { added = []; is = sym (append-nil errors); same = like_empty }
@@ -27,6 +30,19 @@ module _ {old new : List ValidationError} {faults : List Fault} where
     same = subst (λ l. l ∼ faults ++ others) (sym (map-append fault_of a.added b.added)) (∼_append a.same b.same);
   }
 
+-- ---- nothing is appended exactly where there is no fault
+
+same_length : {X : Type 0} (m : ℕ) (ys : List X) → nat_eq (m + length ys) m ≡ is_empty ys
+same_length m [] = grind (arith, nat_tests)
+same_length m (y ∷ ys) = grind (arith, nat_tests)
+
+empty_map : (es : List ValidationError) → is_empty es ≡ is_empty (map fault_of es)
+empty_map [] = refl
+empty_map (e ∷ es) = refl
+
+pub appended_none : {old new : List ValidationError} {faults : List Fault} → Appends old new faults → nat_eq (length new) (length old) ≡ is_empty faults
+appended_none {old} a = ap (λ n. nat_eq n (length old)) (ap length a.is ∙ length-append old a.added) ∙ same_length (length old) a.added ∙ empty_map a.added ∙ ∼_is_empty a.same
+
 -- ---- results
 
 invalid_so : {So Then : Fault → Type 0} → ((f : Fault) → So f → Then f) → (e : ValidateError) → IfInvalid e So → IfInvalid e Then
@@ -35,3 +51,8 @@ invalid_so k (Memory m) h = tt
 
 pub told_so : {T : Type 0} (r : Result T ValidateError) {So Then : Fault → Type 0} → ((f : Fault) → So f → Then f) → IfErr r (λ e. IfInvalid e So) → IfErr r (λ e. IfInvalid e Then)
 told_so r {So} {Then} k h = IfErr-weaker r (λ e. IfInvalid e So) (λ e. IfInvalid e Then) (invalid_so k) h
+
+pub if_told : {T : Type 0} (r : Result T ValidateError) {So Then : Type 0} → (So → Then) → IfTold r So → IfTold r Then
+if_told (Ok x) k h = k h
+if_told (Err (Invalid e)) k h = k h
+if_told (Err (Memory m)) k h = tt

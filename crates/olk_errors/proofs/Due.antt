@@ -11,7 +11,7 @@ use Rattle.olk_tree.specs.Visited.{names_met, left_of}
 use Rattle.olk_tree.specs.declared.map.SmallMap.{SmallMap}
 use Rattle.olk_tree.specs.declared.declared.DeclaredMembers.{DeclaredMembers}
 use Rattle.olk_base.specs.Lawful.{Asking}
-use Rattle.olk_check.specs.Asks.{OnlyAsks}
+use Rattle.olk_check.specs.Asks.{OnlyAsks, IsAnswer}
 use Rattle.olk_tree.proofs.Due.{every_due, each_due, first_due, chosen, every_chosen, each_chosen, first_chosen}
 use Rattle.olk_errors.specs.Outcomes.{of_each, of_node, of_branches}
 use Rattle.olk_errors.specs.Sinks.{Walks}
@@ -42,6 +42,8 @@ module _ {N : Type 0} (m : N → Data → Question) (s r : N → Bool → Data �
       all = each_chosen ms es same whole v is (λ n. r n u v Q) i;
     }
 
-  -- where nothing is asked
-  pub past_none : {T : Type 0} {y : T} {ns : List N} {sink : ErrorSink} {a b : Asking} → OnlyAsks a b → ns ≡ [] → Walks (Ok y) sink sink a b (of_branches m s r u ns v Q)
-  past_none only none = walks_past only (ap (λ l. of_branches m s r u l v Q) none)
+-- where nothing is asked
+module _ {N : Type 0} (m : N → Data → Question) (s r : N → Bool → Data → Path → List Fault) (v : Data) (Q : Path) where
+  pub past_none : {T : Type 0} {y : T} {ns : Bool → List N} {sink : ErrorSink} {a b : Asking} → OnlyAsks a b → ((u : Bool) → IsAnswer a b u → ns u ≡ [])
+      → Walks (Ok y) sink sink a b (λ u. of_branches m s r u (ns u) v Q)
+  past_none only none = walks_past only (λ u so. ap (λ l. of_branches m s r u l v Q) (none u so))

@@ -11,7 +11,7 @@ mod Patterns
 mod Fused
 mod Telling
 mod Names
-mod Loops
+pub mod Loops
 mod Additional
 mod Unexpected
 mod AdditionalMembers

@@ -9,8 +9,8 @@ use Rattle.olk_tree.specs.Firsts.{or_else, first_of}
 use Rattle.olk_tree.specs.Questions.{Question}
 use Rattle.olk_tree.proofs.Questions.{every-append}
 use Rattle.olk_tree.proofs.Faults.{or_around}
-use Rattle.olk_check.specs.Asks.{OnlyAsks}
-use Rattle.olk_check.proofs.Asked.{only_same, only_then}
+use Rattle.olk_check.specs.Asks.{OnlyAsks, IsAnswer}
+use Rattle.olk_check.proofs.Asked.{only_same, only_then, answer_first, answer_then}
 use Rattle.olk_errors.specs.Found.{Outcome}
 use Rattle.olk_errors.specs.Outcomes.{of_each}
 use Rattle.olk_errors.specs.Sinks.{GoesOn, Ends, Walks}
@@ -76,34 +76,51 @@ module _ {X : Type 0} {q : X → Question} {u : Bool} {s f : X → List Fault} {
     pub walked_end : rest ≡ [] → GoesOn old new (of_each u q s f all)
     walked_end none = goes_same (ap (of_each u q s f) (sym (append-nil loop.done) ∙ ap (λ l. loop.done ++ l) (sym none) ∙ loop.split)) loop.on
 
--- ---- with the context's answer, which a walk keeps; a and b are the context at the start and now
+-- ---- with each answer with which all goes as it went; a and b are the context at the start and now
 
-pub record Walking {X : Type 0} (q : X → Question) (s f : Bool → X → List Fault) (all rest : List X) (old new : ErrorSink) (a b : Asking) : Type 0 where
-  pub so_far : Walked q a.answer (s a.answer) (f a.answer) all rest old new
+turns_each : {T : Type 0} (r : Result T Stop) (So On Left : Bool → Type 0) → ((u : Bool) → So u → Turns r (On u) (Left u)) → Turns r ((u : Bool) → So u → On u) ((u : Bool) → So u → Left u)
+turns_each (Ok y) So On Left h = h
+turns_each (Err t) So On Left h = h
+
+pub record WalkingEach {X : Type 0} (q : X → Question) (s f : Bool → X → List Fault) (all rest : Bool → List X) (old new : ErrorSink) (a b : Asking) : Type 0 where
+  pub so_far : (u : Bool) → IsAnswer a b u → Walked q u (s u) (f u) (all u) (rest u) old new
   pub only : OnlyAsks a b
+
+abbrev pub Walking : {X : Type 0} → (X → Question) → (Bool → X → List Fault) → (Bool → X → List Fault) → List X → List X → ErrorSink → ErrorSink → Asking → Asking → Type 0
+Walking q s f all rest old new a b = WalkingEach q s f (λ u. all) (λ u. rest) old new a b
+
+module _ {X : Type 0} {q : X → Question} {s f : Bool → X → List Fault} {a : Asking} where
+  pub each_start : {all : Bool → List X} {k : ErrorSink} → WalkingEach q s f all all k k a a
+  each_start = record { so_far = λ u so. walked_start; only = only_same a }
+
+  module _ {all rest : Bool → List X} {old new : ErrorSink} {b : Asking} (loop : WalkingEach q s f all rest old new a b) where
+    pub several_turn : (xs more : Bool → List X) {newer : ErrorSink} {c : Asking} {T : Type 0} {r : Result T Stop} → ((u : Bool) → IsAnswer b c u → rest u ≡ xs u ++ more u)
+        → Walks r new newer b c (λ u. of_each u q (s u) (f u) (xs u))
+        → Turns r (WalkingEach q s f all more old newer a c) (Walks r old newer a c (λ u. of_each u q (s u) (f u) (all u)))
+    several_turn xs more {newer} {c} {r = r} next h = turns_as r (λ so. record { so_far = so; only = only_then loop.only h.only }) (λ ends. record { ends = ends; only = only_then loop.only h.only })
+        (turns_each r (IsAnswer a c) (λ u. Walked q u (s u) (f u) (all u) (more u) old newer) (λ u. Ends r old newer (of_each u q (s u) (f u) (all u))) (λ u so. let then = answer_then loop.only h.only so in
+        walked_turn (loop.so_far u (answer_first loop.only h.only so)) (xs u) (more u) (next u then) (h.ends u then)))
+
+    pub each_end : {T : Type 0} {y : T} → ((u : Bool) → IsAnswer a b u → rest u ≡ []) → Walks (Ok y) old new a b (λ u. of_each u q (s u) (f u) (all u))
+    each_end none = record { ends = λ u so. record { so = walked_end (loop.so_far u so) (none u so) }; only = loop.only }
 
 module _ {X : Type 0} {q : X → Question} {s f : Bool → X → List Fault} {all : List X} {a : Asking} where
   pub walking_start : {k : ErrorSink} → Walking q s f all all k k a a
-  walking_start = record { so_far = walked_start; only = only_same a }
+  walking_start = each_start
 
   pub walking_from : {rest : List X} {k : ErrorSink} → rest ≡ all → Walking q s f all rest k k a a
   walking_from {k = k} whole = subst (λ l. Walking q s f all l k k a a) (sym whole) walking_start
 
   module _ {rest : List X} {old new : ErrorSink} {b : Asking} (loop : Walking q s f all rest old new a b) where
-    pub several_turn : (xs more : List X) → rest ≡ xs ++ more → {newer : ErrorSink} {c : Asking} {T : Type 0} {r : Result T Stop} → Walks r new newer b c (of_each b.answer q (s b.answer) (f b.answer) xs)
-        → Turns r (Walking q s f all more old newer a c) (Walks r old newer a c (of_each a.answer q (s a.answer) (f a.answer) all))
-    several_turn xs more next {newer} {r = r} h = turns_as r (λ so. record { so_far = so; only = only_then loop.only h.only }) (λ ends. record { ends = ends; only = only_then loop.only h.only })
-        (walked_turn loop.so_far xs more next (subst (λ u. Ends r new newer (of_each u q (s u) (f u) xs)) loop.only.answer h.ends))
+    pub walking_turn : {x : X} {more : List X} {newer : ErrorSink} {c : Asking} {T : Type 0} {r : Result T Stop} → rest ≡ x ∷ more → Walks r new newer b c (λ u. of_one q u (s u) (f u) x)
+        → Turns r (Walking q s f all more old newer a c) (Walks r old newer a c (λ u. of_each u q (s u) (f u) all))
+    walking_turn {x} {more} next h = several_turn loop (λ u. x ∷ []) (λ u. more) (λ u so. next) (walks_same (λ u so. each_one q u (s u) (f u) x) h)
 
-    pub walking_turn : {x : X} {more : List X} {newer : ErrorSink} {c : Asking} {T : Type 0} {r : Result T Stop} → rest ≡ x ∷ more → Walks r new newer b c (of_one q b.answer (s b.answer) (f b.answer) x)
-        → Turns r (Walking q s f all more old newer a c) (Walks r old newer a c (of_each a.answer q (s a.answer) (f a.answer) all))
-    walking_turn {x} {more} next h = several_turn (x ∷ []) more next (walks_same (each_one q b.answer (s b.answer) (f b.answer) x) h)
-
-    pub walking_end : {T : Type 0} {y : T} → rest ≡ [] → Walks (Ok y) old new a b (of_each a.answer q (s a.answer) (f a.answer) all)
-    walking_end none = record { ends = record { so = walked_end loop.so_far none }; only = loop.only }
+    pub walking_end : {T : Type 0} {y : T} → rest ≡ [] → Walks (Ok y) old new a b (λ u. of_each u q (s u) (f u) all)
+    walking_end none = each_end loop (λ u so. none)
 
 -- the last turn
-pub last_turn : {X : Type 0} (q : X → Question) (s f : Bool → X → List Fault) (all : List X) {old new : ErrorSink} {a b : Asking} {T : Type 0} (r : Result T Stop)
-    → Turns r (Walking q s f all [] old new a b) (Walks r old new a b (of_each a.answer q (s a.answer) (f a.answer) all)) → Walks r old new a b (of_each a.answer q (s a.answer) (f a.answer) all)
-last_turn q s f all (Ok y) loop = walking_end loop refl
+pub last_turn : {X : Type 0} (q : X → Question) (s f : Bool → X → List Fault) (all : Bool → List X) {old new : ErrorSink} {a b : Asking} {T : Type 0} (r : Result T Stop)
+    → Turns r (WalkingEach q s f all (λ u. []) old new a b) (Walks r old new a b (λ u. of_each u q (s u) (f u) (all u))) → Walks r old new a b (λ u. of_each u q (s u) (f u) (all u))
+last_turn q s f all (Ok y) loop = each_end loop (λ u so. refl)
 last_turn q s f all (Err t) h = h

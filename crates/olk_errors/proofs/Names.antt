@@ -1,5 +1,5 @@
 -- The errors of members' names, told of the object.
-use Rattle.std.proofs.Common.{◌≡◌, Bool, List, [], map, refl, sym, ap, subst}
+use Rattle.std.proofs.Common.{◌≡◌, Bool, true, List, [], map, refl, sym, ap, subst, Ok}
 use Rattle.std.proofs.lemmas.Simd.{map-map}
 use Rattle.olk_meaning.proofs.PropertyNames.{like_wrapped, ∼_wrapped}
 use Rattle.olk_errors.proofs.Own.{contains_mapped}
@@ -12,7 +12,9 @@ use Rattle.olk_reports.specs.Errors.{fault_of}
 use Rattle.olk_reports.specs.declared.error.ValidationError.{ValidationError}
 use Rattle.olk_tree.specs.Questions.{Question}
 use Rattle.olk_errors.specs.Outcomes.{of_each, of_asked_name, of_asked_names}
-use Rattle.olk_errors.specs.Found.{Appends, Outcome, IsErrorOf}
+use Rattle.olk_errors.specs.Found.{Appends, Outcome, Passes, IsErrorOf}
+use Rattle.olk_errors.specs.Sinks.{wants_one, held, Took, Ends}
+use Rattle.olk_errors.specs.declared.sink.ErrorSink.{ErrorSink}
 use Rattle.olk_errors.proofs.Sinks.{unasked}
 
 module _ (v : Data) (Q : Path) where
@@ -33,6 +35,15 @@ module _ (v : Data) (Q : Path) where
           like = subst (IsLike (wrapped v Q g)) (cut_wrapped told.of_all.whole) (like_wrapped v Q told.of_all.like);
         };
   })
+
+  -- where no error was found
+  pub no_name_error : {T : Type 0} {x : T} {sink : ErrorSink} {o : Outcome} → wants_one sink ≡ true → Passes o → Ends (Ok x) sink sink (told_of o)
+  no_name_error {sink = sink} {o} one h = record {
+    so = record {
+      same = refl;
+      took = subst (λ b. Took b (held sink) (held sink) (told_of o)) (sym one) (record { verdict = h.verdict; nothing = ap (map (wrapped v Q)) h.nothing }, refl);
+    };
+  }
 
   -- the errors that were found, each told of the object
   pub names_told : {found : List ValidationError} {fs : List Fault} → Appends [] found fs → map (λ e. wrapped v Q (fault_of e)) found ∼ map (wrapped v Q) fs

@@ -11,8 +11,8 @@ use Rattle.olk_spec.specs.Faults.{Fault}
 use Rattle.olk_reports.specs.Errors.{fault_of}
 use Rattle.olk_reports.specs.declared.error.ValidationError.{ValidationError}
 use Rattle.olk_tree.specs.Firsts.{or_else}
-use Rattle.olk_check.specs.Asks.{OnlyAsks}
-use Rattle.olk_check.proofs.Asked.{only_then}
+use Rattle.olk_check.specs.Asks.{OnlyAsks, IsAnswer}
+use Rattle.olk_check.proofs.Asked.{only_then, answer_first, answer_then}
 use Rattle.olk_errors.specs.Found.{Appends, Outcome, Passes, IsErrorOf}
 use Rattle.olk_errors.specs.Sinks.{is_first, errors_in, wants_one, held, Took, GoesOn, IsLonger, Kept, Keeps, Stopped, Ended, EndsBy, Ends, one_error, Takes, Walks}
 use Rattle.olk_errors.specs.declared.sink.ErrorSink.{ErrorSink}
@@ -195,49 +195,54 @@ module _ {T : Type 0} {r : Result T Stop} where
     pub ends_wanted : {o : Outcome} → wants_one old ≡ true → IsErrorOf o f → Takes r old new f → Ends r old new o
     ends_wanted {o} one err = ends_through (λ h. absurd (true≢false (sym (goes_passing one h).verdict))) (stopped_where (λ w g is. subst (IsErrorOf o) (sym is) err))
 
--- ---- of walks
+-- ---- of walks, with each answer with which all goes as it went
 
-module _ {T : Type 0} {x : T} {s : ErrorSink} {o : Outcome} where
-  pub ends_past : o ≡ unasked → Ends (Ok x) s s o
+module _ {T : Type 0} {x : T} {s : ErrorSink} where
+  pub ends_past : {o : Outcome} → o ≡ unasked → Ends (Ok x) s s o
   ends_past nothing = record { so = goes_past s nothing }
 
-  pub walks_past : {a b : Asking} → OnlyAsks a b → o ≡ unasked → Walks (Ok x) s s a b o
-  walks_past only nothing = record { ends = ends_past nothing; only = only }
+  pub walks_past : {a b : Asking} {o : Bool → Outcome} → OnlyAsks a b → ((u : Bool) → IsAnswer a b u → o u ≡ unasked) → Walks (Ok x) s s a b o
+  walks_past only nothing = record { ends = λ u so. ends_past (nothing u so); only = only }
 
 module _ {T : Type 0} {r : Result T Stop} where
-  module _ {old new : ErrorSink} {a b : Asking} {o : Outcome} where
-    pub walks_same : {p : Outcome} → o ≡ p → Walks r old new a b o → Walks r old new a b p
-    walks_same = subst (Walks r old new a b)
+  module _ {old new : ErrorSink} {a b : Asking} {o : Bool → Outcome} where
+    pub walks_by : {p : Bool → Outcome} → ((u : Bool) → IsAnswer a b u → Ends r old new (o u) → Ends r old new (p u)) → Walks r old new a b o → Walks r old new a b p
+    walks_by k h = record { ends = λ u so. k u so (h.ends u so); only = h.only }
 
-    pub walks_by : {p : Outcome} → (Ends r old new o → Ends r old new p) → Walks r old new a b o → Walks r old new a b p
-    walks_by k h = record { ends = k h.ends; only = h.only }
+    pub walks_same : {p : Bool → Outcome} → ((u : Bool) → IsAnswer a b u → o u ≡ p u) → Walks r old new a b o → Walks r old new a b p
+    walks_same e h = record { ends = λ u so. subst (Ends r old new) (e u so) (h.ends u so); only = h.only }
 
     -- a walk that asks the context nothing
-    pub walks_alone : OnlyAsks a b → Ends r old new o → Walks r old new a b o
-    walks_alone only h = record { ends = h; only = only }
+    pub walks_alone : OnlyAsks a b → ((u : Bool) → Ends r old new (o u)) → Walks r old new a b o
+    walks_alone only h = record { ends = λ u so. h u; only = only }
 
     -- one that leaves by a `?`
     pub walks_left : {S : Type 0} {s : Stop} → IsErr r → Walks {T = S} (Err s) old new a b o → Walks r old new a b o
-    walks_left e h = record { ends = ends_left e h.ends.so; only = h.only }
+    walks_left e h = record { ends = λ u so. ends_left e (h.ends u so).so; only = h.only }
 
   -- one walk after another, or after a question
-  pub walks_after : {old mid new : ErrorSink} {a b c : Asking} {o p : Outcome} → GoesOn old mid o → OnlyAsks a b → Walks r mid new b c p → Walks r old new a c (after o p)
-  walks_after on only h = record { ends = ends_through (goes_after on) (stopped_after on) h.ends; only = only_then only h.only }
+  pub walks_after : {old mid new : ErrorSink} {a b c : Asking} {o p : Bool → Outcome} → ((u : Bool) → IsAnswer a b u → GoesOn old mid (o u)) → OnlyAsks a b → Walks r mid new b c p
+      → Walks r old new a c (λ u. after (o u) (p u))
+  walks_after on only h = record {
+    ends = λ u so. let first = on u (answer_first only h.only so) in ends_through (goes_after first) (stopped_after first) (h.ends u (answer_then only h.only so));
+    only = only_then only h.only;
+  }
 
-  pub walks_asked : {old new : ErrorSink} {a b c : Asking} (o : Bool → Outcome) → OnlyAsks a b → Walks r old new b c (o b.answer) → Walks r old new a c (o a.answer)
-  walks_asked {old} {new} o only h = record { ends = subst (λ u. Ends r old new (o u)) only.answer h.ends; only = only_then only h.only }
+  pub walks_asked : {old new : ErrorSink} {a b c : Asking} (o : Bool → Outcome) → OnlyAsks a b → Walks r old new b c o → Walks r old new a c o
+  walks_asked o only h = record { ends = λ u so. h.ends u (answer_then only h.only so); only = only_then only h.only }
 
   -- there was no memory, and nothing was taken before
-  pub walks_nowhere : {s : ErrorSink} {a b : Asking} {o : Outcome} → IsErr r → OnlyAsks a b → Walks r s s a b o
-  walks_nowhere e only = record { ends = ends_nowhere e; only = only }
+  pub walks_nowhere : {s : ErrorSink} {a b : Asking} {o : Bool → Outcome} → IsErr r → OnlyAsks a b → Walks r s s a b o
+  walks_nowhere e only = record { ends = λ u so. ends_nowhere e; only = only }
 
 -- a walk to its end, with another result
-pub walks_on : {S T : Type 0} {x : S} {y : T} {old new : ErrorSink} {a b : Asking} {o : Outcome} → Walks (Ok x) old new a b o → Walks (Ok y) old new a b o
-walks_on h = record { ends = record { so = h.ends.so }; only = h.only }
+pub walks_on : {S T : Type 0} {x : S} {y : T} {old new : ErrorSink} {a b : Asking} {o : Bool → Outcome} → Walks (Ok x) old new a b o → Walks (Ok y) old new a b o
+walks_on h = record { ends = λ u so. record { so = (h.ends u so).so }; only = h.only }
 
 -- a walk that was stopped, before another
-pub walks_before : {S : Type 0} {s : Stop} {old new : ErrorSink} {a b : Asking} {o : Outcome} (p : Outcome) → Walks {T = S} (Err s) old new a b o → Walks {T = S} (Err s) old new a b (after o p)
-walks_before p h = record { ends = record { so = stopped_before p h.ends.so }; only = h.only }
+pub walks_before : {S : Type 0} {s : Stop} {old new : ErrorSink} {a b : Asking} {o : Bool → Outcome} (p : Bool → Outcome) → Walks {T = S} (Err s) old new a b o
+    → Walks {T = S} (Err s) old new a b (λ u. after (o u) (p u))
+walks_before p h = record { ends = λ u so. record { so = stopped_before (p u) (h.ends u so).so }; only = h.only }
 
 -- ---- one error
 

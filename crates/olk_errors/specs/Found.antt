@@ -1,5 +1,5 @@
 -- What is told of a value: all faults, or one.
-use Rattle.std.specs.Prelude.{◌≡◌, ⊤, Bool, true, false, List, [], ◌∷◌, ◌++◌, map, Contains, Option, None, Some}
+use Rattle.std.specs.Prelude.{◌≡◌, ⊤, Bool, true, false, List, [], ◌∷◌, ◌++◌, map, Contains, Option, None, Some, Result, Ok, Err}
 use Rattle.serde_json.specs.Data.{Data}
 use Rattle.olk_spec.specs.Names.{Path}
 use Rattle.olk_spec.specs.World.{World}
@@ -28,6 +28,12 @@ AreLike (fs ∷ fss) (gs ∷ gss) = (fs ∼ gs) × AreLike fss gss
 abbrev pub IfInvalid : ValidateError → (Fault → Type 0) → Type 0
 IfInvalid (Invalid e) So = So (fault_of e)
 IfInvalid (Memory m) So = ⊤
+
+-- what is so where memory was not wanting
+abbrev pub IfTold : {T : Type 0} → Result T ValidateError → Type 0 → Type 0
+IfTold (Ok x) So = So
+IfTold (Err (Invalid e)) So = So
+IfTold (Err (Memory m)) So = ⊤
 
 -- what asking a value comes to: whether it is accepted, the faults of the first step that refuses, and all faults
 pub record Outcome : Type 0 where

@@ -4,7 +4,7 @@ use Rattle.olk_base.specs.Lawful.{Asking}
 use Rattle.olk_spec.specs.Faults.{Fault}
 use Rattle.olk_reports.specs.Errors.{fault_of}
 use Rattle.olk_reports.specs.declared.error.ValidationError.{ValidationError}
-use Rattle.olk_check.specs.Asks.{OnlyAsks}
+use Rattle.olk_check.specs.Asks.{OnlyAsks, IsAnswer}
 use Rattle.olk_errors.specs.Found.{Appends, Outcome, Passes, IsErrorOf}
 use Rattle.olk_errors.specs.declared.sink.ErrorSink.{ErrorSink}
 use Rattle.olk_errors.specs.declared.sink.Held.{Held}
@@ -85,7 +85,7 @@ one_error f = record { accepts = false; first = f ∷ []; all = f ∷ [] }
 abbrev pub Takes : {T : Type 0} → Result T Stop → ErrorSink → ErrorSink → Fault → Type 0
 Takes r old new f = EndsBy r old new (one_error f) (λ g. g ≡ f)
 
--- what a walk leaves in a sink and in a context, which are these before and after
-pub record Walks {T : Type 0} (r : Result T Stop) (old new : ErrorSink) (a b : Asking) (o : Outcome) : Type 0 where
-  pub ends : Ends r old new o
+-- what a walk leaves in a sink and in a context, which are these before and after; o has what asking comes to with either answer, and the walk comes to that with each answer with which all goes as it went
+pub record Walks {T : Type 0} (r : Result T Stop) (old new : ErrorSink) (a b : Asking) (o : Bool → Outcome) : Type 0 where
+  pub ends : (u : Bool) → IsAnswer a b u → Ends r old new (o u)
   pub only : OnlyAsks a b

@@ -1,5 +1,5 @@
 //! `additionalProperties`, and what it takes over: the errors.
-ghost use Rattle.std.specs.Prelude.{◌≡◌, map, is_none, option_copied, option_map, option_to_list, IfOk};
+ghost use Rattle.std.specs.Prelude.{◌≡◌, Bool, map, is_none, option_copied, option_map, option_to_list, IfOk};
 ghost use Rattle.serde_json.specs.View.{view};
 ghost use Rattle.olk_base.specs.Nodes.{subject_data};
 ghost use Rattle.olk_base.specs.Compiled.{pattern_answers};
@@ -8,6 +8,7 @@ ghost use Rattle.olk_tree.specs.Additional.{known_or, sides_seen};
 ghost use Rattle.olk_tree.specs.Tables.{known_says};
 ghost use Rattle.olk_tree.specs.Visited.{object_of};
 ghost use Rattle.olk_paths.specs.Paths.{one_below};
+ghost use Rattle.olk_check.specs.Asks.{IsAnswer};
 ghost use Rattle.olk_paths.specs.Trails.{path_at};
 ghost use Rattle.olk_errors.specs.Outcomes.{of_branches, of_values, of_no_members, declared_nodes, asked_at, unexpected_at, if_matched, of_unexpected, unexpected_fault, of_asked_members};
 ghost use Rattle.olk_errors.specs.Sinks.{Walks, Ends, EndsAlone, Takes};
@@ -189,7 +190,7 @@ fn walk_values<'a, N: Walk<'a>>(
     sink: &mut ErrorSink<'a>,
 ) -> Result<(), Stop>
     ensures { Walks result sink.old sink.new ctx.old ctx.new
-        (of_values N.means N.first N.report ctx.old.answer subschema.now
+        (λ u. of_values N.means N.first N.report u subschema.now
         (subject_data node.entry) (path_at trail.now)) }
 {
     let Some(members) = node.as_object() else {
@@ -235,7 +236,7 @@ fn walk_sides<'a, R: RegexEngine, N: Walk<'a>>(
     sink: &mut ErrorSink<'a>,
 ) -> Result<(), Stop>
     ensures { Walks result sink.old sink.new ctx.old ctx.new
-        (of_asked_members R.answers R.costs N.means N.first N.report ctx.old.answer
+        (λ u. of_asked_members R.answers R.costs N.means N.first N.report u
         (sides_seen sides.entry) (subject_data node.entry) location.now (path_at trail.now)) }
 {
     match node.as_object() {
@@ -260,7 +261,7 @@ fn walk_members<'a, R: RegexEngine, N: Walk<'a>>(
 ) -> Result<(), Stop>
     requires { subject_data object ≡ object_of members.now.entries }
     ensures { Walks result sink.old sink.new ctx.old ctx.new
-        (of_asked_members R.answers R.costs N.means N.first N.report ctx.old.answer
+        (λ u. of_asked_members R.answers R.costs N.means N.first N.report u
         (sides_seen sides.entry) (subject_data object.entry) location.now (path_at trail.now)) }
 {
     law_of_names(members);
@@ -293,10 +294,11 @@ fn walk_asked<'a, R: RegexEngine, N: Walk<'a>>(
     ctx: &mut ValidationContext,
     sink: &mut ErrorSink<'a>,
 ) -> Result<bool, Stop>
-    ensures unexpected { IfOk result (λ b. b ≡ unexpected_at R.answers ctx.old.answer
+    ensures unexpected { IfOk result (λ b. (u : Bool) → IsAnswer ctx.old ctx.new u
+        → b ≡ unexpected_at R.answers u
         (sides_seen sides.entry) (option_map (λ f. (f.0, f.1.now)) declared.entry) name.now) }
     ensures walk { Walks result sink.old sink.new ctx.old ctx.new
-        (of_branches N.means N.first N.report ctx.old.answer (asked_at R.answers ctx.old.answer
+        (λ u. of_branches N.means N.first N.report u (asked_at R.answers u
         (sides_seen sides.entry) (option_map (λ f. (f.0, f.1.now)) declared.entry) name.now)
         (view value.now) (one_below (path_at trail.now) name.now)) }
 {
@@ -324,7 +326,7 @@ fn walk_declared<'a, N: Walk<'a>>(
     sink: &mut ErrorSink<'a>,
 ) -> Result<(), Stop>
     ensures { Walks result sink.old sink.new ctx.old ctx.new
-        (of_branches N.means N.first N.report ctx.old.answer
+        (λ u. of_branches N.means N.first N.report u
         (declared_nodes (option_map (λ f. (f.0, f.1.now)) declared.entry)) (view value.now)
         (one_below (path_at trail.now) name.now)) }
 {
@@ -346,10 +348,11 @@ fn walk_if_matched<'a, R: RegexEngine, N: Walk<'a>>(
     ctx: &mut ValidationContext,
     sink: &mut ErrorSink<'a>,
 ) -> Result<bool, Stop>
-    ensures matches { IfOk result (λ b. b ≡ reads_as ctx.old.answer
+    ensures matches { IfOk result (λ b. (u : Bool) → IsAnswer ctx.old ctx.new u
+        → b ≡ reads_as u
         (known_or (known_says known) (pattern_answers R.answers entry.now.0 name.now))) }
     ensures walk { Walks result sink.old sink.new ctx.old ctx.new
-        (of_branches N.means N.first N.report ctx.old.answer (if_matched R.answers ctx.old.answer
+        (λ u. of_branches N.means N.first N.report u (if_matched R.answers u
         (known_says known) entry.now.0 entry.now.1 name.now) (view value.now)
         (one_below (path_at trail.now) name.now)) }
 {
@@ -372,7 +375,7 @@ fn walk_rest<'a, N: Walk<'a>>(
 ) -> Result<bool, Stop>
     ensures unexpected { IfOk result (λ b. b ≡ is_none (option_copied rest.entry)) }
     ensures walk { Walks result sink.old sink.new ctx.old ctx.new
-        (of_branches N.means N.first N.report ctx.old.answer
+        (λ u. of_branches N.means N.first N.report u
         (option_to_list (option_copied rest.entry)) (view value.now)
         (one_below (path_at trail.now) name.now)) }
 {

@@ -1,9 +1,9 @@
 //! Walks over nodes: the errors that they find.
-ghost use Rattle.std.specs.Prelude.{◌∷◌, [], map, IfOk};
+ghost use Rattle.std.specs.Prelude.{◌∷◌, [], Bool, map, IfOk};
 ghost use Rattle.olk_reports.proofs.Errors.{context_faults};
 ghost use Rattle.olk_base.specs.Nodes.{subject_data};
 ghost use Rattle.olk_paths.specs.Trails.{path_at};
-ghost use Rattle.olk_check.specs.Asks.{OnlyAsks};
+ghost use Rattle.olk_check.specs.Asks.{OnlyAsks, IsAnswer};
 ghost use Rattle.olk_errors.specs.Found.{Appends, AreLike, IsFirstOf};
 ghost use Rattle.olk_errors.specs.Outcomes.{of_branches, of_node};
 ghost use Rattle.olk_errors.specs.Sinks.{Walks};
@@ -24,7 +24,7 @@ pub(crate) fn walk_each<'a, N: Walk<'a>>(
     sink: &mut ErrorSink<'a>,
 ) -> Result<(), Stop>
     ensures { Walks result sink.old sink.new ctx.old ctx.new
-        (of_branches N.means N.first N.report ctx.old.answer nodes.now.items
+        (λ u. of_branches N.means N.first N.report u nodes.now.items
         (subject_data node.entry) (path_at trail.now)) }
 {
     for n in nodes {
@@ -41,8 +41,9 @@ pub(crate) fn contexts<'a, N: Walk<'a>>(
     trail: &Trail<'_, 'a>,
     ctx: &mut ValidationContext,
 ) -> Result<Vec<Vec<ValidationError<'a>>>, AllocError>
-    ensures contexts { IfOk result (λ c. AreLike (context_faults c)
-        (map (λ n. N.report n ctx.old.answer (subject_data node.entry) (path_at trail.now))
+    ensures contexts { IfOk result (λ c. (u : Bool) → IsAnswer ctx.old ctx.new u
+        → AreLike (context_faults c)
+        (map (λ n. N.report n u (subject_data node.entry) (path_at trail.now))
         nodes.now.items)) }
     ensures context { OnlyAsks ctx.old ctx.new }
 {
@@ -62,8 +63,9 @@ pub(crate) fn one_context<'a, N: Walk<'a>>(
     trail: &Trail<'_, 'a>,
     ctx: &mut ValidationContext,
 ) -> Result<Vec<Vec<ValidationError<'a>>>, AllocError>
-    ensures contexts { IfOk result (λ c. AreLike (context_faults c)
-        (N.report branch.now ctx.old.answer (subject_data node.entry) (path_at trail.now) ∷ [])) }
+    ensures contexts { IfOk result (λ c. (u : Bool) → IsAnswer ctx.old ctx.new u
+        → AreLike (context_faults c)
+        (N.report branch.now u (subject_data node.entry) (path_at trail.now) ∷ [])) }
     ensures context { OnlyAsks ctx.old ctx.new }
 {
     let errors = errors_of(alloc, branch, node, trail, ctx)?;
@@ -78,8 +80,9 @@ pub(crate) fn errors_of<'a, N: Walk<'a>>(
     trail: &Trail<'_, 'a>,
     ctx: &mut ValidationContext,
 ) -> Result<Vec<ValidationError<'a>>, AllocError>
-    ensures errors { IfOk result (λ es. Appends [] es.items
-        (N.report asked.now ctx.old.answer (subject_data node.entry) (path_at trail.now))) }
+    ensures errors { IfOk result (λ es. (u : Bool) → IsAnswer ctx.old ctx.new u
+        → Appends [] es.items
+        (N.report asked.now u (subject_data node.entry) (path_at trail.now))) }
     ensures context { OnlyAsks ctx.old ctx.new }
 {
     let mut sink: ErrorSink<'a> = ErrorSink::all(alloc, Vec::new(alloc));
@@ -97,8 +100,9 @@ pub(crate) fn first_error_of<'a, N: Walk<'a>>(
     trail: &Trail<'_, 'a>,
     ctx: &mut ValidationContext,
 ) -> Result<Option<ValidationError<'a>>, AllocError>
-    ensures error { IfOk result (IsFirstOf (of_node N.means N.first N.report ctx.old.answer
-        asked.now (subject_data node.entry) (path_at trail.now))) }
+    ensures error { IfOk result (λ e. (u : Bool) → IsAnswer ctx.old ctx.new u
+        → IsFirstOf (of_node N.means N.first N.report u
+        asked.now (subject_data node.entry) (path_at trail.now)) e) }
     ensures context { OnlyAsks ctx.old ctx.new }
 {
     let mut sink: ErrorSink<'a> = ErrorSink::first(alloc);

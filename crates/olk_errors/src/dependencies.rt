@@ -61,7 +61,7 @@ fn walk_dependencies<'a, N: Walk<'a>>(
     sink: &mut ErrorSink<'a>,
 ) -> Result<(), Stop>
     ensures { Walks result sink.old sink.new ctx.old ctx.new
-        (of_branches N.means N.first N.report ctx.old.answer
+        (λ u. of_branches N.means N.first N.report u
         (due_nodes (named dependencies.now) (subject_data node.entry)) (subject_data node.entry)
         (path_at trail.now)) }
 {
@@ -82,7 +82,7 @@ fn walk_due<'a, N: Walk<'a>>(
 ) -> Result<(), Stop>
     requires { subject_data object ≡ object_of members.now.entries }
     ensures { Walks result sink.old sink.new ctx.old ctx.new
-        (of_branches N.means N.first N.report ctx.old.answer
+        (λ u. of_branches N.means N.first N.report u
         (due_nodes (named dependencies.now) (subject_data object.entry)) (subject_data object.entry)
         (path_at trail.now)) }
 {

@@ -40,9 +40,9 @@ fn walk_validator<'a, K: Leaf, R: RegexEngine, N: Walk<'a>>(
     sink: &mut ErrorSink<'a>,
 ) -> Result<(), Stop>
     ensures { Walks result sink.old sink.new ctx.old ctx.new
-        (of_node (λ k. (answers_of (kit K.Leaf R.RegexEngine) k).means N.means) (λ k.
+        (λ u. of_node (λ k. (answers_of (kit K.Leaf R.RegexEngine) k).means N.means) (λ k.
         (answers_of (kit K.Leaf R.RegexEngine) k).first N.means N.report N.first) (λ k.
-        (answers_of (kit K.Leaf R.RegexEngine) k).report N.means N.report) ctx.old.answer
+        (answers_of (kit K.Leaf R.RegexEngine) k).report N.means N.report) u
         keyword.now (subject_data node.entry) (path_at trail.now)) }
 {
     match keyword {

@@ -42,7 +42,7 @@ pub trait Walk<'a>: Check + Reports {
         sink: &mut ErrorSink<'a>,
     ) -> Result<(), Stop>
         ensures { Walks result sink.old sink.new ctx.old ctx.new
-            (of_node Self.means Self.first Self.report ctx.old.answer self.now
+            (λ u. of_node Self.means Self.first Self.report u self.now
             (subject_data node.entry) (path_at trail.now)) };
 }
 
@@ -50,8 +50,8 @@ pub trait Walk<'a>: Check + Reports {
 pub trait Errors<'a>: IsValid + Reports {
     ghost use Rattle.std.specs.Prelude.{◌≡◌, OnOk, OnErr, IfErr};
     ghost use Rattle.olk_base.specs.Nodes.{data_of};
-    ghost use Rattle.olk_check.specs.Asks.{OnlyAsks};
-    ghost use Rattle.olk_errors.specs.Found.{Appends, IfInvalid, Passes, IsErrorOf};
+    ghost use Rattle.olk_check.specs.Asks.{OnlyAsks, IsCertain};
+    ghost use Rattle.olk_errors.specs.Found.{Appends, IfInvalid, IfTold, Passes, IsErrorOf};
     ghost use Rattle.olk_errors.specs.Outcomes.{of_node};
 
     /// The first error of its walk over the node, which stands at the path; none where the node is
@@ -78,7 +78,9 @@ pub trait Errors<'a>: IsValid + Reports {
             (of_node Self.means Self.first Self.report ctx.old.answer
             self.now (data_of node.entry) path.old))) }
         ensures path { path.new ≡ path.old }
-        ensures context { OnlyAsks ctx.old ctx.new };
+        ensures context { OnlyAsks ctx.old ctx.new }
+        ensures certain { IfTold result (IsCertain ctx.old ctx.new
+            (Self.means self.now (data_of node.entry)).accepts) };
 
     /// Appends all errors that the node, which stands at the path, has; none exactly where it is
     /// accepted.
@@ -101,7 +103,9 @@ pub trait Errors<'a>: IsValid + Reports {
             (Self.report self.now ctx.old.answer (data_of node.entry) path.old)) }
         ensures memory { OnErr result (errors.new.items ≡ errors.old.items) }
         ensures path { path.new ≡ path.old }
-        ensures context { OnlyAsks ctx.old ctx.new };
+        ensures context { OnlyAsks ctx.old ctx.new }
+        ensures certain { OnOk result (IsCertain ctx.old ctx.new
+            (Self.means self.now (data_of node.entry)).accepts) };
 }
 
 impl<'a, W: Walk<'a>> Errors<'a> for W {

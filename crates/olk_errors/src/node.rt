@@ -29,7 +29,7 @@ pub fn walk_body<'a, W: Walk<'a>>(
     sink: &mut ErrorSink<'a>,
 ) -> Result<(), Stop>
     ensures { Walks result sink.old sink.new ctx.old ctx.new
-        (of_body W.means W.first W.report ctx.old.answer location.now body.now
+        (λ u. of_body W.means W.first W.report u location.now body.now
         (subject_data node.entry) (path_at trail.now)) }
 {
     match body {
@@ -49,7 +49,7 @@ fn walk_other<'a, W: Walk<'a>>(
     sink: &mut ErrorSink<'a>,
 ) -> Result<(), Stop>
     ensures { Walks result sink.old sink.new ctx.old ctx.new
-        (of_body W.means W.first W.report ctx.old.answer location.now body.now
+        (λ u. of_body W.means W.first W.report u location.now body.now
         (subject_data node.entry) (path_at trail.now)) }
 {
     match body {
@@ -74,7 +74,7 @@ fn walk_keywords<'a, W: Walk<'a>>(
     sink: &mut ErrorSink<'a>,
 ) -> Result<(), Stop>
     ensures { Walks result sink.old sink.new ctx.old ctx.new
-        (of_branches W.means W.first W.report ctx.old.answer keywords.now.items
+        (λ u. of_branches W.means W.first W.report u keywords.now.items
         (subject_data node.entry) (path_at trail.now)) }
 {
     match keywords.as_slice() {

@@ -1,9 +1,9 @@
 //! `oneOf`: its errors.
-ghost use Rattle.std.specs.Prelude.{map, IfOk};
+ghost use Rattle.std.specs.Prelude.{Bool, map, IfOk};
 ghost use Rattle.olk_base.specs.Nodes.{subject_data};
 ghost use Rattle.olk_paths.specs.Trails.{path_at};
 ghost use Rattle.olk_tree.specs.Questions.{how_many, exactly_one};
-ghost use Rattle.olk_check.specs.Asks.{Asks, OnlyAsks};
+ghost use Rattle.olk_check.specs.Asks.{Asks, OnlyAsks, IsAnswer};
 ghost use Rattle.olk_check.specs.Accepting.{IsHowMany, is_one};
 ghost use Rattle.olk_errors.specs.Outcomes.{IsKindOfOneOf};
 
@@ -42,8 +42,8 @@ fn accepting<N: Check>(
     ensures asks { Asks ctx.old ctx.new
         (exactly_one (λ n. N.means n (subject_data node.entry)) schemas.now.items)
         (is_one result) }
-    ensures count { IsHowMany result
-        (how_many (λ n. N.means n (subject_data node.entry)) ctx.old.answer schemas.now.items) }
+    ensures count { (u : Bool) → IsAnswer ctx.old ctx.new u → IsHowMany result
+        (how_many (λ n. N.means n (subject_data node.entry)) u schemas.now.items) }
 {
     match node {
         Subject::Value(value) => how_many_accept(schemas, value, ctx),
@@ -60,10 +60,10 @@ fn one_of_kind<'a, N: Walk<'a>>(
     trail: &Trail<'_, 'a>,
     ctx: &mut ValidationContext,
 ) -> Result<Option<ValidationErrorKind<'a>>, AllocError>
-    ensures kind { IfOk result (IsKindOfOneOf
-        (how_many (λ n. N.means n (subject_data node.entry)) ctx.old.answer schemas.now.items)
-        (map (λ n. N.report n ctx.old.answer (subject_data node.entry) (path_at trail.now))
-        schemas.now.items)) }
+    ensures kind { IfOk result (λ k. (u : Bool) → IsAnswer ctx.old ctx.new u → IsKindOfOneOf
+        (how_many (λ n. N.means n (subject_data node.entry)) u schemas.now.items)
+        (map (λ n. N.report n u (subject_data node.entry) (path_at trail.now))
+        schemas.now.items) k) }
     ensures context { OnlyAsks ctx.old ctx.new }
 {
     match accepting(schemas, node, ctx) {

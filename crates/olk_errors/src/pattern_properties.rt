@@ -56,7 +56,7 @@ fn walk_patterns<'a, R: RegexEngine, N: Walk<'a>>(
     sink: &mut ErrorSink<'a>,
 ) -> Result<(), Stop>
     ensures { Walks result sink.old sink.new ctx.old ctx.new
-        (of_patterns R.answers R.costs N.means N.first N.report ctx.old.answer patterns.now.items
+        (λ u. of_patterns R.answers R.costs N.means N.first N.report u patterns.now.items
         (object_of members.now.entries) (path_at trail.now)) }
 {
     if sink.wants_one() {
@@ -76,7 +76,7 @@ fn walk_by_member<'a, R: RegexEngine, N: Walk<'a>>(
 ) -> Result<(), Stop>
     requires { wants_one sink.now ≡ true }
     ensures { Walks result sink.old sink.new ctx.old ctx.new
-        (of_patterns R.answers R.costs N.means N.first N.report ctx.old.answer patterns.now.items
+        (λ u. of_patterns R.answers R.costs N.means N.first N.report u patterns.now.items
         (object_of members.now.entries) (path_at trail.now)) }
 {
     for (name, value) in members {
@@ -95,7 +95,7 @@ fn walk_by_pattern<'a, R: RegexEngine, N: Walk<'a>>(
 ) -> Result<(), Stop>
     requires { wants_one sink.now ≡ false }
     ensures { Walks result sink.old sink.new ctx.old ctx.new
-        (of_patterns R.answers R.costs N.means N.first N.report ctx.old.answer patterns.now.items
+        (λ u. of_patterns R.answers R.costs N.means N.first N.report u patterns.now.items
         (object_of members.now.entries) (path_at trail.now)) }
 {
     for entry in patterns {
@@ -114,7 +114,7 @@ fn walk_matching<'a, R: RegexEngine, N: Walk<'a>>(
     sink: &mut ErrorSink<'a>,
 ) -> Result<(), Stop>
     ensures { Walks result sink.old sink.new ctx.old ctx.new
-        (of_matching R.answers R.costs N.means N.first N.report ctx.old.answer patterns.now.items
+        (λ u. of_matching R.answers R.costs N.means N.first N.report u patterns.now.items
         name.now (view value.now) (path_at trail.now)) }
 {
     for entry in patterns {
@@ -133,7 +133,7 @@ fn walk_matched<'a, R: RegexEngine, N: Walk<'a>>(
     sink: &mut ErrorSink<'a>,
 ) -> Result<(), Stop>
     ensures { Walks result sink.old sink.new ctx.old ctx.new
-        (of_matched R.answers R.costs N.means N.first N.report ctx.old.answer pattern.now
+        (λ u. of_matched R.answers R.costs N.means N.first N.report u pattern.now
         subschema.now (object_of members.now.entries) (path_at trail.now)) }
 {
     for (name, value) in members {
@@ -153,7 +153,7 @@ fn walk_if_matched<'a, R: RegexEngine, N: Walk<'a>>(
     sink: &mut ErrorSink<'a>,
 ) -> Result<(), Stop>
     ensures { Walks result sink.old sink.new ctx.old ctx.new
-        (of_match R.answers R.costs N.means N.first N.report ctx.old.answer pattern.now
+        (λ u. of_match R.answers R.costs N.means N.first N.report u pattern.now
         subschema.now name.now (view value.now) (path_at trail.now)) }
 {
     if !matches(pattern, name, ctx) {

@@ -73,7 +73,7 @@ fn walk_properties<'a, N: Walk<'a> + 'a>(
     sink: &mut ErrorSink<'a>,
 ) -> Result<(), Stop>
     ensures { Walks result sink.old sink.new ctx.old ctx.new
-        (of_properties N.means N.first N.report ctx.old.answer properties.entry
+        (λ u. of_properties N.means N.first N.report u properties.entry
         (subject_data node.entry) (path_at trail.now)) }
 {
     match node.as_object() {
@@ -93,7 +93,7 @@ fn walk_members<'a, N: Walk<'a> + 'a>(
     sink: &mut ErrorSink<'a>,
 ) -> Result<(), Stop>
     ensures { Walks result sink.old sink.new ctx.old ctx.new
-        (of_properties N.means N.first N.report ctx.old.answer properties.entry
+        (λ u. of_properties N.means N.first N.report u properties.entry
         (object_of members.now.entries) (path_at trail.now)) }
 {
     if members.len() / 2 < properties.len() {
@@ -113,7 +113,7 @@ fn walk_each_member<'a, N: Walk<'a> + 'a>(
     sink: &mut ErrorSink<'a>,
 ) -> Result<(), Stop>
     ensures { Walks result sink.old sink.new ctx.old ctx.new
-        (of_declared N.means N.first N.report ctx.old.answer (members_declared properties.entry
+        (λ u. of_declared N.means N.first N.report u (members_declared properties.entry
         (listed (members_view members.now.entries))) (path_at trail.now)) }
 {
     let mut hint = 0;
@@ -137,7 +137,7 @@ fn walk_if_declared<'a, N: Walk<'a>>(
     sink: &mut ErrorSink<'a>,
 ) -> Result<(), Stop>
     ensures { Walks result sink.old sink.new ctx.old ctx.new
-        (of_branches N.means N.first N.report ctx.old.answer
+        (λ u. of_branches N.means N.first N.report u
         (option_to_list (option_copied declared.entry)) (view value.now)
         (one_below (path_at trail.now) name.now)) }
 {
@@ -157,7 +157,7 @@ fn walk_each_name<'a, N: Walk<'a> + 'a>(
     sink: &mut ErrorSink<'a>,
 ) -> Result<(), Stop>
     ensures { Walks result sink.old sink.new ctx.old ctx.new
-        (of_properties N.means N.first N.report ctx.old.answer properties.entry
+        (λ u. of_properties N.means N.first N.report u properties.entry
         (object_of members.now.entries) (path_at trail.now)) }
 {
     for (name, subschema, value) in DeclaredMembers::of(properties, members) {
@@ -177,7 +177,7 @@ pub(crate) fn walk_below<'a, N: Walk<'a>>(
     sink: &mut ErrorSink<'a>,
 ) -> Result<(), Stop>
     ensures { Walks result sink.old sink.new ctx.old ctx.new
-        (of_node N.means N.first N.report ctx.old.answer subschema.now (view value.now)
+        (λ u. of_node N.means N.first N.report u subschema.now (view value.now)
         (one_below (path_at trail.now) name.now)) }
 {
     let below = Trail::Below(&*trail, name);

@@ -43,7 +43,7 @@ fn walk_chosen<'a, N: Walk<'a>>(
 ) -> Result<(), Stop>
     requires { subject_data object ≡ object_of members.now.entries }
     ensures { Walks result sink.old sink.new ctx.old ctx.new
-        (of_branches N.means N.first N.report ctx.old.answer
+        (λ u. of_branches N.means N.first N.report u
         (chosen_nodes (named dependencies.now) (subject_data object.entry))
         (subject_data object.entry) (path_at trail.now)) }
 {
@@ -63,7 +63,7 @@ fn walk_choice<'a, N: Walk<'a>>(
     sink: &mut ErrorSink<'a>,
 ) -> Result<(), Stop>
     ensures { Walks result sink.old sink.new ctx.old ctx.new
-        (of_branches N.means N.first N.report ctx.old.answer
+        (λ u. of_branches N.means N.first N.report u
         (chosen_at choices.now (view value.now)) (subject_data object.entry) (path_at trail.now)) }
 {
     match choices.chosen_by(value) {

@@ -62,7 +62,7 @@ fn walk_names<'a, N: Walk<'a>>(
 ) -> Result<(), Stop>
     requires { subject_data object ≡ object_of members.now.entries }
     ensures { Walks result sink.old sink.new ctx.old ctx.new
-        (of_asked_names N.means N.first N.report ctx.old.answer subschema.now
+        (λ u. of_asked_names N.means N.first N.report u subschema.now
         (subject_data object.entry) (path_at trail.now)) }
 {
     for (name, _) in members {
@@ -81,7 +81,7 @@ fn walk_name<'a, N: Walk<'a>>(
     sink: &mut ErrorSink<'a>,
 ) -> Result<(), Stop>
     ensures { Walks result sink.old sink.new ctx.old ctx.new
-        (of_asked_name N.means N.first N.report ctx.old.answer subschema.now
+        (λ u. of_asked_name N.means N.first N.report u subschema.now
         (subject_data object.entry) (string_bytes name.now) (path_at trail.now)) }
 {
     if sink.wants_one() {
@@ -102,7 +102,7 @@ fn take_first_of_name<'a, N: Walk<'a>>(
 ) -> Result<(), Stop>
     requires { wants_one sink.now ≡ true }
     ensures { Walks result sink.old sink.new ctx.old ctx.new
-        (of_asked_name N.means N.first N.report ctx.old.answer subschema.now
+        (λ u. of_asked_name N.means N.first N.report u subschema.now
         (subject_data object.entry) (string_bytes name.now) (path_at trail.now)) }
 {
     let name = name.as_str();
@@ -123,7 +123,7 @@ fn take_all_of_name<'a, N: Walk<'a>>(
 ) -> Result<(), Stop>
     requires { wants_one sink.now ≡ false }
     ensures { Walks result sink.old sink.new ctx.old ctx.new
-        (of_asked_name N.means N.first N.report ctx.old.answer subschema.now
+        (λ u. of_asked_name N.means N.first N.report u subschema.now
         (subject_data object.entry) (string_bytes name.now) (path_at trail.now)) }
 {
     let name = name.as_str();

@@ -18,7 +18,6 @@ use serde_json::{Map, Value};
 
 impl<'a> Walk<'a> for RequiredValidator {
     #[inline(never)]
-    #[tactic(auto, using(olk_check::proofs::Asked::only_same, crate::proofs::Sinks::walks_alone))]
     fn walk(
         &'a self,
         node: Subject<'_, 'a>,

@@ -254,10 +254,10 @@ module _ {R N : Type 0} (answers : R → Name → Says) (t : N → Bool → Data
 -- what is shown of the sides that it lends, at its place
 module _ {R N : Type 0} (answers : R → Name → Says) (costs : R → Bool) (t : N → Bool → Data → Path → Tree) (m : N → Data → Question) (b : Beside) (v : Data) (P : Path) where
   pub shows_lent : {S T : Sides R N} {r : Result ⊤ AllocError} {from to : EvaluationContext} (o : EvaluationResult) → S ≡ T
-      → Shows r from to (λ _. (P : Path) → IsShown (wanted_beside answers costs t m S b from.validation.answer v P from.path) (node_at P from.path (shown_of o)))
-      → Shows r from to (λ _. IsShown (wanted_beside answers costs t m T b from.validation.answer v P from.path) (node_at P from.path (shown_of o)))
+      → Shows r from to (λ u _. (P : Path) → IsShown (wanted_beside answers costs t m S b u v P from.path) (node_at P from.path (shown_of o)))
+      → Shows r from to (λ u _. IsShown (wanted_beside answers costs t m T b u v P from.path) (node_at P from.path (shown_of o)))
   shows_lent {from = from} o same h =
-      shows_weaker h (λ _ shown. subst (λ S. IsShown (wanted_beside answers costs t m S b from.validation.answer v P from.path) (node_at P from.path (shown_of o))) same (shown P))
+      shows_weaker h (λ u so _ shown. subst (λ S. IsShown (wanted_beside answers costs t m S b u v P from.path) (node_at P from.path (shown_of o))) same (shown P))
 
 -- what a validator shows that holds the same
 module _ {R N : Type 0} (answers : R → Name → Says) (costs : R → Bool) (t : N → Bool → Data → Path → Tree) (m : N → Data → Question) (v : Data) where
@@ -265,9 +265,9 @@ module _ {R N : Type 0} (answers : R → Name → Says) (costs : R → Bool) (t 
   held_wanted h u Q = ((additional_properties_answers answers costs h).tree m t u v Q, ((additional_properties_answers answers costs h).means m v).accepts u)
 
   pub shows_held : {h k : Held R N} {r : Result ⊤ AllocError} {from to : EvaluationContext} (o : EvaluationResult) → h ≡ k
-      → Shows r from to (λ _. IsShown (held_wanted h from.validation.answer from.path) (node_at h.location from.path (shown_of o)))
-      → Shows r from to (λ _. IsShown (held_wanted k from.validation.answer from.path) (node_at k.location from.path (shown_of o)))
-  shows_held {r = r} {from} {to} o = subst (λ k. Shows r from to (λ _. IsShown (held_wanted k from.validation.answer from.path) (node_at k.location from.path (shown_of o))))
+      → Shows r from to (λ u _. IsShown (held_wanted h u from.path) (node_at h.location from.path (shown_of o)))
+      → Shows r from to (λ u _. IsShown (held_wanted k u from.path) (node_at k.location from.path (shown_of o)))
+  shows_held {r = r} {from} {to} o = subst (λ k. Shows r from to (λ u _. IsShown (held_wanted k u from.path) (node_at k.location from.path (shown_of o))))
 
 -- ---- of what is no object
 

@@ -16,6 +16,8 @@ use Rattle.olk_evaluate.specs.Additional.{Found, Collects, CollectsMore, names_o
 use Rattle.olk_evaluate.specs.declared.additional_members.Collected.{Collected}
 use Rattle.olk_evaluate.specs.Shows.{Kept}
 use Rattle.olk_evaluate.proofs.Children.{shows_none, shows_both}
+use Rattle.olk_check.specs.Asks.{IsAnswer}
+use Rattle.olk_check.proofs.Asked.{answer_first, answer_then}
 use Rattle.olk_evaluate.proofs.Shows.{kept_then, as_before}
 
 abbrev pub nothing_found : Found
@@ -73,12 +75,12 @@ pub record Member (R N : Type 0) : Type 0 where
   pub name : Name
   pub value : Data
 
-module _ {R N : Type 0} (w : Member R N) where
+module _ {R N : Type 0} (w : Member R N) (u : Bool) where
   abbrev pub all_found : Found
-  all_found = member_found w.answers w.tree w.means w.asking.answer w.path w.sides w.named w.declared w.name w.value
+  all_found = member_found w.answers w.tree w.means u w.path w.sides w.named w.declared w.name w.value
 
   abbrev wanted_of : List N → List Wanted
-  wanted_of = nodes_wanted w.tree w.means w.asking.answer w.path w.name w.value
+  wanted_of = nodes_wanted w.tree w.means u w.path w.name w.value
 
   -- what is declared at its name
   abbrev pub declared_here : Found
@@ -101,7 +103,7 @@ module _ {R N : Type 0} (w : Member R N) where
   }
 
   abbrev matching : ℕ → List (CompiledPattern R × N) → List N
-  matching i es = matching_from w.answers w.sides w.declared w.name w.asking.answer i es
+  matching i es = matching_from w.answers w.sides w.declared w.name u i es
 
   -- what is left from a pattern on
   abbrev pub patterns_left : Bool → ℕ → List (CompiledPattern R × N) → Found
@@ -141,7 +143,7 @@ module _ {R N : Type 0} (w : Member R N) where
 
   module _ (spoken : Bool) (i : ℕ) {es : List (CompiledPattern R × N)} where
     pub after_pattern : {e : CompiledPattern R × N} {more : List (CompiledPattern R × N)} {b : Bool} → es ≡ e ∷ more → b ≡ is_matched_by w.answers
-        w.sides w.declared w.name w.asking.answer i e.0 → both_found (match_here e.1 b) (patterns_left (spoken || b) (i + 1) more) ≡ patterns_left spoken i es
+        w.sides w.declared w.name u i e.0 → both_found (match_here e.1 b) (patterns_left (spoken || b) (i + 1) more) ≡ patterns_left spoken i es
     after_pattern {e} {more} {b} next is = match_or_not w.named spoken b e.1 (matching (i + 1) more)
         ∙ ap (λ c. left_with w.named spoken (put_if c e.1 (matching (i + 1) more))) is
         ∙ ap (patterns_left spoken i) (sym next)
@@ -155,16 +157,16 @@ module _ {R N : Type 0} (w : Member R N) where
 -- what is declared and the patterns before i are done
 pub record OnTheWay {R N : Type 0} (w : Member R N) (spoken : Bool) (i : ℕ) (P : Path) (b : Asking) (old new : Collected) (s r : Shown) : Type 0 where
   pub kept : Kept w.path P w.asking b
-  pub grows : Grows (all_found w) (patterns_left w spoken i (drop i w.sides.patterns)) old new s r
+  pub grows : (u : Bool) → IsAnswer w.asking b u → Grows (all_found w u) (patterns_left w u spoken i (drop i w.sides.patterns)) old new s r
 
 module _ {R N : Type 0} {w : Member R N} {s r : Shown} where
   pub declared_done : {spoken : Bool} {P : Path} {b : Asking} {old : Collected} → spoken ≡ is_some w.declared
-      → ShowsMore (nodes_wanted w.tree w.means w.asking.answer w.path w.name w.value (option_to_list (option_map (λ f. f.1) w.declared))) s r
+      → ((u : Bool) → IsAnswer w.asking b u → ShowsMore (nodes_wanted w.tree w.means u w.path w.name w.value (option_to_list (option_map (λ f. f.1) w.declared))) s r)
       → Kept w.path P w.asking b → OnTheWay w spoken 0 P b old old s r
   declared_done {old = old} is shown kept = record {
     kept = kept;
-    grows = grows_more (declared_here w) (ap (λ s. both_found (declared_here w) (patterns_left w s 0 w.sides.patterns)) is ∙ after_declared w) (record { goes_on = λ end q k. k })
-        (record { additional = sym (append-nil (names_of old.additional.items)); matched = sym (append-nil (names_of old.matched.items)); shown = shown });
+    grows = λ u so. grows_more (declared_here w u) (ap (λ s. both_found (declared_here w u) (patterns_left w u s 0 w.sides.patterns)) is ∙ after_declared w u) (record { goes_on = λ end q k. k })
+        (record { additional = sym (append-nil (names_of old.additional.items)); matched = sym (append-nil (names_of old.matched.items)); shown = shown u so });
   }
 
   module _ {spoken : Bool} {i : ℕ} {P : Path} {b : Asking} {old new : Collected} (loop : OnTheWay w spoken i P b old new s r) where
@@ -176,31 +178,31 @@ module _ {R N : Type 0} {w : Member R N} {s r : Shown} where
 
     pub pattern_done : {e : CompiledPattern R × N} {known : Says} {matches : Bool} {S : Path} {c : Asking} {newer : Collected} {q : Shown}
         → drop i w.sides.patterns ≡ e ∷ drop (i + 1) w.sides.patterns → known ≡ known_at w.sides w.declared i
-        → matches ≡ reads_as b.answer (known_or known (pattern_answers w.answers e.0 w.name))
-        → ShowsMore (nodes_wanted w.tree w.means b.answer P w.name w.value (put_if matches e.1 [])) r q
+        → ((u : Bool) → IsAnswer b c u → matches ≡ reads_as u (known_or known (pattern_answers w.answers e.0 w.name)))
+        → ((u : Bool) → IsAnswer b c u → ShowsMore (nodes_wanted w.tree w.means u P w.name w.value (put_if matches e.1 [])) r q)
         → newer.additional.items ≡ new.additional.items → names_of newer.matched.items ≡ names_of new.matched.items ++ cond (matches && w.named) (w.name ∷ []) []
         → Kept P S b c → OnTheWay w (spoken || matches) (i + 1) S c old newer s q
     pattern_done {e} {known} {matches} {q = q} next is verdict found same names kept = record {
       kept = kept_then loop.kept kept;
-      grows = grows_more (match_here w e.1 matches)
-          (after_pattern w spoken i next (verdict ∙ (λ j. reads_as (loop.kept.only.answer j) (known_or (is j) (pattern_answers w.answers e.0 w.name)))))
-          loop.grows (record {
+      grows = λ u so. let now = answer_then loop.kept.only kept.only so in grows_more (match_here w u e.1 matches)
+          (after_pattern w u spoken i next (verdict u now ∙ (λ j. reads_as u (known_or (is j) (pattern_answers w.answers e.0 w.name)))))
+          (loop.grows u (answer_first loop.kept.only kept.only so)) (record {
             additional = ap names_of same ∙ sym (append-nil (names_of new.additional.items));
             matched = names ∙ ap (λ l. names_of new.matched.items ++ l) (name_if w.named matches);
-            shown = as_before (λ u Q. ShowsMore (nodes_wanted w.tree w.means u Q w.name w.value (put_if matches e.1 [])) r q) loop.kept found;
+            shown = as_before (λ Q. ShowsMore (nodes_wanted w.tree w.means u Q w.name w.value (put_if matches e.1 [])) r q) loop.kept (found u now);
           });
     }
 
-    pub patterns_done : drop i w.sides.patterns ≡ [] → spoken ≡ true → CollectsMore (all_found w) old new s r
-    patterns_done none is = grows_last nothing_found (spoken_of w spoken i none is) loop.grows (collects_nothing new r)
+    pub patterns_done : {u : Bool} → drop i w.sides.patterns ≡ [] → spoken ≡ true → IsAnswer w.asking b u → CollectsMore (all_found w u) old new s r
+    patterns_done {u} none is so = grows_last nothing_found (spoken_of w u spoken i none is) (loop.grows u so) (collects_nothing new r)
 
-    pub rest_done : {newer : Collected} {q : Shown} → drop i w.sides.patterns ≡ [] → spoken ≡ false
+    pub rest_done : {u : Bool} {newer : Collected} {q : Shown} → drop i w.sides.patterns ≡ [] → spoken ≡ false
         → names_of newer.additional.items ≡ names_of new.additional.items ++ w.name ∷ [] → newer.matched.items ≡ new.matched.items
-        → ShowsMore (nodes_wanted w.tree w.means b.answer P w.name w.value (option_to_list w.sides.rest)) r q → CollectsMore (all_found w) old newer s q
-    rest_done {q = q} none is name same found = grows_last (rest_here w) (left_to_rest w spoken i none is) loop.grows (record {
+        → IsAnswer w.asking b u → ShowsMore (nodes_wanted w.tree w.means u P w.name w.value (option_to_list w.sides.rest)) r q → CollectsMore (all_found w u) old newer s q
+    rest_done {u} {q = q} none is name same so found = grows_last (rest_here w u) (left_to_rest w u spoken i none is) (loop.grows u so) (record {
       additional = name;
       matched = ap names_of same ∙ sym (append-nil (names_of new.matched.items));
-      shown = as_before (λ u Q. ShowsMore (nodes_wanted w.tree w.means u Q w.name w.value (option_to_list w.sides.rest)) r q) loop.kept found;
+      shown = as_before (λ Q. ShowsMore (nodes_wanted w.tree w.means u Q w.name w.value (option_to_list w.sides.rest)) r q) loop.kept found;
     })
 
 -- what stands at a name, as it is lent and as it is

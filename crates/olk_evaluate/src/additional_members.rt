@@ -51,8 +51,8 @@ pub(crate) fn collect<'a, R: RegexEngine, N: Located<'a>>(
     ctx: &mut EvaluationContext,
     outcome: &mut EvaluationResult<'a>,
 ) -> Result<Collected<'a>, AllocError>
-    ensures { Shows result ctx.old ctx.new (λ c. Collects
-        (members_found R.answers N.tree N.means ctx.old.validation.answer ctx.old.path
+    ensures { Shows result ctx.old ctx.new (λ u c. Collects
+        (members_found R.answers N.tree N.means u ctx.old.path
         (sides_seen sides.entry) shows_matches
         (listed (members_view members.now.entries))) c
         (shown_of outcome.old) (shown_of outcome.new)) }
@@ -93,8 +93,8 @@ fn collect_member<'a, R: RegexEngine, N: Located<'a>>(
     outcome: &mut EvaluationResult<'a>,
     collected: &mut Collected<'a>,
 ) -> Result<(), AllocError>
-    ensures { Shows result ctx.old ctx.new (λ _. CollectsMore
-        (member_found R.answers N.tree N.means ctx.old.validation.answer ctx.old.path
+    ensures { Shows result ctx.old ctx.new (λ u _. CollectsMore
+        (member_found R.answers N.tree N.means u ctx.old.path
         (sides_seen sides.entry) shows_matches
         (option_map (λ f. (f.0, f.1.now)) declared.entry)
         member.entry.0.now (view member.entry.1.now))
@@ -123,8 +123,8 @@ fn show_declared<'a, N: Located<'a>>(
     ctx: &mut EvaluationContext,
     outcome: &mut EvaluationResult<'a>,
 ) -> Result<(), AllocError>
-    ensures { Shows result ctx.old ctx.new (λ _. ShowsMore
-        (nodes_wanted N.tree N.means ctx.old.validation.answer ctx.old.path
+    ensures { Shows result ctx.old ctx.new (λ u _. ShowsMore
+        (nodes_wanted N.tree N.means u ctx.old.path
         member.entry.0.now (view member.entry.1.now)
         (option_to_list (option_map (λ f. f.1.now) declared.entry)))
         (shown_of outcome.old) (shown_of outcome.new)) }
@@ -144,10 +144,10 @@ fn show_if_matched<'a, R: RegexEngine, N: Located<'a>>(
     ctx: &mut EvaluationContext,
     outcome: &mut EvaluationResult<'a>,
 ) -> Result<bool, AllocError>
-    ensures { Shows result ctx.old ctx.new (λ b.
-        b ≡ reads_as ctx.old.validation.answer
+    ensures { Shows result ctx.old ctx.new (λ u b.
+        b ≡ reads_as u
         (known_or (known_says known) (pattern_answers R.answers entry.now.0 member.entry.0.now))
-        × ShowsMore (nodes_wanted N.tree N.means ctx.old.validation.answer ctx.old.path
+        × ShowsMore (nodes_wanted N.tree N.means u ctx.old.path
         member.entry.0.now (view member.entry.1.now) (put_if b entry.now.1 []))
         (shown_of outcome.old) (shown_of outcome.new)) }
 {
@@ -166,8 +166,8 @@ fn show_rest<'a, N: Located<'a>>(
     ctx: &mut EvaluationContext,
     outcome: &mut EvaluationResult<'a>,
 ) -> Result<(), AllocError>
-    ensures { Shows result ctx.old ctx.new (λ _. ShowsMore
-        (nodes_wanted N.tree N.means ctx.old.validation.answer ctx.old.path
+    ensures { Shows result ctx.old ctx.new (λ u _. ShowsMore
+        (nodes_wanted N.tree N.means u ctx.old.path
         member.entry.0.now (view member.entry.1.now) (option_to_list (option_copied rest.entry)))
         (shown_of outcome.old) (shown_of outcome.new)) }
 {

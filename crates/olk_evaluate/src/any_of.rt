@@ -63,8 +63,8 @@ pub(crate) fn show_accepting<'a, N: Located<'a>>(
     outcome: &mut EvaluationResult<'a>,
 ) -> Result<usize, AllocError>
     requires { shown_of outcome.old ≡ nothing_shown }
-    ensures { Shows result ctx.old ctx.new (λ count. ShowsAccepting
-        N.tree N.means ctx.old.validation.answer
+    ensures { Shows result ctx.old ctx.new (λ u count. ShowsAccepting
+        N.tree N.means u
         schemas.now.items (subject_data node.entry) ctx.old.path count (shown_of outcome.new)) }
 {
     for schema in schemas {

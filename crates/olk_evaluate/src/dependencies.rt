@@ -76,8 +76,8 @@ fn show_due<'a, N: Located<'a>>(
     ctx: &mut EvaluationContext,
     outcome: &mut EvaluationResult<'a>,
 ) -> Result<(), AllocError>
-    ensures { Shows result ctx.old ctx.new (λ _. ShowsMore
-        (each_wanted N.tree N.means ctx.old.validation.answer
+    ensures { Shows result ctx.old ctx.new (λ u _. ShowsMore
+        (each_wanted N.tree N.means u
         (due_nodes (named dependencies.now) (subject_data node.entry))
         (subject_data node.entry) ctx.old.path)
         (shown_of outcome.old) (shown_of outcome.new)) }

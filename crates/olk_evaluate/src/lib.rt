@@ -57,8 +57,8 @@ pub trait Show<'a>: Check {
         outcome: &mut EvaluationResult<'a>,
     ) -> Result<(), AllocError>
         requires { shown_of outcome.old ≡ nothing_shown }
-        ensures { Shows result ctx.old ctx.new (λ _. IsShown
-            (wanted tree Self.means ctx.old.validation.answer
+        ensures { Shows result ctx.old ctx.new (λ u _. IsShown
+            (wanted tree Self.means u
             self.now (subject_data node.entry) ctx.old.path)
             (node_at (place self.now) ctx.old.path (shown_of outcome.new))) };
 }
@@ -78,7 +78,7 @@ pub trait Evaluate<'a>: Show<'a> {
     ghost use Rattle.olk_base.specs.Nodes.{data_of};
     ghost use Rattle.olk_spec.specs.Tree.{IsLikeTree, is_valid};
     ghost use Rattle.olk_reports.specs.Evaluations.{node_at, shown_of};
-    ghost use Rattle.olk_check.specs.Asks.{OnlyAsks};
+    ghost use Rattle.olk_check.specs.Asks.{OnlyAsks, IsCertain};
 
     /// What it shows of the node: the validity, an annotation, errors of its own and the nodes
     /// below, in order (JSON Schema 2020-12 Core, 7.7 and 12).
@@ -103,7 +103,9 @@ pub trait Evaluate<'a>: Show<'a> {
             is_valid (node_at (Self.place self.now) path.old (shown_of r))
             ≡ (Self.means self.now (data_of node.entry)).accepts ctx.old.answer) }
         ensures path { path.new ≡ path.old }
-        ensures context { OnlyAsks ctx.old ctx.new };
+        ensures context { OnlyAsks ctx.old ctx.new }
+        ensures certain { IfOk result (λ _. IsCertain ctx.old ctx.new
+            (Self.means self.now (data_of node.entry)).accepts) };
 }
 
 impl<'a, S: Show<'a>> Evaluate<'a> for S {

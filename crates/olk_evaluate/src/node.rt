@@ -114,8 +114,8 @@ pub fn show_body<'a, W: Located<'a>>(
     outcome: &mut EvaluationResult<'a>,
 ) -> Result<(), AllocError>
     requires { shown_of outcome.old ≡ nothing_shown }
-    ensures { Shows result ctx.old ctx.new (λ _. ShowsBody
-        W.tree W.means ctx.old.validation.answer
+    ensures { Shows result ctx.old ctx.new (λ u _. ShowsBody
+        W.tree W.means u
         body.now (subject_data node.entry) ctx.old.path (shown_of outcome.new)) }
 {
     match body {

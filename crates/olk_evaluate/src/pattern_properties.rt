@@ -74,9 +74,9 @@ fn show_matched<'a, R: RegexEngine, N: Located<'a>>(
     ctx: &mut EvaluationContext,
     outcome: &mut EvaluationResult<'a>,
 ) -> Result<(), AllocError>
-    ensures { Shows result ctx.old ctx.new (λ _. MeetsMore
-        (wanted_at N.tree N.means ctx.old.validation.answer ctx.old.path)
-        (matches_of R.answers ctx.old.validation.answer
+    ensures { Shows result ctx.old ctx.new (λ u _. MeetsMore
+        (wanted_at N.tree N.means u ctx.old.path)
+        (matches_of R.answers u
         pattern.now subschema.now (object_of members.now.entries))
         (shown_of outcome.old) (shown_of outcome.new)) }
 {

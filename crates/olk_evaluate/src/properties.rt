@@ -98,11 +98,11 @@ fn show_properties<'a, N: Located<'a> + 'a>(
     outcome: &mut EvaluationResult<'a>,
 ) -> Result<(), AllocError>
     requires { shown_of outcome.old ≡ nothing_shown }
-    ensures { Shows result ctx.old ctx.new (λ _. (P : Path) → IsShown (
-      properties_tree (λ n. N.tree n ctx.old.validation.answer) (subject_data node.entry)
+    ensures { Shows result ctx.old ctx.new (λ u _. (P : Path) → IsShown (
+      properties_tree (λ n. N.tree n u) (subject_data node.entry)
           ctx.old.path P properties.entry [],
       (properties_mean N.means properties.entry (subject_data node.entry)).accepts
-          ctx.old.validation.answer,
+          u,
     )
         (node_at P ctx.old.path (shown_of outcome.new))) }
 {
@@ -131,11 +131,11 @@ fn show_declared_members<'a, N: Located<'a> + 'a>(
     outcome: &mut EvaluationResult<'a>,
 ) -> Result<(), AllocError>
     requires { shown_of outcome.old ≡ nothing_shown }
-    ensures { Shows result ctx.old ctx.new (λ _. HasMet
-        (wanted_at N.tree N.means ctx.old.validation.answer ctx.old.path)
+    ensures { Shows result ctx.old ctx.new (λ u _. HasMet
+        (wanted_at N.tree N.means u ctx.old.path)
         (members_declared properties.entry (listed (members_view members.now.entries)))
         ((properties_mean N.means properties.entry
-        (object_of members.now.entries)).accepts ctx.old.validation.answer)
+        (object_of members.now.entries)).accepts u)
         (shown_of outcome.new)) }
 {
     make_room(members.len().min(properties.len()), outcome)?;
@@ -153,8 +153,8 @@ pub(crate) fn show_member<'a, N: Located<'a>>(
     ctx: &mut EvaluationContext,
     outcome: &mut EvaluationResult<'a>,
 ) -> Result<(), AllocError>
-    ensures { Shows result ctx.old ctx.new (λ _. MeetsMore
-        (wanted_at N.tree N.means ctx.old.validation.answer ctx.old.path)
+    ensures { Shows result ctx.old ctx.new (λ u _. MeetsMore
+        (wanted_at N.tree N.means u ctx.old.path)
         (declared_as member.entry.0.now subschema.now (view member.entry.1.now))
         (shown_of outcome.old) (shown_of outcome.new)) }
 {
@@ -170,8 +170,8 @@ pub(crate) fn add_child_below<'a, N: Located<'a>>(
     ctx: &mut EvaluationContext,
     outcome: &mut EvaluationResult<'a>,
 ) -> Result<(), AllocError>
-    ensures { Shows result ctx.old ctx.new (λ _. ShowsMore
-        (wanted N.tree N.means ctx.old.validation.answer
+    ensures { Shows result ctx.old ctx.new (λ u _. ShowsMore
+        (wanted N.tree N.means u
         subschema.now (view member.entry.1.now) (one_below ctx.old.path member.entry.0.now) ∷ [])
         (shown_of outcome.old) (shown_of outcome.new)) }
 {

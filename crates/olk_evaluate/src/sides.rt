@@ -72,9 +72,9 @@ pub(crate) fn show_sides<'a, R: RegexEngine, N: Located<'a>>(
 ) -> Result<(), AllocError>
     requires nothing { shown_of outcome.old ≡ nothing_shown }
     requires expects { (has_neighbours beside || is_some (sides_seen sides).rest) ≡ true }
-    ensures { Shows result ctx.old ctx.new (λ _. (P : Path) → IsShown
+    ensures { Shows result ctx.old ctx.new (λ u _. (P : Path) → IsShown
         (wanted_beside R.answers R.costs N.tree N.means (sides_seen sides.entry) beside.entry
-        ctx.old.validation.answer (subject_data node.entry) P ctx.old.path)
+        u (subject_data node.entry) P ctx.old.path)
         (node_at P ctx.old.path (shown_of outcome.new))) }
 {
     let Some(members) = node.as_object() else {

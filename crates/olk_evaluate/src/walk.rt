@@ -19,8 +19,8 @@ pub(crate) fn add_child<'a, N: Located<'a>>(
     ctx: &mut EvaluationContext,
     outcome: &mut EvaluationResult<'a>,
 ) -> Result<(), AllocError>
-    ensures { Shows result ctx.old ctx.new (λ _. ShowsMore
-        (wanted N.tree N.means ctx.old.validation.answer
+    ensures { Shows result ctx.old ctx.new (λ u _. ShowsMore
+        (wanted N.tree N.means u
         schema.now (subject_data node.entry) ctx.old.path ∷ [])
         (shown_of outcome.old) (shown_of outcome.new)) }
 {
@@ -54,8 +54,8 @@ pub(crate) fn show_each<'a, N: Located<'a>>(
     ctx: &mut EvaluationContext,
     outcome: &mut EvaluationResult<'a>,
 ) -> Result<(), AllocError>
-    ensures { Shows result ctx.old ctx.new (λ _. ShowsMore
-        (each_wanted N.tree N.means ctx.old.validation.answer
+    ensures { Shows result ctx.old ctx.new (λ u _. ShowsMore
+        (each_wanted N.tree N.means u
         schemas.now.items (subject_data node.entry) ctx.old.path)
         (shown_of outcome.old) (shown_of outcome.new)) }
 {
@@ -73,8 +73,8 @@ pub(crate) fn show_one<'a, N: Located<'a>>(
     ctx: &mut EvaluationContext,
     outcome: &mut EvaluationResult<'a>,
 ) -> Result<(), AllocError>
-    ensures { Shows result ctx.old ctx.new (λ _. ShowsMore
-        (wanted N.tree N.means ctx.old.validation.answer
+    ensures { Shows result ctx.old ctx.new (λ u _. ShowsMore
+        (wanted N.tree N.means u
         schema.now (subject_data node.entry) ctx.old.path ∷ [])
         (shown_of outcome.old) (shown_of outcome.new)) }
 {

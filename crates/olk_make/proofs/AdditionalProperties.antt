@@ -3,7 +3,7 @@ use Rattle.std.specs.Prelude.{◌≡◌, ◌<◌, ℕ, suc, Bool, true, false, n
 use Rattle.std.specs.Ordering.{nat_cmp, is_eq}
 use Rattle.std.specs.Cmp.Lexicographic.{slice_cmp}
 use Rattle.std.proofs.Common.{refl, sym, ◌∙◌, ap, subst, arith}
-use Rattle.std.proofs.lemmas.List.{append-nil}
+use Rattle.std.proofs.lemmas.List.{append-nil, length-map}
 use Rattle.std.proofs.lemmas.Map.Text.{is_eq-slice_cmp}
 use mathlib.Core.Bool.{true≢false}
 use Rattle.serde_json.specs.Data.{Data, boolean, Members}
@@ -15,19 +15,25 @@ use Rattle.olk_spec.specs.Malformed.{has_repeat}
 use Rattle.olk_spec.specs.Meaning.{meaning_step}
 use Rattle.olk_spec.specs.Tree.{Tree}
 use Rattle.olk_spec.proofs.Truth.{and_from}
+use Rattle.olk_spec.proofs.Maps.{is_some-map}
 use Rattle.olk_base.specs.Kit.{Kit}
 use Rattle.olk_base.specs.Compiled.{pattern_answers}
 use Rattle.olk_base.specs.declared.pattern.CompiledPattern.{CompiledPattern}
 use Rattle.olk_meaning.specs.AdditionalProperties.{entries_in, declared_beside, declares_beside, matches_beside}
-use Rattle.olk_meaning.specs.Conditions.{is_restriction, is_restricted, known_of}
+use Rattle.olk_meaning.specs.Conditions.{Known, is_restriction, is_restricted, known_of}
 use Rattle.olk_meaning.specs.Fused.{fused_one}
-use Rattle.olk_meaning.specs.Members.{member_report}
+use Rattle.olk_meaning.specs.Chosen.{size_for, restriction_form, standing_step, validators}
+use Rattle.olk_meaning.specs.Members.{member_report, member_standing}
 use Rattle.std.specs.List.{flat_map, list_all, zip}
 use Rattle.olk_meaning.specs.Plans.{Planned, plan_of, head, claims}
-use Rattle.olk_meaning.proofs.AdditionalPlaces.{allowing_means_nothing}
+use Rattle.olk_meaning.proofs.AdditionalPlaces.{either_way, true_allows, allowing_means_nothing}
 use Rattle.olk_meaning.proofs.Claims.{claims_itself, heads_elsewhere}
 use Rattle.olk_meaning.proofs.Heads.{names_of}
 use Rattle.olk_meaning.proofs.OneFused.{clean_one_fused}
+use Rattle.olk_meaning.proofs.Conditions.{restricted_read}
+use Rattle.olk_meaning.proofs.PropertyNames.{false_is_no_object}
+use Rattle.olk_meaning.proofs.Standing as standing
+use Rattle.olk_meaning.proofs.Standing.{each_placed, size_declared}
 use Rattle.olk_meaning.proofs.TakenOver.{fuses_one_name, free_takes_nothing}
 use Rattle.olk_tree.specs.Additional.{Held, placed, mapped_places, patterns_in, known_by, required_text, required_place}
 use Rattle.olk_tree.specs.Holdings.{held}
@@ -46,7 +52,7 @@ use Rattle.olk_tree.specs.Answers.{Answers}
 use Rattle.olk_tree.specs.Places.{Stands}
 use Rattle.olk_read.specs.declared.shape.Shape.TheVariants as shape
 use Rattle.olk_make.specs.Forms.{IsMapOf, IsRestriction, HasMapFor, IsFormOfAdditionalProperties, IsAdditionalProperties}
-use Rattle.olk_make.specs.Holding.{StandEach, which}
+use Rattle.olk_make.specs.Holding.{StandEach, which, all_malformed}
 use Rattle.olk_make.specs.Making.{KeywordsMean, MakesRestriction, MakesPart}
 use Rattle.olk_make.specs.Standing.{Fills, EntriesStand, DeclaredStand, PatternsStand, RestStands, BesideStands}
 use Rattle.olk_make.specs.declared.part.Beside.{Beside}
@@ -54,18 +60,18 @@ use Rattle.olk_make.specs.declared.part.DeclaredNodes.{DeclaredNodes}
 use Rattle.olk_make.specs.declared.part.Patterns.{Patterns}
 use Rattle.olk_make.specs.declared.part.Taken.{Taken}
 use Rattle.olk_make.proofs.Together.{MeanClaim, claim_by_name, means_nothing}
-use Rattle.olk_make.proofs.Entries.{Rows, AnswerEach, each_count, last_stands, schema_answers, schemas_answer}
-use Rattle.olk_make.proofs.Formed.{has_form, is_formed, just_one_formed, each_keys, each_nodes, each_held_formed, map_zipped, map_formed, entry_formed, case_formed}
+use Rattle.olk_make.proofs.PatternProperties.{all_formed}
+use Rattle.olk_spec.proofs.Maps.{is_some-map}
+use Rattle.olk_make.proofs.Entries.{AnswerEach, each_count, last_stands, schemas_answer}
+use Rattle.olk_meaning.specs.Told.{schema_answers}
+use Rattle.olk_meaning.proofs.Rows.{Rows}
+use Rattle.olk_make.proofs.Formed.{has_form, is_formed, just_one_formed, each_keys, each_nodes, each_held_formed, map_zipped, map_formed, entry_formed, case_formed, stand_in, stand_as, each_held_placed, map_sized, entries_placed}
 use Rattle.olk_tree.specs.AdditionalProperties.{additional_properties_answers}
-use Rattle.olk_tree.specs.Formed.{is_map_formed, names_beside, is_table_formed}
+use Rattle.olk_tree.specs.Formed.{is_map_formed, size_of, names_beside, is_table_formed}
 use Rattle.olk_tree.specs.Validators.{answers_of}
 use Rattle.olk_tree.proofs.Formed.{table_formed}
 use Rattle.std.specs.Option.{option_map_or}
 use Rattle.std.proofs.Math.Bool.{or-true, and-true}
-
-either_way : {X : Type 0} (b : Bool) (x : X) → cond b x x ≡ x
-either_way true x = refl
-either_way false x = refl
 
 -- ---- names that ascend are distinct
 
@@ -109,7 +115,7 @@ module _ {K R N : Type 0} (o : Kit K R) (answers : N → Answers) where
   rest_answers None d L h = h
   rest_answers (Some n) d L h = (h.0, answers_as n d L h.1)
 
-  -- ---- what stands zip it
+  -- ---- what stands beside it
 
   -- a map stands for what `properties` declares at L
   record DeclaredSide (x : Option (PropertiesMap N)) (a : Option Data) (L : Path) : Type 0 where
@@ -124,7 +130,7 @@ module _ {K R N : Type 0} (o : Kit K R) (answers : N → Answers) where
     all_mapped : mapped m ≡ zip (keys_in (members d)) b.nodes.items
     all_mapped = map_zipped b.names b.nodes.items m form.0 ∙ ap (λ ks. zip ks b.nodes.items) h.names
 
-    each : AnswerEach o answers (schema_answers o answers) b.nodes.items (members d) L
+    each : AnswerEach o answers (schema_answers o.world) b.nodes.items (members d) L
     each = schemas_answer o answers b.nodes.items (members d) L h.nodes
 
     keys : keys_in (mapped m) ≡ keys_in (members d)
@@ -242,7 +248,7 @@ module _ {K R N : Type 0} (o : Kit K R) (answers : N → Answers) where
     }
     patterns_side m declares _ _ L h = absurd h
 
-  -- ---- the form of what stands zip it
+  -- ---- the form of what stands beside it
 
   declared_names : (b : Option (DeclaredNodes N)) (x : Option (PropertiesMap N)) (a : Option Data) (L : Path) → IsMapOf b x → Fills (λ m. DeclaredStand o answers m L) b a
       → names_beside x ≡ keys_in (entries_in a)
@@ -262,11 +268,6 @@ module _ {K R N : Type 0} (o : Kit K R) (answers : N → Answers) where
   declared_formed (Some b) None a L form h = absurd form
   declared_formed _ x _ L form h = absurd h
 
-  kept_formed : (ps : List (CompiledPattern R × N)) (es : Rows) (L : Path) → EntriesStand o answers ps es L → list_all (entry_formed o answers) ps ≡ true
-  kept_formed [] [] L h = refl
-  kept_formed (p ∷ ps) (e ∷ es) L h = and_from (entry_formed o answers p) (list_all (entry_formed o answers) ps) h.1.formed (kept_formed ps es L h.2)
-  kept_formed _ _ L h = absurd h
-
   module _ (ms : Members) (restricted : is_restricted ms ≡ true) where
     table_beside_formed : (m : Option (PropertiesMap N)) (x : Option (Patterns R N)) (a : Option Data) (L : Path) → names_beside m ≡ keys_in (declared_beside ms)
         → Fills (λ x. PatternsStand o answers (known_of ms) x L) x a
@@ -280,12 +281,36 @@ module _ {K R N : Type 0} (o : Kit K R) (answers : N → Answers) where
     entries_formed : (x : Option (Patterns R N)) (a : Option Data) (L : Path) → Fills (λ x. PatternsStand o answers (known_of ms) x L) x a
         → list_all (entry_formed o answers) (patterns_in (option_map entries x)) ≡ true
     entries_formed None a L h = refl
-    entries_formed (Some x) (Some d) L h = kept_formed x.patterns.items (members d) L h.entries
+    entries_formed (Some x) (Some d) L h = all_formed o answers x.patterns.items (members d) L h.entries
     entries_formed (Some x) None L h = absurd h
 
   rest_formed : (x : Option N) (d : Data) (L : Path) → RestStands o answers x d L → case_formed o answers x ≡ true
   rest_formed None d L h = refl
   rest_formed (Some n) d L h = h.1.formed
+
+  -- ---- what stands beside it
+
+  declared_placed : (b : Option (DeclaredNodes N)) (x : Option (PropertiesMap N)) (a : Option Data) (L : Path) → IsMapOf b x → Fills (λ m. DeclaredStand o answers m L) b a
+      → (option_map size_of x ≡ size_declared o.world a) × (option_map_or (λ m. flat_map (stand_in o answers) (nodes_in (mapped m))) x [] ≡ each_placed o.world L (entries_in a))
+  declared_placed None None None L form h = (refl, refl)
+  declared_placed (Some b) (Some m) (Some d) L form h = (
+    ap Some (map_sized m (length b.names) form.1 ∙ ap (λ ks. size_for (length ks)) h.names ∙ ap size_for (length-map (members d) (λ e. e.0))),
+    each_held_placed o answers (mapped m) _ _ _ (all_mapped b m d L form h) _ (each b m d L form h),
+  )
+  declared_placed None (Some m) a L form h = absurd form
+  declared_placed (Some b) None a L form h = absurd form
+  declared_placed _ x _ L form h = absurd h
+
+  matched_placed : (c : Known) (x : Option (Patterns R N)) (a : Option Data) (L : Path) → Fills (λ x. PatternsStand o answers c x L) x a
+      → flat_map (λ e. stand_in o answers e.1) (patterns_in (option_map entries x)) ≡ each_placed o.world L (entries_in a)
+  matched_placed c None None L h = refl
+  matched_placed c (Some x) (Some d) L h = entries_placed o answers x.patterns.items (members d) L h.entries
+  matched_placed c _ _ L h = absurd h
+
+  rest_there : (x : Option N) (d : Data) (L : Path) → RestStands o answers x d L
+      → (is_some x ≡ is_object d) × (option_map_or (stand_in o answers) x [] ≡ cond (is_object d) (validators o.world d L) [])
+  rest_there None d L h = (sym (false_is_no_object d h), ap (λ b. cond b (validators o.world d L) []) (sym (false_is_no_object d h)))
+  rest_there (Some n) d L h = (sym h.0, h.1.forms ∙ ap (λ b. cond b (validators o.world d L) []) (sym h.0))
 
   -- ---- the name that is fused
 
@@ -315,12 +340,7 @@ module _ {K R N : Type 0} (o : Kit K R) (answers : N → Answers) where
     matched_side = patterns_side ms restricted form.0 map_side.there b.patterns _ _ stands.1
 
     patterns_there : is_some b.patterns ≡ matches_beside ms
-    patterns_there = filled_there b.patterns _ stands.1
-      where
-        filled_there : (x : Option (Patterns R N)) (a : Option Data) → Fills (λ x. PatternsStand o answers (known_of ms) x (P // codes "patternProperties")) x a → is_some x ≡ is_some a
-        filled_there None None h = refl
-        filled_there (Some x) (Some d) h = refl
-        filled_there _ _ h = absurd h
+    patterns_there = is_some-map entries b.patterns ∙ matched_side.there
 
     all_fused : fused_alone rest form.0 b.patterns (fused_one ms) ≡ fused_one ms
     all_fused = alone_fused rest form.0 b.patterns (fused_one ms) (λ t e.
@@ -358,6 +378,19 @@ module _ {K R N : Type 0} (o : Kit K R) (answers : N → Answers) where
         (entries_formed ms restricted b.patterns _ _ stands.1))
         (rest_formed rest d L rest_stands)
 
+    restriction_placed : all_malformed o ms P (listed ms) ≡ [] → flat_map (stand_as o answers) (keyword.AdditionalProperties k ∷ []) ≡ flat_map (λ m. member_standing o.world ms m (which o ms m) P) ((codes "additionalProperties", d) ∷ [])
+    unfolding answers_of
+    restriction_placed clean =
+        append-nil (stand_as o answers (keyword.AdditionalProperties k)) ∙ ap (λ h. (additional_properties_answers o.answers o.costs h).forms (stand_in o answers)) all_held
+        ∙ (λ i. (
+          place i,
+          restriction_form ((rest_there rest d L rest_stands).0 i) ((declared_placed b.properties form.0 _ _ form.1 stands.0).0 i) (matched_side.there i)
+              ((ap (λ n. is_some (required_at P n)) all_fused ∙ sym (is_some-map (λ t. (t, P // codes "required")) (fused_one ms))) i),
+        )
+        ∷ ((declared_placed b.properties form.0 _ _ form.1 stands.0).1 i ++ matched_placed (known_of ms) b.patterns _ _ stands.1 i
+        ++ ((rest_there rest d L rest_stands).1 ∙ ap (λ M. cond (is_object d) (validators o.world d M) []) place) i))
+        ∙ sym (append-nil _ ∙ standing.restriction_stands o.world ms P d (is_some (fused_one ms)) (restricted_read (standing_step o.world) ms ∙ restricted) (clean_one_fused o.world ms P clean (standing_step o.world)))
+
     restriction_means : has_repeat (names_of (listed ms)) ≡ false → MeanClaim o answers ms (plan_of ms) (keyword.AdditionalProperties k ∷ []) (codes "additionalProperties", d) P
     restriction_means distinct = record {
       covers = record {
@@ -370,6 +403,7 @@ module _ {K R N : Type 0} (o : Kit K R) (answers : N → Answers) where
       shows =
           λ clean u v Q. restriction_shows o means report tree k restriction_stands distinct there restricted u v Q (clean_one_fused o.world ms P clean (meaning_step o.world u)) ∙ sym (append-nil _);
       formed = just_one_formed o answers (keyword.AdditionalProperties k) restriction_formed;
+      forms = restriction_placed;
     }
 
   restricted_there : (x : Option N) (d : Data) (L : Path) → RestStands o answers x d L → is_restriction (Some d) ≡ true
@@ -412,14 +446,10 @@ module _ {K R N : Type 0} (o : Kit K R) (answers : N → Answers) where
     -- of `true`
     pub part_of_any_others : MakesPart o answers shape.AnyOthers L ns t P p []
     part_of_any_others ms m place named fits stand cases zip distinct there chosen untaken =
-        let allows = allowed m.1 named.1 in
+        let allows = true_allows m.1 named.1 in
         claim_by_name o answers named.0 chosen place there (λ at_rest found.
         let free = ap is_restriction found ∙ allows in
         subst (λ rows. KeywordsMean o answers ms [] rows ((codes "additionalProperties", m.1) ∷ []) P)
         (sym (claims_itself ms distinct (head (plan_of ms)) (codes "additionalProperties", m.1)
         (heads_elsewhere (plan_of ms) (codes "additionalProperties") refl refl (λ e. (refl, refl)) (free_takes_nothing ms (codes "additionalProperties") free)) found))
         (means_nothing o answers ms P _ (allowing_means_nothing o.world ms m.1 allows free)))
-      where
-        allowed : (d : Data) → is_truth true d ≡ true → is_restriction (Some d) ≡ false
-        allowed (boolean true) e = refl
-        allowed d e = absurd (true≢false (sym e))

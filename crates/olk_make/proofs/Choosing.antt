@@ -60,7 +60,7 @@ module _ {K R N : Type 0} (o : Kit K R) (answers : N → Answers) where
   stand_length (n ∷ ns) (e ∷ es) P h = ap (λ k. suc k) (stand_length ns es P h.1)
   stand_length _ _ P h = absurd h
 
-  branches_length : (ns : List N) (d : Data) (P : Path) → StandEach o answers ns (numbered (items_of_array d)) P → length ns ≡ length (items_of_array d)
+  pub branches_length : (ns : List N) (d : Data) (P : Path) → StandEach o answers ns (numbered (items_of_array d)) P → length ns ≡ length (items_of_array d)
   branches_length ns d P h = stand_length ns (numbered (items_of_array d)) P h ∙ length-map (enumerate_from 0 (items_of_array d)) _ ∙ length-enumerate_from 0 (items_of_array d)
 
   zip_length : (ps : List (CompiledPattern R)) (ns : List N) (es : List (Name × Data)) (L : Path) → ArePatterns o ps es → StandEach o answers ns es L → length (zip ps ns) ≡ length es
@@ -69,13 +69,13 @@ module _ {K R N : Type 0} (o : Kit K R) (answers : N → Answers) where
   zip_length (p ∷ ps) (n ∷ ns) (e ∷ es) L h s = ap (λ k. suc k) (zip_length ps ns es L h.1 s.1)
   zip_length _ ns _ L h s = absurd h
 
-  entries_length : (ps : List (CompiledPattern R × N)) (es : List (Name × Data)) (L : Path) → EntriesStand o answers ps es L → length ps ≡ length es
+  pub entries_length : (ps : List (CompiledPattern R × N)) (es : List (Name × Data)) (L : Path) → EntriesStand o answers ps es L → length ps ≡ length es
   entries_length [] [] L h = refl
   entries_length (p ∷ ps) (e ∷ es) L h = ap (λ k. suc k) (entries_length ps es L h.2)
   entries_length _ _ L h = absurd h
 
 module _ {X : Type 0} (Means : X → Data → Type 0) where
-  filled_as : (t : Option X) (a : Option Data) → Fills Means t a → is_some t ≡ is_some a
+  pub filled_as : (t : Option X) (a : Option Data) → Fills Means t a → is_some t ≡ is_some a
   filled_as None None h = refl
   filled_as (Some n) (Some d) h = refl
   filled_as _ _ h = absurd h

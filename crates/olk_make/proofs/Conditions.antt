@@ -18,20 +18,24 @@ use Rattle.olk_spec.specs.Malformed.{has_repeat}
 use Rattle.olk_spec.specs.Meaning.{accepts, asks, report, tree}
 use Rattle.olk_spec.specs.Tree.{Tree, plain}
 use Rattle.olk_base.specs.Kit.{Kit}
-use Rattle.olk_tree.specs.Questions.{Question, always, conditional}
+use Rattle.olk_tree.specs.Questions.{Question, always, conditional, of_asked}
 use Rattle.olk_tree.specs.Validators.{answers_of}
 use Rattle.olk_tree.specs.Shown.{branch_trees, if_tree}
 use Rattle.olk_tree.specs.declared.node.KeywordOver.{KeywordOver}
 use Rattle.olk_tree.specs.declared.node.KeywordOver.TheVariants as keyword
 use Rattle.olk_tree.specs.Answers.{Answers}
 use Rattle.olk_tree.specs.Places.{Stands}
-use Rattle.olk_meaning.specs.Members.{member_accepts, member_asks, member_report, member_child}
+use Rattle.olk_meaning.specs.Chosen.{if_form, validators}
+use Rattle.olk_meaning.specs.Members.{member_accepts, member_asks, member_report, member_child, member_standing}
 use Rattle.olk_meaning.specs.Conditions.{is_condition}
 use Rattle.olk_meaning.specs.Plans.{Planned, plan_of, is_case, tells_members, head, claims}
 use Rattle.olk_meaning.proofs.Claims.{members_found, claims_condition, claims_itself, heads_elsewhere}
 use Rattle.olk_meaning.proofs.TakenOver.{never_taken}
 use Rattle.olk_meaning.proofs.Conditions as fact
 use Rattle.olk_meaning.proofs.Heads.{names_of}
+use Rattle.olk_meaning.proofs.AdditionalPlaces.{either_way}
+use Rattle.olk_meaning.proofs.Exchanged.{all_there, sum_there, find_there}
+use Rattle.olk_meaning.proofs.Standing.{if_stands}
 use Rattle.olk_make.specs.Forms.{IsFormOfIf, IsIf}
 use Rattle.olk_make.specs.Holding.{which, Covers}
 use Rattle.olk_make.specs.Making.{KeywordsMean, MakesCondition, MakesPart}
@@ -39,10 +43,12 @@ use Rattle.olk_make.specs.Standing.{Fills, is_taken}
 use Rattle.olk_read.specs.declared.shape.Shape.TheVariants as shape
 use Rattle.olk_make.specs.declared.part.Cases.{Cases}
 use Rattle.olk_make.specs.declared.part.Taken.{Taken}
+use Rattle.olk_make.proofs.Choosing.{filled_as}
 use Rattle.olk_make.proofs.Held.{question, shown, found}
 use Rattle.olk_make.proofs.Together.{MeanClaim, claim_by_name, means_permuted, means_nothing}
-use Rattle.olk_make.proofs.Entries.{Rows, last_stands}
-use Rattle.olk_make.proofs.Formed.{just_one_formed, case_formed, if_formed}
+use Rattle.olk_make.proofs.Entries.{last_stands}
+use Rattle.olk_meaning.proofs.Rows.{Rows}
+use Rattle.olk_make.proofs.Formed.{just_one_formed, case_formed, if_formed, stand_as, if_placed, case_as}
 
 pub form_is_if : {K R N : Type 0} (L : Path) (n : N) (t e : Option N) (k : KeywordOver K R N) → IsFormOfIf L n t e k → IsIf L (is_some t) (is_some e) k
 form_is_if L n (Some t) None (keyword.IfThen k) f = f.2
@@ -122,7 +128,7 @@ module _ {K R N : Type 0} (o : Kit K R) (answers : N → Answers) where
     case_accepts (Some n) (Some d) L h = h.verdict u v
     case_accepts _ _ L h = absurd h
 
-    case_asks : (t : Option N) (a : Option Data) (L : Path) → Fills (Case L) t a → (case_question t v).asks u ≤ case_asked a
+    case_asks : (t : Option N) (a : Option Data) (L : Path) → Fills (Case L) t a → (case_question t v).asks of_asked u ≤ case_asked a
     case_asks None None L h = omega arith
     case_asks (Some n) (Some d) L h = h.asks_within u v
     case_asks _ _ L h = absurd h
@@ -166,10 +172,6 @@ module _ {K R N : Type 0} (o : Kit K R) (answers : N → Answers) where
   abbrev rows : Name → Option Data → Rows
   rows k a = map (λ d. (k, d)) (option_to_list a)
 
-  same_either : {X : Type 0} (b : Bool) (x : X) → x ≡ cond b x x
-  same_either true x = refl
-  same_either false x = refl
-
   module _ (ms : Members) (d : Data) (there : lookup_name (codes "if") (listed ms) ≡ Some d) where
     module _ (u : Bool) (v : Data) where
       abbrev tested : Bool
@@ -181,33 +183,22 @@ module _ {K R N : Type 0} (o : Kit K R) (answers : N → Answers) where
       abbrev row_asks : Name × Data → ℕ
       row_asks m = member_asks o.world ms m (which o ms m) u v
 
-      then_accepts : (a : Option Data) → list_all row_accepts (rows (codes "then") a) ≡ cond tested (case_verdict u v a) true
-      then_accepts None = same_either tested true
-      then_accepts (Some e) = and-true _ ∙ fact.then_accepts_beside o.world ms u v d there e
+      -- the keyword k asks what stands there where c holds
+      module _ (k : Name) (c : Bool) (asked : (e : Data) → fact.AskedWhere o.world ms u v c k e) where
+        rows_accept : (a : Option Data) → list_all row_accepts (rows k a) ≡ cond c (case_verdict u v a) true
+        rows_accept = all_there (λ e. (k, e)) row_accepts (λ a. cond c (case_verdict u v a) true) (sym (either_way c true)) (λ e. (asked e).verdict)
 
-      else_accepts : (a : Option Data) → list_all row_accepts (rows (codes "else") a) ≡ cond (not tested) (case_verdict u v a) true
-      else_accepts None = same_either (not tested) true
-      else_accepts (Some e) = and-true _ ∙ fact.else_accepts_beside o.world ms u v d there e
+        rows_ask : (a : Option Data) → sum_by row_asks (rows k a) ≡ cond c (case_asked u v a) 0
+        rows_ask = sum_there (λ e. (k, e)) row_asks (λ a. cond c (case_asked u v a) 0) (sym (either_way c 0)) (λ e. (asked e).asked)
 
-      then_asks : (a : Option Data) → sum_by row_asks (rows (codes "then") a) ≡ cond tested (case_asked u v a) 0
-      then_asks None = same_either tested 0
-      then_asks (Some e) = let f = fact.then_asks_beside o.world ms u v d there e in let s = sum_by-cons row_asks (codes "then", e) [] in omega (arith, f, s)
+        rows_report : (P Q : Path) (a : Option Data) → flat_map (λ m. member_report o.world ms m (which o ms m) u v P Q) (rows k a) ≡ cond c (case_report u v a (P // k) Q) []
+        rows_report P Q = find_there (λ e. (k, e)) (λ m. member_report o.world ms m (which o ms m) u v P Q) (λ a. cond c (case_report u v a (P // k) Q) []) (sym (either_way c [])) (λ e. (asked e).faults P Q)
 
-      else_asks : (a : Option Data) → sum_by row_asks (rows (codes "else") a) ≡ cond (not tested) (case_asked u v a) 0
-      else_asks None = same_either (not tested) 0
-      else_asks (Some e) = let f = fact.else_asks_beside o.world ms u v d there e in let s = sum_by-cons row_asks (codes "else", e) [] in omega (arith, f, s)
+      then_asked : (e : Data) → fact.AskedWhere o.world ms u v tested (codes "then") e
+      then_asked e = fact.then_where o.world ms u v e tested (fact.if_holds o.world ms u v d there)
 
-      module _ (P Q : Path) where
-        abbrev row_report : Name × Data → List Fault
-        row_report m = member_report o.world ms m (which o ms m) u v P Q
-
-        then_report : (a : Option Data) → flat_map row_report (rows (codes "then") a) ≡ cond tested (case_report u v a (P // codes "then") Q) []
-        then_report None = same_either tested []
-        then_report (Some e) = append-nil _ ∙ fact.then_report_beside o.world ms u v d there e P Q
-
-        else_report : (a : Option Data) → flat_map row_report (rows (codes "else") a) ≡ cond (not tested) (case_report u v a (P // codes "else") Q) []
-        else_report None = same_either (not tested) []
-        else_report (Some e) = append-nil _ ∙ fact.else_report_beside o.world ms u v d there e P Q
+      else_asked : (e : Data) → fact.AskedWhere o.world ms u v (not tested) (codes "else") e
+      else_asked e = fact.else_where o.world ms u v e (not tested) (fact.if_fails o.world ms u v d there)
 
     -- ---- all three
 
@@ -228,21 +219,21 @@ module _ {K R N : Type 0} (o : Kit K R) (answers : N → Answers) where
           verdict = λ u v. and-true _ ∙ ap (λ q. q.accepts u) (form_means L n t e k form v)
               ∙ (λ i. cond (stands.verdict u v i) (case_accepts u v t _ _ then_stands i) (case_accepts u v e _ _ else_stands i))
               ∙ one_verdict (tested u v) (case_verdict u v at_then) (case_verdict u v at_else)
-              ∙ (λ i. sym (then_accepts u v at_then) i && sym (else_accepts u v at_else) i)
+              ∙ (λ i. sym (rows_accept u v (codes "then") (tested u v) (then_asked u v) at_then) i && sym (rows_accept u v (codes "else") (not (tested u v)) (else_asked u v) at_else) i)
               ∙ sym (list_all-append (row_accepts u v) (rows (codes "then") at_then) (rows (codes "else") at_else));
           asks_within = λ u v.
-              let q = ap (λ q. q.asks u) (form_means L n t e k form v) ∙ ap (λ b. ((answers n).means v).asks u + cond b ((case_question t v).asks u) ((case_question e v).asks u)) (stands.verdict u v) in
-              let w = one_asked (tested u v) (((answers n).means v).asks u) ((case_question t v).asks u) ((case_question e v).asks u) (asks o.world u d v) (case_asked u v at_then) (case_asked u v at_else) (stands.asks_within u v) (case_asks u v t _ _ then_stands) (case_asks u v e _ _ else_stands) in
+              let q = ap (λ q. q.asks of_asked u) (form_means L n t e k form v) ∙ ap (λ b. ((answers n).means v).asks of_asked u + cond b ((case_question t v).asks of_asked u) ((case_question e v).asks of_asked u)) (stands.verdict u v) in
+              let w = one_asked (tested u v) (((answers n).means v).asks of_asked u) ((case_question t v).asks of_asked u) ((case_question e v).asks of_asked u) (asks o.world u d v) (case_asked u v at_then) (case_asked u v at_else) (stands.asks_within u v) (case_asks u v t _ _ then_stands) (case_asks u v e _ _ else_stands) in
               let s = sum_by-cons (row_asks u v) (codes "if", d) (rows (codes "then") at_then ++ rows (codes "else") at_else) in
               let r = sum_by-append (row_asks u v) (rows (codes "then") at_then) (rows (codes "else") at_else) in
               let i = fact.if_asks_beside o.world ms u v d there read_here in
-              let x = then_asks u v at_then in
-              let y = else_asks u v at_else in
+              let x = rows_ask u v (codes "then") (tested u v) (then_asked u v) at_then in
+              let y = rows_ask u v (codes "else") (not (tested u v)) (else_asked u v) at_else in
               omega (arith, q, w, s, r, i, x, y);
           faults = λ u v Q. subst₂ (λ l r. l ∼ r)
               (ap (λ l. l ++ []) (sym (form_finds L n t e k form u v Q ∙ ap (λ b. cond b (case_found u t v Q) (case_found u e v Q)) (stands.verdict u v))))
-              ((λ i. sym (then_report u v P Q at_then) i ++ sym (else_report u v P Q at_else) i)
-              ∙ sym (flat_map-append (row_report u v P Q) (rows (codes "then") at_then) (rows (codes "else") at_else)))
+              ((λ i. sym (rows_report u v (codes "then") (tested u v) (then_asked u v) P Q at_then) i ++ sym (rows_report u v (codes "else") (not (tested u v)) (else_asked u v) P Q at_else) i)
+              ∙ sym (flat_map-append (λ m. member_report o.world ms m (which o ms m) u v P Q) (rows (codes "then") at_then) (rows (codes "else") at_else)))
               (one_found (tested u v) _ _ _ _ (case_finds u v t _ _ Q then_stands) (case_finds u v e _ _ Q else_stands));
         }
 
@@ -259,6 +250,12 @@ module _ {K R N : Type 0} (o : Kit K R) (answers : N → Answers) where
             subst_tree : (u : Bool) (v : Data) (Q : Path) → (answers n).tree u v Q ≡ tree o.world u d v (P // codes "if") Q
             subst_tree u v Q = stands.evaluation u v Q ∙ ap (λ M. tree o.world u d v M Q) place
 
+        placed_together : flat_map (stand_as o answers) (k ∷ []) ≡ flat_map (λ m. member_standing o.world ms m (which o ms m) P) ((codes "if", d) ∷ [])
+        placed_together = append-nil (stand_as o answers k) ∙ if_placed o answers L n t e k form
+            ∙ (λ i. (place i, if_form (filled_as _ t _ then_stands i) (filled_as _ e _ else_stands i))
+            ∷ ((stands.forms ∙ ap (validators o.world d) place) i ++ case_as o answers t _ _ then_stands i ++ case_as o answers e _ _ else_stands i))
+            ∙ sym (append-nil _ ∙ if_stands o.world ms P d read_here)
+
         -- `if` means itself, `then` and `else`
         pub means_condition : (p : Planned) → p.condition ≡ true → MeanClaim o answers ms p (k ∷ []) (codes "if", d) P
         means_condition p plans = means_permuted o answers ms P (k ∷ []) three (claims (head p) (listed ms) (codes "if", d)) ((codes "if", d) ∷ [])
@@ -271,6 +268,7 @@ module _ {K R N : Type 0} (o : Kit K R) (answers : N → Answers) where
               formed =
                   just_one_formed o answers k (if_formed o answers L n t e k form stands.formed (filled_formed t _ _ then_stands)
                   (filled_formed e _ _ else_stands));
+              forms = λ clean. placed_together;
             })
 
   -- ---- what is made of the nodes

@@ -1,25 +1,23 @@
 -- What is made of a part, and of all parts.
 use Rattle.olk_make.proofs.Taking.{apart_by}
-use Rattle.olk_tree.specs.Maps.{keys_in}
 use Rattle.olk_tree.specs.Answers.{Answers}
 use Rattle.std.specs.Prelude.{◌≡◌, Bool, true, false, List, [], ◌∷◌, ◌++◌, ◌&&◌, ◌||◌, map, codes, bytes_eq, Option, Some, None, is_some, Vec, String, string_bytes}
 use Rattle.std.specs.declared.alloc.Global.{Global}
 use Rattle.std.proofs.Common.{refl, sym, ◌∙◌, ap, subst}
 use Rattle.std.proofs.Math.Bool.{or-true}
 use mathlib.Core.Bool.{true≢false}
-use Rattle.serde_json.specs.Data.{Data, object, Members}
+use Rattle.serde_json.specs.Data.{Data, Members}
 use Rattle.serde_json.specs.declared.value.Value.{Value}
 use Rattle.olk_spec.specs.Names.{Name, Path, ◌//◌, lookup_name}
 use Rattle.olk_spec.specs.World.{World}
 use Rattle.olk_spec.specs.Vocabulary.{Keyword, properties, pattern_properties, additional_properties, required, if_keyword, then_keyword, else_keyword, keyword_named}
-use Rattle.olk_spec.specs.Schemas.{listed, members, texts, is_object, is_truth}
+use Rattle.olk_spec.specs.Schemas.{listed, texts, is_object, is_truth}
 use Rattle.olk_spec.specs.Malformed.{has_repeat}
 use Rattle.olk_spec.proofs.Walks.{bytes_eq-sym, neither}
 use Rattle.olk_base.specs.Kit.{Kit}
 use Rattle.olk_base.specs.declared.pattern.CompiledPattern.{CompiledPattern}
 use Rattle.olk_meaning.specs.Plans.{Planned, plan_of, is_case, tells_members}
 use Rattle.olk_make.specs.Forms.{IsFormOfProperties, IsFormOfAllOf, IsFormOfAnyOf, IsFormOfOneOf}
-use Rattle.olk_make.specs.Holding.{StandEach}
 use Rattle.olk_meaning.specs.Conditions.{is_condition, is_restriction, is_restricted}
 use Rattle.olk_meaning.specs.Fused.{fused_pair}
 use Rattle.olk_meaning.proofs.TakenOver.{never_taken, free_takes_nothing}
@@ -38,10 +36,6 @@ use Rattle.olk_make.proofs.Together.{by_its_name, MeanClaim, claim_by_name}
 use Rattle.olk_make.proofs.Held.{unrestricted_if_untaken, means_all_of, means_any_of, means_not, means_form, means_fused, means_fused_one, means_own, means_leaf, means_unread, means_required_alone}
 use Rattle.olk_make.proofs.Entries.{last_stands}
 use Rattle.olk_make.proofs.OneOf.{means_one_of}
-
-object_of : (d : Data) → is_object d ≡ true → (fs : Members) × (d ≡ object fs)
-object_of (object fs) e = (fs, refl)
-object_of d e = absurd (true≢false (sym e))
 
 -- keywords that another may stand for, and those that may stand for another
 abbrev pub neighbours : Keyword → Bool
@@ -68,13 +62,13 @@ no_case W c k e read_here = (
 
 module _ {K R N : Type 0} (o : Kit K R) (answers : N → Answers) where
   pub makes_all_of : (k : KeywordOver K R N) (L : Path) (ns : List N) → IsFormOfAllOf L ns k → MakesMember o answers shape.AllOf L ns (k ∷ [])
-  makes_all_of k L ns form ms m P p s h = by_its_name o answers s.0 p (means_all_of o answers k ns L m.1 s.1 form h ms P)
+  makes_all_of k L ns form ms m P p s h = by_its_name o answers s.0 p (means_all_of o answers k ns L m.1 form h ms P)
 
   pub makes_any_of : (k : KeywordOver K R N) (L : Path) (ns : List N) → IsFormOfAnyOf L ns k → MakesMember o answers shape.AnyOf L ns (k ∷ [])
-  makes_any_of k L ns form ms m P p s h = by_its_name o answers s.0 p (means_any_of o answers k ns L m.1 s.1 form h ms P)
+  makes_any_of k L ns form ms m P p s h = by_its_name o answers s.0 p (means_any_of o answers k ns L m.1 form h ms P)
 
   pub makes_one_of : (k : KeywordOver K R N) (L : Path) (ns : List N) → IsFormOfOneOf L ns k → MakesMember o answers shape.OneOf L ns (k ∷ [])
-  makes_one_of k L ns form ms m P p s h = by_its_name o answers s.0 p (means_one_of o answers k ns L m.1 s.1 form h ms P)
+  makes_one_of k L ns form ms m P p s h = by_its_name o answers s.0 p (means_one_of o answers k ns L m.1 form h ms P)
 
   pub makes_not : (original : Value) (L : Path) (n : N) (rest ns : List N) → ns ≡ rest ++ n ∷ [] → MakesMember o answers (shape.Not original) L ns
       (keyword.Not (record { original = original; node = n; location = L }) ∷ [])
@@ -89,9 +83,8 @@ module _ {K R N : Type 0} (o : Kit K R) (answers : N → Answers) where
   pub makes_properties : (k : KeywordOver K R N) (names : List Name) (ns : List N) (L P : Path) (p : Planned) → IsFormOfProperties P L names ns p.fused_pair k
       → MakesClaims o answers (shape.Properties names) L ns P p (k ∷ [])
   makes_properties k names ns L P p form ms m l s h distinct there chosen untaken =
-      let a = object_of m.1 s.1 in
       claim_by_name o answers s.0 chosen l there (λ place found.
-      means_form o answers k names ns L P p.fused_pair a.0 m.1 a.1 (s.2 ∙ ap (λ x. keys_in (members x)) a.1) (subst (λ x. StandEach o answers ns (members x) L) a.1 h) form ms
+      means_form o answers k names ns L P p.fused_pair m.1 s.2 h form ms
       place distinct found (ap (λ q. q.fused_pair) chosen)
       (ap (λ q. q.restricted) (sym chosen) ∙ unrestricted_if_untaken o answers p (codes "properties") refl (ap (is_taken p) (sym s.0) ∙ untaken)))
 

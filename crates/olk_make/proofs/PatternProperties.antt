@@ -1,5 +1,5 @@
 -- What holds `patternProperties`.
-use Rattle.olk_make.proofs.Entries.{Rows}
+use Rattle.olk_meaning.proofs.Rows.{Rows}
 use Rattle.olk_make.proofs.Together.{by_its_name}
 use Rattle.std.specs.Prelude.{◌≡◌, ◌≤◌, ◌+◌, ℕ, Bool, true, false, cond, ◌&&◌, ◌||◌, List, [], ◌∷◌, ◌++◌, map, zip, length, sum_by, codes, Vec, Some, None}
 use Rattle.std.specs.List.{list_all, flat_map}
@@ -12,24 +12,23 @@ use Rattle.olk_tree.proofs.Answering.{more_within}
 use Rattle.serde_json.specs.Data.{Data, Members}
 use Rattle.olk_spec.specs.Names.{Name, Path, ◌//◌, filter_once, put_if}
 use Rattle.olk_spec.specs.World.{reads_as, is_unfinished}
-use Rattle.olk_spec.specs.Vocabulary.{pattern_properties}
 use Rattle.olk_spec.specs.Faults.{Fault, ◌∼◌, like_empty, like_through}
 use Rattle.olk_spec.specs.Schemas.{is_object, members}
 use Rattle.olk_spec.specs.Meanings.{matches, is_open}
 use Rattle.olk_tree.proofs.RestrictedAsks.{open_counts}
-use Rattle.olk_spec.specs.Meaning.{accepts, asks, report, tree, meaning_step}
+use Rattle.olk_spec.specs.Meaning.{accepts, asks, report, tree}
 use Rattle.olk_spec.specs.Tree.{Tree, result}
 use Rattle.olk_spec.proofs.Order.{∼_same, ∼_append, ∼_flat_map_any}
 use Rattle.olk_spec.proofs.Truth.{and_from}
 use Rattle.olk_base.specs.Kit.{Kit}
 use Rattle.olk_base.specs.Compiled.{pattern_answers, pattern_costs}
 use Rattle.olk_base.specs.declared.pattern.CompiledPattern.{CompiledPattern}
-use Rattle.olk_meaning.specs.Conditions.{is_restricted}
-use Rattle.olk_meaning.specs.PatternProperties.{matched_members, pattern_asks}
-use Rattle.olk_meaning.proofs.Conditions.{restricted_read}
-use Rattle.olk_meaning.proofs.PatternProperties as fact
+use Rattle.olk_meaning.specs.PatternProperties.{matched_members, pattern_asks, patterns_told}
+use Rattle.olk_meaning.proofs.PatternProperties.{pattern_properties_told}
+use Rattle.olk_meaning.specs.Chosen.{one_or_other, single_pattern_form, patterns_form}
+use Rattle.olk_meaning.proofs.Standing.{each_placed, patterns_stand}
 use Rattle.olk_tree.specs.Matched.{matched, match_question}
-use Rattle.olk_tree.specs.Questions.{Question, every, conditional, always}
+use Rattle.olk_tree.specs.Questions.{Question, every, conditional, always, of_asked}
 use Rattle.olk_tree.specs.Shown.{match_trees, match_names, patterns_tree}
 use Rattle.olk_tree.specs.PatternProperties.{matched_mean, patterns_mean, matched_report, patterns_report}
 use Rattle.olk_tree.specs.Validators.{answers_of}
@@ -43,8 +42,9 @@ use Rattle.olk_make.specs.Holding.{StandEach}
 use Rattle.olk_make.specs.Forms.{IsFormOfPatternProperties, IsPatternProperties}
 use Rattle.olk_make.specs.Standing.{EntriesStand}
 use Rattle.olk_make.specs.Making.{KeywordMeans, MakesMember}
-use Rattle.olk_make.proofs.Held.{Answered, one_if_free}
-use Rattle.olk_make.proofs.Formed.{just_one_formed, entry_formed, patterns_formed}
+use Rattle.olk_make.proofs.Held.{Answered, means_told}
+use Rattle.olk_make.proofs.Formed.{entry_formed, patterns_formed, entries_placed, patterns_placed, stand_as}
+use Rattle.olk_make.proofs.Choosing.{entries_length}
 
 -- ---- patterns and nodes side by side
 
@@ -121,16 +121,16 @@ module _ {K R N : Type 0} (o : Kit K R) (answers : N → Answers) where
     counted x = (λ i. cond {A = ℕ} (h.costs i || is_unfinished (h.answers x.0 i)) 1 0) ∙ open_counts o.world d.0 x.0
 
     abbrev match_asks : Name × Data → ℕ
-    match_asks x = counts x + cond (reads_as u (pattern_answers o.answers e.0 x.0)) (((answers e.1).means x.1).asks u) 0
+    match_asks x = counts x + cond (reads_as u (pattern_answers o.answers e.0 x.0)) (((answers e.1).means x.1).asks of_asked u) 0
 
     one_asks : (x : Name × Data) → match_asks x ≤ asked_member x
     one_asks x = by (ask_member x) (ap (reads_as u) (h.answers x.0))
       where
         by : (b : Bool) → reads_as u (pattern_answers o.answers e.0 x.0) ≡ b → match_asks x ≤ pattern_asks o.world d.0 + cond b (asks o.world u d.1 x.1) 0
-        by true q = let c = counted x in let a = ap {B = ℕ} (λ b. cond b (((answers e.1).means x.1).asks u) 0) q in let w = s.asks_within u x.1 in omega (arith, c, a, w)
-        by false q = let c = counted x in let a = ap {B = ℕ} (λ b. cond b (((answers e.1).means x.1).asks u) 0) q in omega (arith, c, a)
+        by true q = let c = counted x in let a = ap {B = ℕ} (λ b. cond b (((answers e.1).means x.1).asks of_asked u) 0) q in let w = s.asks_within u x.1 in omega (arith, c, a, w)
+        by false q = let c = counted x in let a = ap {B = ℕ} (λ b. cond b (((answers e.1).means x.1).asks of_asked u) 0) q in omega (arith, c, a)
 
-    matched_ask : (xs : Rows) → (every (λ x. conditional (match_question o.answers o.costs e.0 x.0) ((answers e.1).means x.1) (always true)) xs).asks u ≤ sum_by asked_member xs
+    matched_ask : (xs : Rows) → (every (λ x. conditional (match_question o.answers o.costs e.0 x.0) ((answers e.1).means x.1) (always true)) xs).asks of_asked u ≤ sum_by asked_member xs
     matched_ask [] = omega arith
     matched_ask (x ∷ xs) = more_within _ _ _ _ _ (one_asks x) (matched_ask xs) (sum_by-cons _ x xs)
 
@@ -156,7 +156,7 @@ module _ {K R N : Type 0} (o : Kit K R) (answers : N → Answers) where
     patterns_accept (e ∷ es) (d ∷ ds) h = λ i. matched_accept e d L h.0 h.1 u (members v) i && patterns_accept es ds h.2 i
     patterns_accept _ _ h = absurd h
 
-    patterns_ask : (es : List Entry) (ds : Rows) → EntriesStand o answers es ds L → (all_mean v es).asks u ≤ sum_by
+    patterns_ask : (es : List Entry) (ds : Rows) → EntriesStand o answers es ds L → (all_mean v es).asks of_asked u ≤ sum_by
         (λ d. sum_by (λ x. pattern_asks o.world d.0 + cond (matches o.world u d.0 x.0) (asks o.world u d.1 x.1) 0) (members v)) ds
     patterns_ask [] [] h = omega arith
     patterns_ask (e ∷ es) (d ∷ ds) h =
@@ -193,46 +193,40 @@ module _ {K R N : Type 0} (o : Kit K R) (answers : N → Answers) where
     all_tree l M Q = patterns_tree (λ n. (answers n).tree u) v Q o.answers u M l
 
     of_patterns : (k : KeywordOver K R N) → IsFormOfPatternProperties L es k
-        → Answered o answers k u v ((all_mean v es).accepts u) ((all_mean v es).asks u) (all_faults es) (all_tree es L)
+        → Answered o answers k u v ((all_mean v es).accepts u) ((all_mean v es).asks of_asked u) (all_faults es) (all_tree es L)
     unfolding answers_of
     of_patterns (keyword.PatternProperties p) f = record {
       verdict = ap (λ l. (all_mean v l).accepts u) f.0;
-      asks_within = let q = ap (λ l. (all_mean v l).asks u) f.0 in omega (arith, q);
+      asks_within = let q = ap (λ l. (all_mean v l).asks of_asked u) f.0 in omega (arith, q);
       faults = λ Q. ap (λ l. all_faults l Q) f.0;
       evaluation = λ Q. λ i. all_tree (f.0 i) (f.2 i) Q;
     }
     of_patterns (keyword.SingleValuePatternProperties p) f = record {
       verdict = sym (ap (λ l. (all_mean v l).accepts u) f.0 ∙ and-true ((matched_mean o.answers o.costs (λ n. (answers n).means) p.value.regex p.value.node v).accepts u));
-      asks_within = let q = ap (λ l. (all_mean v l).asks u) f.0 in omega (arith, q);
+      asks_within = let q = ap (λ l. (all_mean v l).asks of_asked u) f.0 in omega (arith, q);
       faults = λ Q. sym (ap (λ l. all_faults l Q) f.0 ∙ append-nil _);
       evaluation = λ Q. λ i. all_tree (sym f.0 i) (f.1 i) Q;
     }
     of_patterns x f = absurd f
 
-  entries_formed : (es : List Entry) (ds : Rows) (L : Path) → EntriesStand o answers es ds L → list_all (entry_formed o answers) es ≡ true
-  entries_formed [] [] L h = refl
-  entries_formed (e ∷ es) (d ∷ ds) L h = and_from _ _ h.1.formed (entries_formed es ds L h.2)
-  entries_formed _ _ L h = absurd h
-
-  unrestricted : (ms : Members) → (is_restricted ms && true) ≡ false → is_restricted ms ≡ false
-  unrestricted ms e = sym (and-true (is_restricted ms)) ∙ e
+  pub all_formed : (es : List Entry) (ds : Rows) (L : Path) → EntriesStand o answers es ds L → list_all (entry_formed o answers) es ≡ true
+  all_formed [] [] L h = refl
+  all_formed (e ∷ es) (d ∷ ds) L h = and_from _ _ h.1.formed (all_formed es ds L h.2)
+  all_formed _ _ L h = absurd h
 
   module _ (k : KeywordOver K R N) (L : Path) (es : List Entry) (form : IsFormOfPatternProperties L es k) (d : Data) (stand : EntriesStand o answers es (members d) L) where
     means_patterns : (ms : Members) (P : Path) → L ≡ P // codes "patternProperties" → KeywordMeans o answers ms (k ∷ []) (codes "patternProperties", d) P
-    means_patterns ms P p = record {
-      holds = one_if_free o answers ms k (codes "patternProperties", d) pattern_properties P
-          (λ u v. (of_patterns L es u v k form).verdict ∙ patterns_accept L u v es (members d) stand ∙ sym (fact.pattern_properties_accepts o.world ms d u v))
-          (λ free u v. let f = (of_patterns L es u v k form).asks_within in let a = patterns_ask L u v es (members d) stand in
-          let t = fact.pattern_properties_asks o.world ms d u v (restricted_read (meaning_step o.world u) ms ∙ unrestricted ms free) in omega (arith, f, a, t))
-          (λ u v Q. like_through (∼_same ((of_patterns L es u v k form).faults Q)) (subst (λ fs. patterns_report o.answers (λ n. (answers n).report) u es v Q ∼ fs)
-          (ap (λ M. flat_map (entry_report u v M Q) (members d)) p ∙ sym (fact.pattern_properties_report o.world ms d u v P Q)) (patterns_find L u v Q es (members d) stand)));
-      shows = λ u alone v Q. ap (λ t. t ∷ []) (
-          (of_patterns L es u v k form).evaluation Q
-          ∙ (λ i. result L Q (cond (is_object v) (Some (patterns_name L u v Q es (members d) stand i)) None) false [] (patterns_show L u v Q es (members d) stand i))
-          ∙ ap (λ M. result M Q (cond (is_object v) (Some (flat_map (entry_names u v) (members d))) None) false [] (flat_map (entry_trees u v M Q) (members d))) p)
-          ∙ sym (fact.pattern_properties_child o.world ms d u v alone P Q);
-      formed = just_one_formed o answers k (patterns_formed o answers k L es form (entries_formed es (members d) L stand));
-    }
+    means_patterns ms P p = means_told o answers ms k (codes "patternProperties", d) P L (patterns_told o.world (members d)) p (pattern_properties_told o.world ms d) (record {
+      verdict = λ u v. (of_patterns L es u v k form).verdict ∙ patterns_accept L u v es (members d) stand;
+      asks_within = λ u v. let f = (of_patterns L es u v k form).asks_within in let a = patterns_ask L u v es (members d) stand in omega (arith, f, a);
+      faults = λ u v Q. like_through (∼_same ((of_patterns L es u v k form).faults Q)) (patterns_find L u v Q es (members d) stand);
+      evaluation = λ u v Q. (of_patterns L es u v k form).evaluation Q
+          ∙ (λ i. result L Q (cond (is_object v) (Some (patterns_name L u v Q es (members d) stand i)) None) false [] (patterns_show L u v Q es (members d) stand i));
+      formed = patterns_formed o answers k L es form (all_formed es (members d) L stand);
+    })
+        (λ own. append-nil (stand_as o answers k) ∙ patterns_placed o answers k L es form
+        ∙ (λ i. (p i, one_or_other single_pattern_form patterns_form (entries_length o answers es (members d) L stand i))
+        ∷ (entries_placed o answers es (members d) L stand ∙ ap (λ M. each_placed o.world M (members d)) p) i) ∙ sym (patterns_stand o.world ms P d own))
 
   pub makes_pattern_properties : (k : KeywordOver K R N) (L : Path) (v : Vec (CompiledPattern R) Global) (ns : List N) (es : List Entry)
       → es ≡ zip v.items ns → IsFormOfPatternProperties L es k → MakesMember o answers (shape.PatternProperties v) L ns (k ∷ [])

@@ -1,39 +1,30 @@
 -- What holds `propertyDependencies`.
-use mathlib.Core.Path.{subst₂}
 use Rattle.olk_make.proofs.Together.{by_its_name}
-use Rattle.std.specs.Prelude.{◌≡◌, ◌≤◌, ⊤, ℕ, min, Bool, ◌&&◌, List, [], ◌∷◌, ◌++◌, map, length, get_or, take, drop, sum_by, codes, option_to_list, bytes_eq, Vec, true}
+use Rattle.std.specs.Prelude.{◌≡◌, ⊤, ℕ, min, ◌&&◌, List, [], ◌∷◌, ◌++◌, map, length, get_or, take, drop, codes, option_to_list, bytes_eq, Vec, true}
 use Rattle.std.specs.List.{list_all, flat_map, zip}
 use Rattle.std.specs.Ordering.{nat_cmp, is_eq}
 use Rattle.std.specs.Cmp.Lexicographic.{slice_cmp}
 use Rattle.std.specs.declared.alloc.Global.{Global}
 use Rattle.std.specs.declared.cmp.Ordering.{Ordering}
 use Rattle.std.specs.declared.cmp.Ordering.TheVariants.{Less, Equal, Greater}
-use Rattle.std.proofs.Common.{suc, refl, sym, ◌∙◌, ap, subst, arith}
-use Rattle.std.proofs.lemmas.List.{map-append, take_at, drop_at, take_min, drop_min}
-use Rattle.std.proofs.lemmas.List.Sums.{sum_by-cons}
+use Rattle.std.proofs.Common.{suc, refl, sym, ◌∙◌, ap, subst}
+use Rattle.std.proofs.lemmas.List.{take_at, drop_at, take_min, drop_min, append-nil}
 use Rattle.std.proofs.lemmas.Map.Text.{is_eq-slice_cmp}
 use Rattle.std.proofs.lemmas.Slice.Zip.{firsts-zip, seconds-zip}
-use Rattle.std.proofs.lemmas.Grind.{flat_map-append}
-use Rattle.olk_tree.proofs.Answering.{more_within}
 use mathlib.Core.Bool.{true≢false}
 use Rattle.serde_json.specs.Data.{Data, Members}
 use Rattle.olk_spec.specs.Names.{Name, Path, ◌//◌, lookup_name, first_if_equal, is_empty}
-use Rattle.olk_spec.specs.Vocabulary.{property_dependencies}
-use Rattle.olk_spec.specs.Faults.{◌∼◌, like_empty}
 use Rattle.olk_spec.specs.Schemas.{members, at, as_text}
-use Rattle.olk_spec.specs.Meaning.{accepts, asks, report, tree}
-use Rattle.olk_spec.specs.Tree.{plain}
-use Rattle.olk_spec.proofs.Order.{∼_append}
 use Rattle.olk_spec.proofs.Walks.{same_name}
 use Rattle.olk_base.specs.Kit.{Kit}
-use Rattle.olk_meaning.specs.PropertyDependencies.{chosen, chosen_by}
-use Rattle.olk_meaning.proofs.PropertyDependencies as fact
-use Rattle.olk_tree.specs.Questions.{every}
+use Rattle.olk_meaning.specs.PropertyDependencies.{chosen, chosen_by, choices, choice_answers}
+use Rattle.olk_meaning.proofs.PropertyDependencies.{property_dependencies_told}
+use Rattle.olk_meaning.specs.Chosen.{property_dependencies_form}
+use Rattle.olk_meaning.proofs.Standing.{each_placed, property_dependencies_stand}
 use Rattle.olk_tree.specs.Formed.{is_paired}
 use Rattle.olk_tree.specs.Maps.{keys_in, nodes_in, named}
 use Rattle.olk_tree.specs.PropertyDependencies.{chosen_at, chosen_nodes}
 use Rattle.olk_tree.specs.Validators.{answers_of}
-use Rattle.olk_tree.proofs.Questions.{every-append}
 use Rattle.olk_tree.specs.declared.map.SmallMap.{SmallMap}
 use Rattle.olk_tree.specs.declared.node.KeywordOver.{KeywordOver}
 use Rattle.olk_tree.specs.declared.node.KeywordOver.TheVariants as keyword
@@ -44,9 +35,11 @@ use Rattle.olk_make.specs.Forms.{HasEntries, AreCut, IsPropertyDependencies}
 use Rattle.olk_make.specs.Holding.{StandInner}
 use Rattle.olk_make.specs.Made.{MakesPropertyDependencies}
 use Rattle.olk_make.specs.Making.{KeywordMeans, MakesMember}
-use Rattle.olk_make.proofs.Entries.{Rows, AnswersFor, AnswerEach, each_count, each_accept, each_ask, each_find, each_show, schema_answers, schemas_answer}
-use Rattle.olk_make.proofs.Held.{one}
-use Rattle.olk_make.proofs.Formed.{has_form, just_one_formed, entries_zipped, paired, each_keys, each_held_formed}
+use Rattle.olk_make.proofs.Entries.{AnswersFor, AnswerEach, each_append, each_count, schemas_answer}
+use Rattle.olk_meaning.specs.Told.{schema_answers}
+use Rattle.olk_meaning.proofs.Rows.{Rows}
+use Rattle.olk_make.proofs.Held.{each_asks, nodes_told, means_told}
+use Rattle.olk_make.proofs.Formed.{has_form, entries_zipped, paired, each_keys, each_held_formed, each_held_placed, stand_in, stand_as}
 use Rattle.olk_spec.proofs.Truth.{and_from}
 
 -- maps, made of the lists of names and the nodes that are left
@@ -69,22 +62,17 @@ module _ {N : Type 0} (n : ℕ) (ns taken left : List N) (parts : ns ≡ taken +
 
 module _ {K R N : Type 0} (o : Kit K R) (answers : N → Answers) where
   abbrev SchemaFor : N → Name × Data → Path → Type 0
-  SchemaFor = AnswersFor o answers (schema_answers o answers)
+  SchemaFor = AnswersFor o answers (schema_answers o.world)
 
   abbrev SchemaEach : List N → Rows → Path → Type 0
-  SchemaEach = AnswerEach o answers (schema_answers o answers)
+  SchemaEach = AnswerEach o answers (schema_answers o.world)
 
   -- ---- the nodes that are chosen stand for the schemas that are
-
-  each_append : (ns rs : List N) (es fs : Rows) (L : Path) → SchemaEach ns es L → SchemaEach rs fs L → SchemaEach (ns ++ rs) (es ++ fs) L
-  each_append [] rs [] fs L h k = k
-  each_append (n ∷ ns) rs (e ∷ es) fs L h k = (h.0, each_append ns rs es fs L h.1 k)
-  each_append _ rs _ fs L h k = absurd h
 
   module _ {X : Type 0} (f : X → List N) (g : X → Rows) (L : Path) (each : (x : X) → SchemaEach (f x) (g x) L) where
     each_of_all : (xs : List X) → SchemaEach (flat_map f xs) (flat_map g xs) L
     each_of_all [] = tt
-    each_of_all (x ∷ xs) = each_append (f x) (flat_map f xs) (g x) (flat_map g xs) L (each x) (each_of_all xs)
+    each_of_all (x ∷ xs) = each_append o answers (schema_answers o.world) (f x) (flat_map f xs) (g x) (flat_map g xs) L (each x) (each_of_all xs)
 
   -- what a look-up finds among the nodes, and among the entries
   found_answers : (t : Name) (ns : List N) (es : Rows) (L : Path) → SchemaEach ns es L → SchemaEach (option_to_list (lookup_name t (zip (keys_in es) ns)))
@@ -132,6 +120,12 @@ module _ {K R N : Type 0} (o : Kit K R) (answers : N → Answers) where
   maps_count (m ∷ maps) (e ∷ es) L h = ap suc (maps_count maps es L h.1)
   maps_count _ _ L h = absurd h
 
+  maps_placed : (maps : List (SmallMap N)) (es : Rows) (L : Path) → MapsAnswer maps es L
+      → flat_map (λ m. flat_map (stand_in o answers) (nodes_in (named m))) maps ≡ flat_map (λ e. each_placed o.world (L // e.0) (members e.1)) es
+  maps_placed [] [] L h = refl
+  maps_placed (m ∷ maps) (e ∷ es) L h = λ i. each_held_placed o answers (named m) _ _ _ h.0.held _ h.0.each i ++ maps_placed maps es L h.1 i
+  maps_placed _ _ L h = absurd h
+
   module _ (v : Data) where
     chosen_answer : (m : SmallMap N) (e : Name × Data) (L : Path) → MapAnswers m e L → SchemaEach (flat_map (chosen_at m) (at e.0 v)) (chosen v e) (L // e.0)
     chosen_answer m e L h = each_of_all (chosen_at m) (chosen_by e.1) (L // e.0)
@@ -141,44 +135,20 @@ module _ {K R N : Type 0} (o : Kit K R) (answers : N → Answers) where
     abbrev chosen_of : List (SmallMap N) → Rows → List N
     chosen_of maps es = chosen_nodes (zip (keys_in es) maps) v
 
-    module _ (u : Bool) (L : Path) where
-      choices_accept : (maps : List (SmallMap N)) (es : Rows) → MapsAnswer maps es L
-          → (every (λ n. (answers n).means v) (chosen_of maps es)).accepts u ≡ list_all (λ e. list_all (λ c. accepts o.world u c.1 v) (chosen v e)) es
-      choices_accept [] [] h = refl
-      choices_accept (m ∷ maps) (e ∷ es) h =
-          ap (λ q. q.accepts u) (every-append (λ n. (answers n).means v) (flat_map (chosen_at m) (at e.0 v)) (chosen_of maps es))
-          ∙ (λ i. each_accept o answers _ u v _ _ _ (chosen_answer m e L h.0) i
-          && choices_accept maps es h.1 i)
-      choices_accept _ _ h = absurd h
+    -- schemas of an entry, told of the keyword
+    under_key : (k : Name) (ns : List N) (cs : Rows) (L : Path) → SchemaEach ns cs (L // k) → AnswerEach o answers (choice_answers o.world) ns (map (λ c. (k, c.0, c.1)) cs) L
+    under_key k [] [] L h = tt
+    under_key k (n ∷ ns) (c ∷ cs) L h = (
+      record { verdict = h.0.verdict; asks_within = h.0.asks_within; faults = h.0.faults; evaluation = h.0.evaluation; formed = h.0.formed; forms = h.0.forms },
+      under_key k ns cs L h.1,
+    )
+    under_key k _ _ L h = absurd h
 
-      choices_ask : (maps : List (SmallMap N)) (es : Rows) → MapsAnswer maps es L
-          → (every (λ n. (answers n).means v) (chosen_of maps es)).asks u ≤ sum_by (λ e. sum_by (λ c. asks o.world u c.1 v) (chosen v e)) es
-      choices_ask [] [] h = omega arith
-      choices_ask (m ∷ maps) (e ∷ es) h =
-          subst (λ q. q.asks u ≤ sum_by (λ e. sum_by (λ c. asks o.world u c.1 v) (chosen v e)) (e ∷ es))
-          (sym (every-append (λ n. (answers n).means v) (flat_map (chosen_at m) (at e.0 v)) (chosen_of maps es)))
-          (more_within _ _ _ _ _ (each_ask o answers _ u v _ _ _ (chosen_answer m e L h.0))
-          (choices_ask maps es h.1) (sum_by-cons _ e es))
-      choices_ask _ _ h = absurd h
-
-      module _ (Q : Path) where
-        choices_find : (maps : List (SmallMap N)) (es : Rows) → MapsAnswer maps es L → flat_map (λ n. (answers n).report u v Q)
-            (chosen_of maps es) ∼ flat_map (λ e. flat_map (λ c. report o.world u c.1 v (L // e.0 // c.0) Q) (chosen v e)) es
-        choices_find [] [] h = like_empty
-        choices_find (m ∷ maps) (e ∷ es) h =
-            subst (λ fs. fs ∼ flat_map (λ e. flat_map (λ c. report o.world u c.1 v (L // e.0 // c.0) Q) (chosen v e)) (e ∷ es))
-            (sym (flat_map-append (λ n. (answers n).report u v Q) (flat_map (chosen_at m) (at e.0 v)) (chosen_of maps es)))
-            (∼_append (each_find o answers _ u v _ Q _ _ (chosen_answer m e L h.0))
-            (choices_find maps es h.1))
-        choices_find _ _ h = absurd h
-
-        choices_show : (maps : List (SmallMap N)) (es : Rows) → MapsAnswer maps es L → map (λ n. (answers n).tree u v Q)
-            (chosen_of maps es) ≡ flat_map (λ e. map (λ c. tree o.world u c.1 v (L // e.0 // c.0) Q) (chosen v e)) es
-        choices_show [] [] h = refl
-        choices_show (m ∷ maps) (e ∷ es) h = map-append (λ n. (answers n).tree u v Q) (flat_map (chosen_at m) (at e.0 v)) (chosen_of maps es)
-            ∙ (λ i. each_show o answers _ u v _ Q _ _ (chosen_answer m e L h.0) i
-            ++ choices_show maps es h.1 i)
-        choices_show _ _ h = absurd h
+    choices_answer : (maps : List (SmallMap N)) (es : Rows) (L : Path) → MapsAnswer maps es L → AnswerEach o answers (choice_answers o.world) (chosen_of maps es) (choices es v) L
+    choices_answer [] [] L h = tt
+    choices_answer (m ∷ maps) (e ∷ es) L h = each_append o answers (choice_answers o.world) (flat_map (chosen_at m) (at e.0 v)) (chosen_of maps es) (map (λ c. (e.0, c.0, c.1)) (chosen v e)) (choices es v) L
+        (under_key e.0 (flat_map (chosen_at m) (at e.0 v)) (chosen v e) L (chosen_answer m e L h.0)) (choices_answer maps es L h.1)
+    choices_answer _ _ L h = absurd h
 
   -- ---- the validator
 
@@ -201,22 +171,15 @@ module _ {K R N : Type 0} (o : Kit K R) (answers : N → Answers) where
 
     means_property_dependencies : (ms : Members) (P : Path) → L ≡ P // codes "propertyDependencies" → KeywordMeans o answers ms (choices_of m L ∷ []) (codes "propertyDependencies", d) P
     unfolding answers_of
-    means_property_dependencies ms P p = record {
-      holds = one o answers ms (choices_of m L) (codes "propertyDependencies", d) property_dependencies P
-          (λ u v. ap (λ ds. (every (λ n. (answers n).means v) (chosen_nodes ds v)).accepts u) held ∙ choices_accept v u L maps (members d) stand
-          ∙ sym (fact.property_dependencies_accepts o.world ms d u v))
-          (λ u v. subst₂ (λ ds k. (every (λ n. (answers n).means v) (chosen_nodes ds v)).asks u ≤ k) (sym held) (sym (fact.property_dependencies_asks o.world ms d u v))
-          (choices_ask v u L maps (members d) stand))
-          (λ u v Q. subst₂ (λ ds fs. flat_map (λ n. (answers n).report u v Q) (chosen_nodes ds v) ∼ fs) (sym held)
-          (ap (λ M. flat_map (λ e. flat_map (λ c. report o.world u c.1 v (M // e.0 // c.0) Q) (chosen v e)) (members d)) p
-          ∙ sym (fact.property_dependencies_report o.world ms d u v P Q)) (choices_find v u L Q maps (members d) stand));
-      shows = λ u h v Q. ap (λ t. t ∷ [])
-          (ap (λ ds. plain L Q (map (λ n. (answers n).tree u v Q) (chosen_nodes ds v))) held ∙ ap (plain L Q) (choices_show v u L Q maps (members d) stand)
-          ∙ ap (λ M. plain M Q (flat_map (λ e. map (λ c. tree o.world u c.1 v (M // e.0 // c.0) Q) (chosen v e)) (members d))) p)
-          ∙ sym (fact.property_dependencies_child o.world ms d u v P Q);
-      formed = just_one_formed o answers (choices_of m L) (and_from _ _ (paired (names_of d) maps (maps_count maps (members d) L stand) m.names m.nodes names nodes)
-          (ap (list_all (λ m. is_paired m.names m.nodes && list_all (has_form o answers) (nodes_in (named m)))) held_maps ∙ maps_formed maps (members d) L stand));
-    }
+    means_property_dependencies ms P p =
+        means_told o answers ms (choices_of m L) (codes "propertyDependencies", d) P L _ p (property_dependencies_told o.world ms d)
+        (nodes_told o answers (choice_answers o.world) (choices (members d)) (choices_of m L) (chosen_nodes (named m)) L (each_asks o answers (choices_of m L) (chosen_nodes (named m)) L _ _ refl)
+        (λ v. subst (λ ds. AnswerEach o answers (choice_answers o.world) (chosen_nodes ds v) (choices (members d) v) L) (sym held) (choices_answer v maps (members d) L stand))
+        (and_from _ _ (paired (names_of d) maps (maps_count maps (members d) L stand) m.names m.nodes names nodes)
+        (ap (list_all (λ m. is_paired m.names m.nodes && list_all (has_form o answers) (nodes_in (named m)))) held_maps ∙ maps_formed maps (members d) L stand)))
+        (λ own. append-nil (stand_as o answers (choices_of m L)) ∙ ap (λ l. (L, property_dependencies_form) ∷ flat_map (λ m. flat_map (stand_in o answers) (nodes_in (named m))) l) held_maps
+        ∙ ap (λ l. (L, property_dependencies_form) ∷ l) (maps_placed maps (members d) L stand)
+        ∙ (λ i. (p i, property_dependencies_form) ∷ flat_map (λ e. each_placed o.world (p i // e.0) (members e.1)) (members d)) ∙ sym (property_dependencies_stand o.world ms P d))
 
   -- ---- what is made of the nodes
 
@@ -243,12 +206,12 @@ module _ {K R N : Type 0} (o : Kit K R) (answers : N → Answers) where
   maps_answer _ ns _ es L h q stand = absurd h
 
   module _ (keys : List Name) (maps : Vec (SmallMap N) Global) (texts : Vec (List Name) Global) (ns : List N) (L : Path) (is : AreCut texts.items ns maps.items) where
-    abbrev choices : SmallMap (SmallMap N)
-    choices = record { names = keys; nodes = maps }
+    abbrev together : SmallMap (SmallMap N)
+    together = record { names = keys; nodes = maps }
 
-    pub makes_property_dependencies : MakesMember o answers (shape.PropertyDependencies keys texts) L ns (choices_of choices L ∷ [])
+    pub makes_property_dependencies : MakesMember o answers (shape.PropertyDependencies keys texts) L ns (choices_of together L ∷ [])
     makes_property_dependencies ms x P p s h = by_its_name o answers s.0 p
-        (means_property_dependencies choices maps.items L x.1 s.2 refl (maps_answer texts.items ns maps.items (members x.1) L is s.3 h) ms P)
+        (means_property_dependencies together maps.items L x.1 s.2 refl (maps_answer texts.items ns maps.items (members x.1) L is s.3 h) ms P)
 
-    pub keys_of_property_dependencies : MakesPropertyDependencies o answers (shape.PropertyDependencies keys texts) L ns (choices_of choices L)
-    keys_of_property_dependencies x s h = choices_are choices maps.items L x.1 s.2 refl (maps_answer texts.items ns maps.items (members x.1) L is s.3 h)
+    pub keys_of_property_dependencies : MakesPropertyDependencies o answers (shape.PropertyDependencies keys texts) L ns (choices_of together L)
+    keys_of_property_dependencies x s h = choices_are together maps.items L x.1 s.2 refl (maps_answer texts.items ns maps.items (members x.1) L is s.3 h)

@@ -1,5 +1,5 @@
 -- What validators mean together.
-use Rattle.olk_make.proofs.Entries.{Rows}
+use Rattle.olk_meaning.proofs.Rows.{Rows}
 use Rattle.std.specs.Prelude.{◌≡◌, ◌≤◌, ◌+◌, ℕ, Some, Bool, true, false, ◌&&◌, List, [], ◌∷◌, ◌++◌, IsPermutation}
 use Rattle.std.specs.List.{flat_map}
 use Rattle.std.proofs.Common.{refl, sym, ◌∙◌, ap, subst, arith}
@@ -18,12 +18,12 @@ use Rattle.olk_spec.specs.Malformed.{has_repeat}
 use Rattle.olk_spec.proofs.Order.{∼_same, ∼_append, ∼_permuted}
 use Rattle.olk_spec.proofs.Truth.{and_from}
 use Rattle.olk_base.specs.Kit.{Kit}
-use Rattle.olk_tree.specs.Questions.{Question, every}
+use Rattle.olk_tree.specs.Questions.{Question, every, of_asked}
 use Rattle.olk_tree.specs.Validators.{validator_means}
 use Rattle.olk_tree.specs.Answers.{Answers}
 use Rattle.olk_meaning.specs.Conditions.{is_restricted}
 use Rattle.olk_meaning.specs.Plans.{Planned, head, tells_members, claims}
-use Rattle.olk_meaning.specs.Members.{member_accepts, member_asks, member_report, StandsAlone}
+use Rattle.olk_meaning.specs.Members.{member_accepts, member_asks, member_report, StandsAlone, StandsByItself}
 use Rattle.olk_spec.proofs.Each.{Each}
 use Rattle.olk_make.specs.Holding.{all_malformed, which, ask, find, Covers}
 use Rattle.olk_make.specs.Making.{KeywordMeans, KeywordsMean}
@@ -35,7 +35,7 @@ use Rattle.olk_meaning.proofs.Heads.{names_of, claims_are_all}
 -- ---- questions one after another
 
 every-append : {X : Type 0} (f : X → Question) (xs ys : List X) (u : Bool) → ((every f (xs ++ ys)).accepts u ≡ ((every f xs).accepts u && (every f ys).accepts u))
-    × ((every f (xs ++ ys)).asks u ≡ (every f xs).asks u + (every f ys).asks u)
+    × ((every f (xs ++ ys)).asks of_asked u ≡ (every f xs).asks of_asked u + (every f ys).asks of_asked u)
 every-append f [] ys u = (refl, omega arith)
 every-append f (x ∷ xs) ys u = (
   ap (λ b. (f x).accepts u && b) (every-append f xs ys u).0 ∙ sym (and_assoc ((f x).accepts u) ((every f xs).accepts u) ((every f ys).accepts u)),
@@ -66,6 +66,7 @@ module _ {K R N : Type 0} (o : Kit K R) (answers : N → Answers) where
       covers = record { verdict = λ u v. refl; asks_within = λ u v. omega arith; faults = λ u v Q. like_empty };
       shows = λ clean u v Q. refl;
       formed = refl;
+      forms = λ clean. refl;
     }
 
     -- of a member that means nothing
@@ -78,12 +79,14 @@ module _ {K R N : Type 0} (o : Kit K R) (answers : N → Answers) where
       };
       shows = λ clean u v Q. sym (append-nil _ ∙ nothing.child u v P Q);
       formed = refl;
+      forms = λ clean. sym (append-nil _ ∙ nothing.stands P);
     }
 
     -- what one member means alone
     pub means_alone : (ks : List (KeywordOver K R N)) (e : Name × Data) → (is_restricted ms && tells_members e.0) ≡ false
-        → (all_malformed o ms P (listed ms) ≡ [] → (u : Bool) → StandsAlone o.world u ms e (which o ms e)) → KeywordMeans o answers ms ks e P → KeywordsMean o answers ms ks (e ∷ []) (e ∷ []) P
-    means_alone ks e untaken alone k = record {
+        → (all_malformed o ms P (listed ms) ≡ [] → (u : Bool) → StandsAlone o.world u ms e (which o ms e)) → (all_malformed o ms P (listed ms) ≡ [] → StandsByItself o.world ms (which o ms e))
+        → KeywordMeans o answers ms ks e P → KeywordsMean o answers ms ks (e ∷ []) (e ∷ []) P
+    means_alone ks e untaken alone own k = record {
       covers = record {
         verdict = λ u v. k.holds.verdict u v ∙ sym (and-true (member_accepts o.world ms e (which o ms e) u v));
         asks_within = λ u v.
@@ -95,6 +98,7 @@ module _ {K R N : Type 0} (o : Kit K R) (answers : N → Answers) where
       };
       shows = λ clean u v Q. k.shows u (alone clean u) v Q ∙ sym (append-nil _);
       formed = k.formed;
+      forms = λ clean. k.forms (own clean) ∙ sym (append-nil _);
     }
 
     more_keywords : (ks ls new : List (KeywordOver K R N)) (rows more es fs : Rows) → new ≡ ks ++ ls → KeywordsMean o answers ms ks rows es P
@@ -113,6 +117,7 @@ module _ {K R N : Type 0} (o : Kit K R) (answers : N → Answers) where
       };
       shows = λ clean u v Q. map-append _ ks ls ∙ (λ i. h.shows clean u v Q i ++ k.shows clean u v Q i) ∙ sym (flat_map-append _ es fs);
       formed = list_all-append _ ks ls ∙ and_from _ _ h.formed k.formed;
+      forms = λ clean. flat_map-append _ ks ls ∙ (λ i. h.forms clean i ++ k.forms clean i) ∙ sym (flat_map-append _ es fs);
     }
 
     -- the same rows in another order
@@ -125,7 +130,7 @@ module _ {K R N : Type 0} (o : Kit K R) (answers : N → Answers) where
 
     pub means_permuted : (ks : List (KeywordOver K R N)) (rows others es : Rows) → IsPermutation rows others → KeywordsMean o answers ms ks rows es P
         → KeywordsMean o answers ms ks others es P
-    means_permuted ks rows others es same h = record { covers = covers_permuted ks rows others same h.covers; shows = h.shows; formed = h.formed }
+    means_permuted ks rows others es same h = record { covers = covers_permuted ks rows others same h.covers; shows = h.shows; formed = h.formed; forms = h.forms }
 
     module _ (heads : Name → Name) where
       pub one_more_keyword : (ks ls new : List (KeywordOver K R N)) (es : Rows) (e : Name × Data) → new ≡ ks ++ ls

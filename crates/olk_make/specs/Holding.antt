@@ -8,8 +8,9 @@ use Rattle.olk_spec.specs.Faults.{Fault, ◌∼◌}
 use Rattle.olk_spec.specs.Tree.{Tree}
 use Rattle.olk_spec.specs.Schemas.{members}
 use Rattle.olk_base.specs.Kit.{Kit}
-use Rattle.olk_tree.specs.Questions.{every}
-use Rattle.olk_tree.specs.Validators.{validator_means, validator_report, validator_tree, validator_formed}
+use Rattle.olk_tree.specs.Questions.{every, of_asked}
+use Rattle.olk_tree.specs.Validators.{validator_means, validator_report, validator_tree, validator_formed, validator_forms}
+use Rattle.olk_meaning.specs.Chosen.{Placed}
 use Rattle.olk_tree.specs.Answers.{Answers}
 use Rattle.olk_tree.specs.Places.{Stands}
 use Rattle.olk_meaning.specs.Conditions.{is_restricted}
@@ -47,7 +48,7 @@ module _ {K R N : Type 0} (o : Kit K R) (answers : N → Answers) where
     means v u = (every (λ k. validator_means o (λ n. (answers n).means) k v) ks).accepts u
 
     abbrev pub ask : Data → Bool → ℕ
-    ask v u = (every (λ k. validator_means o (λ n. (answers n).means) k v) ks).asks u
+    ask v u = (every (λ k. validator_means o (λ n. (answers n).means) k v) ks).asks of_asked u
 
     abbrev pub find : Bool → Data → Path → List Fault
     find u v Q = flat_map (λ k. validator_report o (λ n. (answers n).means) (λ n. (answers n).report) u k v Q) ks
@@ -58,6 +59,10 @@ module _ {K R N : Type 0} (o : Kit K R) (answers : N → Answers) where
     -- whether each has the form that is chosen for what it holds, and so have all nodes inside
     abbrev pub all_formed : Bool
     all_formed = list_all (λ k. validator_formed o (λ n. (answers n).formed) k) ks
+
+    -- each validator before what stands inside it
+    abbrev pub stand : List Placed
+    stand = flat_map (λ k. validator_forms o (λ n. (answers n).forms) k) ks
 
     -- it is what one member means; what is asked is bounded where `additionalProperties` doesn't take the keyword over
     pub record Holds (m : Name × Data) (w : Keyword) (P : Path) : Type 0 where

@@ -8,8 +8,8 @@ use Rattle.olk_spec.specs.Malformed.{has_repeat}
 use Rattle.olk_base.specs.Kit.{Kit}
 use Rattle.olk_tree.specs.declared.node.KeywordOver.{KeywordOver}
 use Rattle.olk_meaning.specs.Plans.{Planned, plan_of, head, claims}
-use Rattle.olk_meaning.specs.Members.{member_child, StandsAlone}
-use Rattle.olk_make.specs.Holding.{which, all_malformed, show, all_formed, Holds, Covers}
+use Rattle.olk_meaning.specs.Members.{member_child, member_standing, StandsAlone, StandsByItself}
+use Rattle.olk_make.specs.Holding.{which, all_malformed, show, all_formed, stand, Holds, Covers}
 use Rattle.olk_meaning.specs.Conditions.{is_condition, known_of}
 use Rattle.olk_tree.specs.Answers.{Answers}
 use Rattle.olk_tree.specs.Places.{Stands}
@@ -23,11 +23,12 @@ use Rattle.olk_read.specs.declared.shape.Shape.{Shape}
 
 module _ {K R N : Type 0} (o : Kit K R) (answers : N → Answers) where
   module _ (ms : Members) (ks : List (KeywordOver K R N)) where
-    -- in the schema object with the members ms at P, the keywords mean what the rows mean together, show what the members es show, and have their form
+    -- in the schema object with the members ms at P, the keywords mean what the rows mean together, show what the members es show, have their form, and are the validators of these members
     pub record KeywordsMean (rows es : List (Name × Data)) (P : Path) : Type 0 where
       pub covers : Covers o answers ms ks rows P
       pub shows : all_malformed o ms P (listed ms) ≡ [] → (u : Bool) (v : Data) (Q : Path) → show o answers ms ks u v Q ≡ flat_map (λ m. member_child o.world ms m (which o ms m) u v P Q) es
       pub formed : all_formed o answers ms ks ≡ true
+      pub forms : all_malformed o ms P (listed ms) ≡ [] → stand o answers ms ks ≡ flat_map (λ m. member_standing o.world ms m (which o ms m) P) es
 
     -- they mean what the object means
     abbrev pub ObjectIsMade : Path → Type 0
@@ -38,6 +39,7 @@ module _ {K R N : Type 0} (o : Kit K R) (answers : N → Answers) where
       pub holds : Holds o answers ms ks m (which o ms m) P
       pub shows : (u : Bool) → StandsAlone o.world u ms m (which o ms m) → (v : Data) (Q : Path) → show o answers ms ks u v Q ≡ member_child o.world ms m (which o ms m) u v P Q
       pub formed : all_formed o answers ms ks ≡ true
+      pub forms : StandsByItself o.world ms (which o ms m) → stand o answers ms ks ≡ member_standing o.world ms m (which o ms m) P
 
   -- keywords that are made of a shape and nodes at L mean the member whose part these are, in each object
   abbrev pub MakesMember : Shape K R → Path → List N → List (KeywordOver K R N) → Type 0

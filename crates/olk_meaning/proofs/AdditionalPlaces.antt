@@ -1,4 +1,4 @@
--- What is wrong with `additionalProperties`, the places that it reads and what it costs; and that it means nothing where it allows every other member.
+-- What is wrong with `additionalProperties`, and the places that it reads; and that it means nothing where it allows every other member.
 use Rattle.std.specs.Prelude.{◌≡◌, Bool, true, false, not, cond, ◌||◌, List, [], ◌++◌, codes, Some, sum_by}
 use Rattle.std.specs.List.{list_all, flat_map}
 use Rattle.std.proofs.Common.{refl, sym, ◌∙◌, ap}
@@ -15,13 +15,13 @@ use Rattle.olk_spec.specs.Reports.{unexpected_faults}
 use Rattle.olk_spec.specs.Tree.{Tree}
 use Rattle.olk_spec.proofs.Walks.{neither}
 use Rattle.olk_spec.specs.Malformed.{own_refusals, read_places, places_where, itself, unless_kind, malformations_step, malformations_at}
-use Rattle.olk_spec.specs.Costs.{cost, cost_step, no_cost, total_cost}
-use Rattle.olk_spec.proofs.CostSums.{sum_first, sum_last}
 use Rattle.olk_spec.proofs.Reading.{place, whole_read, schema_of_read}
+use Rattle.olk_meaning.specs.Chosen.{restriction_standing, standing_step}
 use Rattle.olk_meaning.specs.Conditions.{is_restriction, is_restricted}
-use Rattle.olk_meaning.specs.Members.{member_malformations, member_cost}
+use Rattle.olk_meaning.specs.Members.{member_malformations}
 use Rattle.olk_meaning.specs.AdditionalProperties.{is_rule, declared_beside, patterns_beside, has_beside, is_other, other_members, rest_accepts, rest_asks, rest_report, others_report}
-use Rattle.olk_meaning.proofs.AdditionalProperties.{each_passes, nothing_of_each, additional_accepts, additional_report}
+use Rattle.olk_spec.proofs.Passing.{flat_map-none}
+use Rattle.olk_meaning.proofs.AdditionalProperties.{each_passes, additional_accepts, additional_report}
 use Rattle.olk_meaning.proofs.Conditions.{MeansNothing, restricted_read}
 use Rattle.olk_meaning.proofs.Exchanged.{sum_of_none}
 use Rattle.olk_meaning.proofs.Rows.{Rows}
@@ -48,19 +48,15 @@ module _ (W : World) (ms : Members) (d : Data) where
       by true = append-nil _
       by false = refl
 
-  pub additional_cost : member_cost W ms (codes "additionalProperties", d) additional_properties ≡ cond (is_object d) (cost W d) no_cost
-  unfolding cost
-  additional_cost = sum_first _ ∙ ap (total_cost (λ r. r.0.answer)) (additional_places (cost_step W) d (codes "additionalProperties") (read_members (cost_step W) ms)) ∙ by (is_object d)
-    where
-      by : (b : Bool) → total_cost (λ r. r.0.answer) (places_where (codes "additionalProperties") b (itself (codes "additionalProperties") (place (cost_step W) d))) ≡ cond b (cost W d) no_cost
-      by true = sum_last _
-      by false = refl
-
 -- ---- where it allows every other member
 
-no_other_truth : {X : Type 0} (b : Bool) (x : X) → cond b x x ≡ x
-no_other_truth true x = refl
-no_other_truth false x = refl
+pub either_way : {X : Type 0} (b : Bool) (x : X) → cond b x x ≡ x
+either_way true x = refl
+either_way false x = refl
+
+pub true_allows : (d : Data) → is_truth true d ≡ true → is_restriction (Some d) ≡ false
+true_allows (boolean true) e = refl
+true_allows d e = absurd (true≢false (sym e))
 
 module _ (W : World) (ms : Members) (d : Data) (allows : is_restriction (Some d) ≡ false) where
   module _ (u : Bool) (v : Data) where
@@ -87,7 +83,7 @@ module _ (W : World) (ms : Members) (d : Data) (allows : is_restriction (Some d)
     nothing_asked = by d allows
       where
         none : sum_by (λ x. cond (is_other W u fs es x.0) 0 0) (members v) ≡ 0
-        none = (λ i. sum_by (λ (x : Name × Data). no_other_truth (is_other W u fs es x.0) 0 i) (members v)) ∙ sum_of_none (members v)
+        none = (λ i. sum_by (λ (x : Name × Data). either_way (is_other W u fs es x.0) 0 i) (members v)) ∙ sum_of_none (members v)
 
         by : (d : Data) → is_restriction (Some d) ≡ false → sum_by (rest_asks W u fs es d) (members v) ≡ 0
         by (boolean false) e = absurd (true≢false e)
@@ -100,15 +96,16 @@ module _ (W : World) (ms : Members) (d : Data) (allows : is_restriction (Some d)
         (λ i. flat_map (λ (x : Name × Data). cond (is_other W u fs es x.0) (cond (h.1 i) (report W u d x.1 (P // codes "additionalProperties") (Q // x.0)) []) []) (members v)
         ++ cond (h.0 i) (unexpected_faults (has_beside ms) (other_members W u fs es v) v (P // codes "additionalProperties") Q) [])
         ∙ append-nil _
-        ∙ (λ i. flat_map (λ (x : Name × Data). no_other_truth {X = List Fault} (is_other W u fs es x.0) [] i) (members v))
-        ∙ nothing_of_each (members v)
+        ∙ (λ i. flat_map (λ (x : Name × Data). either_way {X = List Fault} (is_other W u fs es x.0) [] i) (members v))
+        ∙ flat_map-none (members v)
 
-  -- it accepts everything, finds nothing and shows nothing
+  -- it accepts everything, finds nothing, shows nothing and has no validator
   pub allowing_means_nothing : is_restricted ms ≡ false → MeansNothing W ms (codes "additionalProperties", d)
   allowing_means_nothing free = record {
     verdict = λ u v. additional_accepts W ms d u v ∙ allowed u v;
     report = λ u v P Q. additional_report W ms d u v P Q ∙ nothing_found u v P Q;
     child = λ u v P Q. shows_nothing _ _ (restricted_read (meaning_step W u) ms ∙ free);
+    stands = λ P. ap (λ b. cond b (restriction_standing (read_members (standing_step W) ms) P (codes "additionalProperties") (read (standing_step W) d)) []) (restricted_read (standing_step W) ms ∙ free);
   }
     where
       shows_nothing : (b : Bool) (t : Tree) → b ≡ false → put_if b t [] ≡ []

@@ -1,18 +1,16 @@
 -- `additionalProperties` itself, over the raw data of its value and of what stands beside it.
-use Rattle.std.specs.Prelude.{◌≡◌, ℕ, ◌+◌, Bool, true, false, not, cond, ◌&&◌, ◌||◌, List, [], ◌∷◌, ◌++◌, sum_by, codes}
+use Rattle.std.specs.Prelude.{◌≡◌, Bool, true, false, not, cond, ◌&&◌, ◌||◌, List, [], ◌∷◌, ◌++◌, map, sum_by, codes}
 use Rattle.std.specs.List.{list_all, flat_map}
 use Rattle.std.proofs.Common.{refl, sym, ◌∙◌, ap}
 use Rattle.std.proofs.lemmas.List.{append-nil}
-use Rattle.std.proofs.lemmas.List.Sums.{sum_by-cons}
 use Rattle.std.proofs.Math.Bool.{and-true, or-true}
 use Rattle.serde_json.specs.Data.{Data, boolean, object, Members}
 use Rattle.olk_spec.specs.Names.{Name, Path, ◌//◌, down, filter_once, put_if, is_empty}
 use Rattle.olk_spec.specs.World.{World}
 use Rattle.olk_spec.specs.Vocabulary.{additional_properties}
-use Rattle.olk_spec.specs.Faults.{Fault}
 use Rattle.olk_spec.specs.Schemas.{Schema, Sub, read, read_members, members, is_object, is_truth}
 use Rattle.olk_spec.specs.Meanings.{Meaning, Asked, asked}
-use Rattle.olk_spec.specs.Meaning.{accepts, asks, report, meaning, meaning_step}
+use Rattle.olk_spec.specs.Meaning.{asks, report, meaning, meaning_step}
 use Rattle.olk_spec.specs.Reports.{unexpected_faults, own}
 use Rattle.olk_spec.proofs.Walks.{list_all-filter_once}
 use Rattle.olk_spec.proofs.Reading.{place, whole_read}
@@ -20,27 +18,17 @@ use Rattle.olk_meaning.specs.Members.{member_accepts, member_asks, member_report
 use Rattle.olk_meaning.specs.AdditionalProperties.{declared_beside, patterns_beside, has_beside, is_other, other_members, rest_accepts, rest_report, rest_asks, others_report}
 use Rattle.olk_meaning.proofs.Beside.{additional_read, neighbour_read}
 use Rattle.olk_meaning.proofs.Exchanged.{sum_of_none, sum_of_those, flat_map-filter_once}
-use Rattle.olk_meaning.proofs.Facts.{accepts_it, asks_it, finds_it, nothing_last}
+use Rattle.olk_meaning.proofs.Facts.{accepts_it, asks_it, finds_it, sum_by_under, nothing_last}
+use Rattle.olk_spec.proofs.Passing.{flat_map-none}
+use Rattle.olk_spec.proofs.Maps.{flat_map-map}
+use Rattle.std.proofs.lemmas.List.Folds.{list_all-map}
 use Rattle.olk_meaning.proofs.Rows.{Rows}
 
 -- ---- walks over what is asked where a test holds
 
-module _ {X Y : Type 0} (h : X → Y) where
-  all_of_each : (f : Y → Bool) (xs : List X) → list_all f (flat_map (λ x. h x ∷ []) xs) ≡ list_all (λ x. f (h x)) xs
-  all_of_each f [] = refl
-  all_of_each f (x ∷ xs) = ap (λ b. f (h x) && b) (all_of_each f xs)
-
-  sum_of_each : (f : Y → ℕ) (xs : List X) → sum_by f (flat_map (λ x. h x ∷ []) xs) ≡ sum_by (λ x. f (h x)) xs
-  sum_of_each f [] = refl
-  sum_of_each f (x ∷ xs) = sum_by-cons f (h x) (flat_map (λ x. h x ∷ []) xs) ∙ ap (λ n. f (h x) + n) (sum_of_each f xs) ∙ sym (sum_by-cons _ x xs)
-
-  found_of_each : (f : Y → List Fault) (xs : List X) → flat_map f (flat_map (λ x. h x ∷ []) xs) ≡ flat_map (λ x. f (h x)) xs
-  found_of_each f [] = refl
-  found_of_each f (x ∷ xs) = ap (λ l. f (h x) ++ l) (found_of_each f xs)
-
-pub nothing_of_each : {X Y : Type 0} (xs : List X) → ◌≡◌ {A = List Y} (flat_map (λ x. []) xs) []
-nothing_of_each [] = refl
-nothing_of_each (x ∷ xs) = nothing_of_each xs
+one_of_each : {X Y : Type 0} (h : X → Y) (xs : List X) → flat_map (λ x. h x ∷ []) xs ≡ map h xs
+one_of_each h [] = refl
+one_of_each h (x ∷ xs) = ap (λ l. h x ∷ l) (one_of_each h xs)
 
 -- none passes a test where each that passes would be refused
 none_passes : {X : Type 0} (t : X → Bool) (xs : List X) → is_empty (filter_once t xs) ≡ list_all (λ x. not (t x) || false) xs
@@ -55,15 +43,6 @@ none_passes t (x ∷ xs) = by (t x) (none_passes t xs)
 pub each_passes : {X : Type 0} (t : X → Bool) (xs : List X) → true ≡ list_all (λ x. not (t x) || true) xs
 each_passes t [] = refl
 each_passes t (x ∷ xs) = each_passes t xs ∙ ap (λ b. b && list_all (λ y. not (t y) || true) xs) (sym (or-true _))
-
--- false accepts nothing, and asks nothing
-pub false_accepts_none : (W : World) (u : Bool) (v : Data) → accepts W u (boolean false) v ≡ false
-unfolding meaning
-false_accepts_none W u v = refl
-
-pub false_asks_nothing : (W : World) (u : Bool) (v : Data) → asks W u (boolean false) v ≡ 0
-unfolding meaning
-false_asks_nothing W u v = refl
 
 -- ---- the keyword itself
 
@@ -96,13 +75,13 @@ module _ (W : World) (ms : Members) (d : Data) (u : Bool) (v : Data) where
       ∙ by d
     where
       allowing : list_all accepts_it (flat_map (λ x. []) others) && true ≡ list_all (λ x. not (is_other W u fs es x.0) || true) (members v)
-      allowing = ap (λ l. list_all accepts_it l && true) (nothing_of_each others) ∙ each_passes _ (members v)
+      allowing = ap (λ l. list_all accepts_it l && true) (flat_map-none others) ∙ each_passes _ (members v)
 
       by : (d : Data) → (list_all accepts_it (asked_by (place to_meaning d) others) && (not (is_truth false d) || is_empty others)) ≡ list_all
           (rest_accepts W u fs es d) (members v)
-      by (boolean false) = ap (λ l. list_all accepts_it l && is_empty others) (nothing_of_each others) ∙ none_passes _ (members v)
+      by (boolean false) = ap (λ l. list_all accepts_it l && is_empty others) (flat_map-none others) ∙ none_passes _ (members v)
       by (object gs) =
-          and-true _ ∙ all_of_each _ _ others ∙ list_all-filter_once _ _ (members v)
+          and-true _ ∙ ap (list_all accepts_it) (one_of_each (asked_of (place to_meaning (object gs))) others) ∙ list_all-map accepts_it (asked_of (place to_meaning (object gs))) others ∙ list_all-filter_once _ _ (members v)
       by _ = allowing
 
   pub additional_asks : member_asks W ms (codes "additionalProperties", d) additional_properties u v ≡ sum_by (rest_asks W u fs es d) (members v)
@@ -114,10 +93,10 @@ module _ (W : World) (ms : Members) (d : Data) (u : Bool) (v : Data) where
       ∙ sym (sum_of_those _ _ (members v))
     where
       nothing : sum_by asks_it (flat_map (λ x. []) others) ≡ sum_by (λ x. 0) others
-      nothing = ap (sum_by asks_it) (nothing_of_each others) ∙ sym (sum_of_none others)
+      nothing = ap (sum_by asks_it) (flat_map-none others) ∙ sym (sum_of_none others)
 
       by : (d : Data) → sum_by asks_it (asked_by (place to_meaning d) others) ≡ sum_by (λ x. asks W u d x.1) others
-      by (object gs) = sum_of_each _ _ others
+      by (object gs) = ap (sum_by asks_it) (one_of_each (asked_of (place to_meaning (object gs))) others) ∙ sum_by_under (asked_of (place to_meaning (object gs))) asks_it others
       by (boolean true) = nothing
       by _ = nothing
 
@@ -144,5 +123,5 @@ module _ (W : World) (ms : Members) (d : Data) (u : Bool) (v : Data) where
     where
       by : (b : Bool) → flat_map (λ (a : Asked). a.sub.answer.report a.value (down P a.in_schema) (down Q a.in_instance)) (flat_map (λ x. put_if b (asked_of (place to_meaning d) x) []) others)
           ≡ flat_map (λ x. cond b (report W u d x.1 (P // codes "additionalProperties") (Q // x.0)) []) others
-      by true = found_of_each _ _ others
-      by false = ap (flat_map _) (nothing_of_each others) ∙ sym (nothing_of_each others)
+      by true = ap (flat_map (finds_it P Q)) (one_of_each (asked_of (place to_meaning d)) others) ∙ flat_map-map (finds_it P Q) _ (asked_of (place to_meaning d)) (λ x. refl) others
+      by false = ap (flat_map _) (flat_map-none others) ∙ sym (flat_map-none others)

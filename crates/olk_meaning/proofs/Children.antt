@@ -1,27 +1,30 @@
--- What each keyword shows, over the raw data of its value.
-use Rattle.std.specs.Prelude.{◌≡◌, ℕ, ◌+◌, ◌==◌, Bool, true, false, not, cond, ◌&&◌, List, [], ◌∷◌, ◌++◌, map, count_by, codes, Some, None, option_to_list}
-use Rattle.std.specs.List.{flat_map}
-use Rattle.std.specs.declared.cmp.Ordering.{Ordering}
-use Rattle.std.specs.declared.cmp.Ordering.TheVariants.{Less, Equal, Greater}
+-- What keywords answer that stand alone, over the raw data of their values.
+use Rattle.std.specs.Prelude.{◌≡◌, ℕ, ◌+◌, ◌==◌, Bool, true, false, not, cond, ◌&&◌, List, [], ◌∷◌, ◌++◌, map, count_by, sum_by, codes, Some, None, option_to_list}
+use Rattle.std.specs.List.{flat_map, list_any}
 use Rattle.std.proofs.Common.{refl, sym, ◌∙◌, ap, arith}
 use Rattle.std.proofs.lemmas.List.Sums.{sum_by-cons}
 use Rattle.std.proofs.Math.Bool.{and-true}
-use Rattle.serde_json.specs.Data.{Data, object, array, Members, Items}
-use Rattle.olk_spec.specs.Names.{Name, Path, ◌//◌, lookup_name, first_if_equal, filter_once, put_if, is_among, is_empty}
+use Rattle.serde_json.specs.Data.{Data, Members}
+use Rattle.olk_spec.specs.Names.{Name, Path, ◌//◌, lookup_name, filter_once, put_if, is_among, is_empty}
 use Rattle.olk_spec.specs.World.{World}
 use Rattle.olk_spec.specs.Vocabulary.{properties, required, all_of, any_of, not_keyword, leaf}
-use Rattle.olk_spec.specs.Faults.{Not, Leaf, fault}
-use Rattle.olk_spec.specs.Schemas.{Sub, Schema, read, read_members, answer_for, listed, numbered, members, texts, branches, is_object, entries_at}
-use Rattle.olk_spec.specs.Malformed.{items_list}
-use Rattle.olk_spec.specs.Meanings.{Meaning, restricts, asked_whole, holds}
-use Rattle.olk_spec.specs.Meaning.{accepts, tree, meaning, meaning_step}
+use Rattle.olk_spec.specs.Faults.{Not, AnyOf, Leaf, fault, context}
+use Rattle.olk_spec.specs.Schemas.{Sub, Schema, read, read_members, listed, numbered, members, texts, branches, is_object, entries_at}
+use Rattle.olk_spec.specs.Malformed.{items_of_array}
+use Rattle.olk_spec.specs.Meanings.{Meaning, restricts, holds}
+use Rattle.olk_spec.specs.Meaning.{accepts, asks, meaning, meaning_step}
 use Rattle.olk_spec.specs.Accepts.{accepting}
-use Rattle.olk_spec.specs.Reports.{required_faults, fault_if}
-use Rattle.olk_spec.specs.Tree.{Tree, leaf_node, result, plain, erring, described}
+use Rattle.olk_spec.specs.Reports.{required_faults, fault_if, branch_faults}
+use Rattle.olk_spec.specs.Tree.{leaf_node, result, plain, erring, described}
 use Rattle.olk_spec.specs.Trees.{fuses_one, fuses_two, missing_child}
+use Rattle.olk_spec.proofs.Order.{∼_same}
 use Rattle.olk_spec.proofs.Reading.{entry, place, lookup_listed, schema_of_read, entries_there}
 use Rattle.olk_meaning.specs.Members.{member_child, StandsAlone}
-use Rattle.olk_meaning.proofs.Facts.{shows_it, branch_entries, item_entries}
+use Rattle.olk_meaning.specs.Told.{IsTold, entries_told, schema_answers, branches_find, branches_shown, accepting_branches, any_told, shown_at, shown_declared, declared_told, names_told, negation_told, faults_told}
+use Rattle.olk_meaning.proofs.Facts.{at_entries, branch_entries, item_entries, list_any_under, sum_by_under, nothing_first, declared_accept, declared_ask, declared_find, required_accepts, required_asks, required_report}
+use Rattle.olk_spec.proofs.Walks.{list_all-true}
+use Rattle.olk_meaning.proofs.Dependencies.{all_those}
+use Rattle.olk_meaning.proofs.Told.{told_by_entries, asked_entries}
 use Rattle.olk_spec.proofs.Maps.{map-map, filter_once-map, is_empty-map}
 use Rattle.olk_meaning.proofs.Rows.{Rows}
 
@@ -37,10 +40,6 @@ module _ {X : Type 0} (test : X → Bool) where
   none_counted [] = refl
   none_counted (x ∷ xs) = ap (λ n. n == 0) (sum_by-cons _ x xs) ∙ counted_none (test x) (count_by test xs) x (filter_once test xs) (none_counted xs)
 
-all_those : {X : Type 0} (xs : List X) → filter_once (λ x. true) xs ≡ xs
-all_those [] = refl
-all_those (x ∷ xs) = ap (λ l. x ∷ l) (all_those xs)
-
 none_under : {X Y : Type 0} (p : X → Bool) (h : Y → X) (ys : List Y) → is_empty (filter_once p (map h ys)) ≡ is_empty (filter_once (λ y. p (h y)) ys)
 none_under p h ys = ap is_empty (filter_once-map p _ h (λ y. refl) ys) ∙ is_empty-map h _
 
@@ -52,83 +51,53 @@ module _ (W : World) (u : Bool) (v : Data) where
   -- ---- what the declared schemas show of the members
 
   module _ (L Q : Path) where
-    abbrev pub shown_at : Rows → Name × Data → List Tree
-    shown_at es m = map (λ d. tree W u d m.1 (L // m.0) (Q // m.0)) (option_to_list (lookup_name m.0 es))
-
-    abbrev pub shown_declared : Rows → List Tree → Tree
-    shown_declared es more =
-        result L Q (cond (is_object v) (Some (map (λ m. m.0) (filter_once (λ m. is_among m.0 (map (λ e. e.0) es)) (members v)))) None) false [] (flat_map (shown_at es) (members v) ++ more)
-
     pub entry_shown : (m : Name × Data) (es : Rows) → map (λ s. s.answer.tree m.1 (L // m.0) (Q // m.0))
-        (option_to_list (lookup_name m.0 (map (entry to_meaning) es))) ≡ shown_at es m
+        (option_to_list (lookup_name m.0 (map (entry to_meaning) es))) ≡ shown_at W u v L Q es m
     unfolding meaning
-    entry_shown m [] = refl
-    entry_shown m (e ∷ es) = by _ (entry_shown m es)
-      where
-        by : (o : Ordering) → map (λ s. s.answer.tree m.1 (L // m.0) (Q // m.0)) (option_to_list (lookup_name m.0 (map (entry to_meaning) es))) ≡ shown_at es m
-            → map (λ s. s.answer.tree m.1 (L // m.0) (Q // m.0)) (option_to_list
-            (first_if_equal o (place to_meaning e.1) (lookup_name m.0 (map (entry to_meaning) es)))) ≡ map (λ d. tree W u d m.1 (L // m.0) (Q // m.0))
-            (option_to_list (first_if_equal o e.1 (lookup_name m.0 es)))
-        by Less h = h
-        by Equal h = refl
-        by Greater h = h
+    entry_shown m es = ap (map _) (at_entries to_meaning m.0 es) ∙ map-map _ _ (place to_meaning) (λ d. refl) _
 
     entries_shown : (es ms : Rows) → flat_map (λ m. map (λ s. s.answer.tree m.1 (L // m.0) (Q // m.0))
-        (option_to_list (lookup_name m.0 (map (entry to_meaning) es)))) ms ≡ flat_map (shown_at es) ms
+        (option_to_list (lookup_name m.0 (map (entry to_meaning) es)))) ms ≡ flat_map (shown_at W u v L Q es) ms
     entries_shown es [] = refl
     entries_shown es (m ∷ ms) = λ i. entry_shown m es i ++ entries_shown es ms i
 
   -- ---- branches
 
-  module _ (step : Schema Meaning → Meaning) (k : Name) (P Q : Path) where
-    pub whole_shown : (es : Rows) → map (shows_it P Q) (asked_whole k v (map (entry step) es)) ≡ map (λ e. (answer_for step e.1).tree v (P // k // e.0) Q) es
-    whole_shown [] = refl
-    whole_shown (e ∷ es) = ap (λ l. (answer_for step e.1).tree v (P // k // e.0) Q ∷ l) (whole_shown es)
-
-  abbrev pub branches_shown : Path → Path → Rows → List Tree
-  branches_shown L Q es = map (λ e. tree W u e.1 v (L // e.0) Q) es
-
-  abbrev pub accepting_branches : Rows → Rows
-  accepting_branches es = filter_once (λ e. accepts W u e.1 v) es
-
-  abbrev pub any_shown : Path → Path → Rows → Tree
-  any_shown L Q es = cond (is_empty (accepting_branches es)) (result L Q None true [] (branches_shown L Q es)) (plain L Q (branches_shown L Q (accepting_branches es)))
-
-  module _ (k : Name) (P Q : Path) (ds : Items) where
-    pub all_branches_shown : map (λ b. b.1.answer.tree v (P // k // b.0) Q) (filter_once (λ b. true) (branches (read to_meaning (array ds)))) ≡ branches_shown
-        (P // k) Q (numbered (items_list ds))
+  module _ (k : Name) (P Q : Path) (d : Data) where
+    pub all_branches_shown : map (λ b. b.1.answer.tree v (P // k // b.0) Q) (filter_once (λ b. true) (branches (read to_meaning d))) ≡ branches_shown W u v
+        (P // k) Q (numbered (items_of_array d))
     unfolding meaning
-    all_branches_shown = ap (λ bs. map (λ b. b.1.answer.tree v (P // k // b.0) Q) (filter_once (λ b. true) bs)) (branch_entries to_meaning ds)
-        ∙ ap (map _) (all_those _)
+    all_branches_shown = ap (λ bs. map (λ b. b.1.answer.tree v (P // k // b.0) Q) (filter_once (λ b. true) bs)) (branch_entries to_meaning d)
+        ∙ ap (map _) (all_those (λ b. true) (map (entry to_meaning) (numbered (items_of_array d))) (list_all-true (map (entry to_meaning) (numbered (items_of_array d)))))
         ∙ map-map _ _ (entry to_meaning) (λ e. refl) _
 
-    pub accepting_branches_shown : map (λ b. b.1.answer.tree v (P // k // b.0) Q) (filter_once (λ b. holds b.1 v) (branches (read to_meaning (array ds)))) ≡ branches_shown
-        (P // k) Q (accepting_branches (numbered (items_list ds)))
+    pub accepting_branches_shown : map (λ b. b.1.answer.tree v (P // k // b.0) Q) (filter_once (λ b. holds b.1 v) (branches (read to_meaning d))) ≡ branches_shown W u v
+        (P // k) Q (accepting_branches W u v (numbered (items_of_array d)))
     unfolding meaning
-    accepting_branches_shown = ap (λ bs. map (λ b. b.1.answer.tree v (P // k // b.0) Q) (filter_once (λ b. holds b.1 v) bs)) (branch_entries to_meaning ds)
-        ∙ ap (map (λ b. b.1.answer.tree v (P // k // b.0) Q)) (filter_once-map (λ b. holds b.1 v) _ (entry to_meaning) (λ e. refl) (numbered (items_list ds)))
+    accepting_branches_shown = ap (λ bs. map (λ b. b.1.answer.tree v (P // k // b.0) Q) (filter_once (λ b. holds b.1 v) bs)) (branch_entries to_meaning d)
+        ∙ ap (map (λ b. b.1.answer.tree v (P // k // b.0) Q)) (filter_once-map (λ b. holds b.1 v) _ (entry to_meaning) (λ e. refl) (numbered (items_of_array d)))
         ∙ map-map _ _ (entry to_meaning) (λ e. refl) _
 
   module _ (ms : Members) (P Q : Path) where
-    pub properties_child : (fs : Members) → lookup_name (codes "properties") (listed ms) ≡ Some (object fs) → restricts (read_members to_meaning ms) ≡ false
-        → member_child W ms (codes "properties", object fs) properties u v P Q ≡ shown_declared (P // codes "properties") Q (listed fs)
+    pub properties_child : (d : Data) → lookup_name (codes "properties") (listed ms) ≡ Some d → restricts (read_members to_meaning ms) ≡ false
+        → member_child W ms (codes "properties", d) properties u v P Q ≡ shown_declared W u v (P // codes "properties") Q (members d)
         (missing_child W u (read_members to_meaning ms) v P Q (fuses_two (read_members to_meaning ms))) ∷ []
-    properties_child fs there free =
+    properties_child d there free =
         λ i. put_if (not (free i)) (result (P // codes "properties") Q (cond (and-true (is_object v) i) (Some (met i)) None) false []
         (shown i ++ missing_child W u (read_members to_meaning ms) v P Q (fuses_two (read_members to_meaning ms)))) []
       where
-        here : entries_at (read_members to_meaning ms) (codes "properties") ≡ map (entry to_meaning) (listed fs)
-        here = entries_there to_meaning ms (codes "properties") (object fs) (sym (lookup_listed (codes "properties") ms) ∙ there)
+        here : entries_at (read_members to_meaning ms) (codes "properties") ≡ map (entry to_meaning) (members d)
+        here = entries_there to_meaning ms (codes "properties") d (sym (lookup_listed (codes "properties") ms) ∙ there)
 
         met : map (λ m. m.0) (filter_once (λ m. is_among m.0 (map (λ e. e.0) (entries_at (read_members to_meaning ms) (codes "properties")))) (members v)) ≡ map
-            (λ m. m.0) (filter_once (λ m. is_among m.0 (map (λ e. e.0) (listed fs))) (members v))
+            (λ m. m.0) (filter_once (λ m. is_among m.0 (map (λ e. e.0) (members d))) (members v))
         met =
             ap (λ ns. map (λ m. m.0) (filter_once (λ m. is_among m.0 ns) (members v)))
             (ap (map {A = Name × Sub Meaning} _) here ∙ map-map {X = Name × Sub Meaning} {Y = Name × Data} _ _ _ (λ e. refl) _)
 
         shown : flat_map (λ m. map (λ s. s.answer.tree m.1 (P // codes "properties" // m.0) (Q // m.0))
             (option_to_list (lookup_name m.0 (entries_at (read_members to_meaning ms) (codes "properties"))))) (members v) ≡ flat_map
-            (shown_at (P // codes "properties") Q (listed fs)) (members v)
+            (shown_at W u v (P // codes "properties") Q (members d)) (members v)
         shown =
             ap (λ es. flat_map (λ m. map (λ s. s.answer.tree m.1 (P // codes "properties" // m.0) (Q // m.0)) (option_to_list (lookup_name m.0 es))) (members v)) here
             ∙ entries_shown _ Q _ (members v)
@@ -142,29 +111,76 @@ module _ (W : World) (u : Bool) (v : Data) where
         → member_child W ms (codes "required", d) required u v P Q ≡ []
     no_required_child d e f = λ i. put_if (not (e i) && not (f i)) (erring (P // codes "required") Q (required_faults (texts (schema_of_read to_meaning d i)) v (P // codes "required") Q)) []
 
-    module _ (ds : Items) where
-      pub all_of_child : member_child W ms (codes "allOf", array ds) all_of u v P Q ≡ plain (P // codes "allOf") Q (branches_shown (P // codes "allOf") Q (numbered (items_list ds))) ∷ []
-      unfolding meaning
-      all_of_child = ap (λ ts. plain (P // codes "allOf") Q ts ∷ [])
-          (ap (λ es. map (shows_it P Q) (asked_whole (codes "allOf") v es)) (branch_entries to_meaning ds)
-          ∙ whole_shown to_meaning (codes "allOf") P Q (numbered (items_list ds)))
+module _ (W : World) (ms : Members) (d : Data) where
+  abbrev pub given : Rows
+  given = numbered (items_of_array d)
 
-      pub any_of_child : member_child W ms (codes "anyOf", array ds) any_of u v P Q ≡ any_shown (P // codes "anyOf") Q (numbered (items_list ds)) ∷ []
-      unfolding meaning
-      any_of_child =
-          λ i. cond (count i) (result (P // codes "anyOf") Q None true [] (all_branches_shown (codes "anyOf") P Q ds i))
-          (plain (P // codes "anyOf") Q (accepting_branches_shown (codes "anyOf") P Q ds i)) ∷ []
-        where
-          count : (accepting (read to_meaning (array ds)) v == 0) ≡ is_empty (accepting_branches (numbered (items_list ds)))
-          count = none_counted _ ((read to_meaning (array ds)).items)
-              ∙ ap (λ xs. is_empty (filter_once (λ s. holds s v) xs)) (item_entries to_meaning ds)
-              ∙ none_under _ _ (map _ (numbered (items_list ds)))
-              ∙ none_under (λ e. holds e.1 v) (entry to_meaning) (numbered (items_list ds))
+  pub properties_told : IsTold W ms (codes "properties", d) properties (declared_told W (members d))
+  properties_told = record {
+    verdict = declared_accept W ms d;
+    asked = λ free. declared_ask W ms d;
+    faults = λ u v P Q. ∼_same (sym (declared_find W ms d u v P Q));
+    shown = λ u alone v P Q. properties_child W u v ms P Q d alone.0 alone.1
+        ∙ ap (λ b. shown_declared W u v (P // codes "properties") Q (members d) (missing_child W u (read_members (meaning_step W u) ms) v P Q b) ∷ []) alone.2;
+  }
 
-    module _ (d : Data) where
-      pub not_child : member_child W ms (codes "not", d) not_keyword u v P Q ≡ erring (P // codes "not") Q (fault_if (accepts W u d v) (Not d) v (P // codes "not") Q) ∷ []
-      unfolding meaning
-      not_child = ap (λ s. erring (P // codes "not") Q (fault_if (accepts W u d v) (Not s) v (P // codes "not") Q) ∷ []) (schema_of_read to_meaning d)
+  pub required_told : IsTold W ms (codes "required", d) required (names_told (texts d))
+  required_told = record {
+    verdict = required_accepts W ms d;
+    asked = λ free. required_asks W ms d;
+    faults = λ u v P Q. ∼_same (sym (required_report W ms d u v P Q));
+    shown = λ u alone v P Q. required_child W u v ms P Q d alone;
+  }
 
-      pub leaf_child : (k : Name) → member_child W ms (k, d) leaf u v P Q ≡ leaf_node (P // k) Q (described (map (λ t. fault (Leaf k t) v Q (P // k)) (W.faults k d v))) ∷ []
-      leaf_child k = ap (λ s. leaf_node (P // k) Q (described (map (λ t. fault (Leaf k t) v Q (P // k)) (W.faults k s v))) ∷ []) (schema_of_read to_meaning d)
+  pub all_of_told : IsTold W ms (codes "allOf", d) all_of (entries_told (schema_answers W) (λ v. given))
+  all_of_told = told_by_entries W ms (codes "allOf", d) all_of (λ e. e.1) (λ e. e.0 ∷ []) (λ v. given) (λ u v. record {
+    asked = asked_entries (meaning_step W u) (codes "allOf") v given (branch_entries (meaning_step W u) d);
+    wants = refl;
+    asks = refl;
+    finds = λ P Q. refl;
+    shows = λ P Q. refl;
+  })
+
+  module _ (u : Bool) (v : Data) where
+    pub branches_report : (k : Name) (P Q : Path) → branch_faults (read (meaning_step W u) d) v (P // k) Q ≡ branches_find W u v (P // k) Q given
+    unfolding meaning
+    branches_report k P Q = ap context (ap (map _) (branch_entries (meaning_step W u) d) ∙ map-map _ _ (entry (meaning_step W u)) (λ e. refl) _)
+
+    pub items_ask : sum_by (λ s. s.answer.asks v) (read (meaning_step W u) d).items ≡ sum_by (λ e. asks W u e.1 v) given
+    unfolding meaning
+    items_ask = ap (sum_by (λ s. s.answer.asks v)) (item_entries (meaning_step W u) d) ∙ sum_by_under (λ e. place (meaning_step W u) e.1) _ given
+
+    any_accepts : list_any (λ s. holds s v) (read (meaning_step W u) d).items ≡ list_any (λ e. accepts W u e.1 v) given
+    unfolding meaning
+    any_accepts = ap (list_any (λ s. holds s v)) (item_entries (meaning_step W u) d) ∙ list_any_under (λ e. place (meaning_step W u) e.1) _ given
+
+    none_accept : (accepting (read (meaning_step W u) d) v == 0) ≡ is_empty (accepting_branches W u v given)
+    unfolding meaning
+    none_accept = none_counted _ (read (meaning_step W u) d).items ∙ ap (λ xs. is_empty (filter_once (λ s. holds s v) xs)) (item_entries (meaning_step W u) d)
+        ∙ none_under _ (λ e. place (meaning_step W u) e.1) given
+
+  pub any_of_told : IsTold W ms (codes "anyOf", d) any_of (any_told W given)
+  any_of_told = record {
+    verdict = any_accepts;
+    asked = λ free u v. nothing_first _ ∙ items_ask u v;
+    faults = λ u v P Q. ∼_same (λ i. fault_if (not (sym (any_accepts u v) i)) (AnyOf (sym (branches_report u v (codes "anyOf") P Q) i)) v (P // codes "anyOf") Q);
+    shown = λ u alone v P Q. (λ i. cond (none_accept u v i) (result (P // codes "anyOf") Q None true [] (all_branches_shown W u v (codes "anyOf") P Q d i))
+        (plain (P // codes "anyOf") Q (accepting_branches_shown W u v (codes "anyOf") P Q d i)) ∷ []);
+  }
+
+  pub not_told : IsTold W ms (codes "not", d) not_keyword (negation_told W d)
+  unfolding meaning
+  not_told = record {
+    verdict = λ u v. refl;
+    asked = λ free u v. nothing_first _;
+    faults = λ u v P Q. ∼_same (λ i. fault_if (accepts W u d v) (Not (sym (schema_of_read (meaning_step W u) d) i)) v (P // codes "not") Q);
+    shown = λ u alone v P Q. (λ i. erring (P // codes "not") Q (fault_if (accepts W u d v) (Not (schema_of_read (meaning_step W u) d i)) v (P // codes "not") Q) ∷ []);
+  }
+
+  pub leaf_told : (k : Name) → IsTold W ms (k, d) leaf (faults_told k (W.faults k d))
+  leaf_told k = record {
+    verdict = λ u v. (λ i. is_empty (W.faults k (schema_of_read (meaning_step W u) d i) v));
+    asked = λ free u v. nothing_first 0;
+    faults = λ u v P Q. ∼_same (λ i. map (λ t. fault (Leaf k t) v Q (P // k)) (W.faults k (sym (schema_of_read (meaning_step W u) d) i) v));
+    shown = λ u alone v P Q. (λ i. leaf_node (P // k) Q (described (map (λ t. fault (Leaf k t) v Q (P // k)) (W.faults k (schema_of_read (meaning_step W u) d i) v))) ∷ []);
+  }

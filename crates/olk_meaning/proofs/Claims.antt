@@ -3,14 +3,14 @@ use Rattle.std.specs.Prelude.{◌≡◌, ⊤, ◌||◌, map, Bool, true, false, 
 use Rattle.std.specs.List.{list_all}
 use Rattle.std.proofs.Common.{refl, sym, ◌∙◌, ap, subst, ◌⊎◌, inl, inr}
 use Rattle.std.proofs.lemmas.List.Sorted.{IsPermutation-refl, IsPermutation-trans, IsPermutation-append}
-use Rattle.std.proofs.Math.Bool.{or-false}
+use Rattle.std.proofs.Math.Bool.{or-false, or-true}
 use mathlib.Core.Bool.{true≢false}
 use mathlib.Core.Path.{subst₂}
 use Rattle.serde_json.specs.Data.{Data, string, array, no_items, item, Members}
 use Rattle.olk_spec.specs.Names.{Name, lookup_name, is_among, filter_once}
 use Rattle.olk_spec.specs.Schemas.{listed}
 use Rattle.olk_spec.specs.Malformed.{has_repeat}
-use Rattle.olk_spec.proofs.Each.{Each}
+use Rattle.olk_spec.proofs.Each.{Each, Each-implies}
 use Rattle.olk_spec.proofs.Order.{along_permutation}
 use Rattle.olk_spec.proofs.Walks.{same_name, bytes_eq-sym, Distinct, Distinct-from, Each-found}
 use Rattle.olk_meaning.specs.Conditions.{is_condition, is_restricted}
@@ -145,16 +145,12 @@ plan_fusing ms t e =
     let free = fusing_is_free ms (ap is_some (sym e)) in
     λ i. record { fused_pair = sym e i; condition = is_condition ms; restricted = free i; fused_one = absent_if (fused_one ms) (free_fuses_none ms free) i }
 
-pub or_true : (x : Bool) → true ≡ (x || true)
-or_true true = refl
-or_true false = refl
-
 -- `properties` that fuses is the head of both, and `required` of none
 head_of_both : (t : Name × Name) (c : Bool) (n : Name) → bytes_eq (codes "properties") (head (fusing t c) n) ≡ (bytes_eq (codes "properties") n || bytes_eq (codes "required") n)
 head_of_both t c n = by _
   where
     by : (b : Bool) → bytes_eq (codes "properties") (head_where b c (is_case n) n) ≡ (bytes_eq (codes "properties") n || b)
-    by true = or_true _
+    by true = sym (or-true _)
     by false = past_cases c (codes "properties") n (λ e. (refl, refl)) ∙ sym (or-false _)
 
 head_of_none : (t : Name × Name) (c : Bool) (n : Name) → bytes_eq (codes "required") (head (fusing t c) n) ≡ false
@@ -175,7 +171,7 @@ head_of_if : (p : Planned) → p.condition ≡ true → (n : Name) → bytes_eq 
 head_of_if p e n = over _ refl
   where
     beside : (b : Bool) → bytes_eq (codes "if") (cond b (codes "if") n) ≡ (bytes_eq (codes "if") n || b)
-    beside true = or_true _
+    beside true = sym (or-true _)
     beside false = sym (or-false _)
 
     by : (a b : Bool) → bytes_eq (codes "required") n ≡ b → bytes_eq (codes "if") (head_where (a && b) true (is_case n) n) ≡ (bytes_eq (codes "if") n || is_case n)
@@ -215,7 +211,7 @@ pub claims_no_case : (p : Planned) → p.condition ≡ true → (es : Rows) (m :
 claims_no_case p e es m h = filter_once-same _ (λ x. false) (λ x. case_heads_none p e m.0 h x.0) es ∙ those_none es
 
 -- `if` is there where it is read
-condition_there : (ms : Members) → is_condition ms ≡ true → (d : Data) × (lookup_name (codes "if") (listed ms) ≡ Some d)
+pub condition_there : (ms : Members) → is_condition ms ≡ true → (d : Data) × (lookup_name (codes "if") (listed ms) ≡ Some d)
 condition_there ms e = by _ refl e
   where
     by : (o : Option Data) → lookup_name (codes "if") (listed ms) ≡ o →
@@ -283,8 +279,4 @@ module _ (ms : Members) (distinct : has_repeat (names_of (listed ms)) ≡ false)
       over _ f _ g _ _ = not_taken
 
   pub heads_there : (p : Planned) → p ≡ plan_of ms → Each (λ x. is_among (head p x.0) (names_of (listed ms)) ≡ true) (listed ms)
-  heads_there p e = along _ (Each-found _ (Distinct-from _ distinct))
-    where
-      along : (es : Rows) → Each (λ x. lookup_name x.0 (listed ms) ≡ Some x.1) es → Each (λ x. is_among (head p x.0) (names_of (listed ms)) ≡ true) es
-      along [] h = tt
-      along (x ∷ es) h = (head_there p e x h.0, along es h.1)
+  heads_there p e = Each-implies (λ x. lookup_name x.0 (listed ms) ≡ Some x.1) _ (head_there p e) (listed ms) (Each-found _ (Distinct-from _ distinct))

@@ -28,7 +28,7 @@ use Rattle.olk_meaning.proofs.AdditionalPlaces.{additional_malformations}
 use Rattle.olk_meaning.proofs.Conditions.{restricted_read}
 use Rattle.olk_meaning.proofs.Facts as fact
 
-nothing_in : {X : Type 0} (xs ys : List X) → xs ++ ys ≡ [] → (xs ≡ []) × (ys ≡ [])
+pub nothing_in : {X : Type 0} (xs ys : List X) → xs ++ ys ≡ [] → (xs ≡ []) × (ys ≡ [])
 nothing_in [] ys e = (refl, e)
 nothing_in (x ∷ xs) ys e = absurd (true≢false (sym (ap is_empty e)))
 

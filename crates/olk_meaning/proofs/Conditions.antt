@@ -9,17 +9,18 @@ use mathlib.Core.Bool.{true≢false}
 use Rattle.serde_json.specs.Data.{Data, Members}
 use Rattle.olk_spec.specs.Names.{Name, Path, ◌//◌, lookup_name, put_if}
 use Rattle.olk_spec.specs.World.{World}
-use Rattle.olk_spec.specs.Vocabulary.{if_keyword, then_keyword, else_keyword, keyword_named}
-use Rattle.olk_spec.specs.Schemas.{Sub, Schema, Keywords, read, read_members, listed, wholes_at, is_object, is_truth}
+use Rattle.olk_spec.specs.Vocabulary.{if_keyword, keyword_named}
+use Rattle.olk_spec.specs.Schemas.{Sub, Schema, Keywords, read, read_members, listed, wholes_at, is_object, is_truth, is_present}
 use Rattle.olk_spec.specs.Malformed.{read_places, places_where, itself}
 use Rattle.olk_spec.specs.Meanings.{Meaning, restricts, is_conditional, if_accepts, if_refuses, Asked, asked}
 use Rattle.olk_spec.specs.Meaning.{accepts, asks, report, tree, meaning, meaning_step}
 use Rattle.olk_spec.specs.Tree.{Tree, plain}
 use Rattle.olk_spec.specs.Trees.{case_trees}
-use Rattle.olk_spec.proofs.Walks.{same_name, neither}
+use Rattle.olk_spec.proofs.Walks.{same_name}
 use Rattle.olk_spec.proofs.Reading.{place, lookup_listed, whole_read, is_present_read, wholes_there, wholes_absent, wholes_at_read}
-use Rattle.olk_meaning.specs.Members.{member_accepts, member_asks, member_report, member_child}
-use Rattle.olk_meaning.specs.Conditions.{is_condition, is_conditional_name, is_read_beside, is_restriction, is_restricted, Known, IsKnown}
+use Rattle.olk_meaning.specs.Members.{member_accepts, member_asks, member_report, member_child, member_standing}
+use Rattle.olk_meaning.specs.Conditions.{is_condition, is_conditional_name, is_restriction, is_restricted, Known, IsKnown}
+use Rattle.olk_meaning.specs.Chosen.{Placed, if_form, standing_step}
 use Rattle.olk_meaning.proofs.Facts.{accepts_it, asks_it, finds_it, nothing_first, nothing_last}
 use Rattle.olk_meaning.proofs.TakenOver.{absent_if}
 
@@ -34,14 +35,6 @@ conditional_named k e = by (bytes_eq k _) _ _ refl refl refl e
     by false true c p q r h = inr (inl (same_name k _ q))
     by false false true p q r h = inr (inr (same_name k _ r))
     by false false false p q r h = absurd (true≢false (sym h))
-
--- the others need not know their neighbours
-pub known_alone : (c : Known) (ms : Members) (k : Name) → is_read_beside k ≡ false → IsKnown c ms k
-known_alone c ms k e =
-    let apart = neither (is_conditional_name k) (bytes_eq k _) e in (
-      (λ q. absurd (true≢false (sym q ∙ apart.0))),
-      λ q. absurd (true≢false (sym (ap (λ n. bytes_eq n (codes "patternProperties")) q) ∙ apart.1)),
-    )
 
 -- beside `then`, and beside `else`, `if` is read where it is there
 module _ (ms : Members) where
@@ -80,13 +73,13 @@ module _ {X : Type 0} (step : Schema X → X) (ms : Members) where
     places_by_condition e = by (conditional_named k e)
       where
         by : (k ≡ codes "if") ⊎ (k ≡ codes "then") ⊎ (k ≡ codes "else") → PlacesByCondition k
-        by (inl q) = subst PlacesByCondition (sym q) (ap (λ b. places_where (codes "if") b (itself (codes "if") (read step d).whole)) (condition_read ∙ sym (known.0 e).0))
+        by (inl q) = subst PlacesByCondition (sym q) (ap (λ b. places_where (codes "if") b (itself (codes "if") (read step d).whole)) (condition_read ∙ sym (known e).0))
         by (inr (inl q)) =
             subst PlacesByCondition (sym q) (ap (λ b. places_where (codes "then") b (itself (codes "then") (read step d).whole))
-            (present (codes "if") ∙ sym (if_beside_then ms (ap (λ n. is_some (lookup_name n (listed ms))) (sym q) ∙ (known.0 e).1)) ∙ sym (known.0 e).0))
+            (present (codes "if") ∙ sym (if_beside_then ms (ap (λ n. is_some (lookup_name n (listed ms))) (sym q) ∙ (known e).1)) ∙ sym (known e).0))
         by (inr (inr q)) =
             subst PlacesByCondition (sym q) (ap (λ b. places_where (codes "else") b (itself (codes "else") (read step d).whole))
-            (present (codes "if") ∙ sym (if_beside_else ms (ap (λ n. is_some (lookup_name n (listed ms))) (sym q) ∙ (known.0 e).1)) ∙ sym (known.0 e).0))
+            (present (codes "if") ∙ sym (if_beside_else ms (ap (λ n. is_some (lookup_name n (listed ms))) (sym q) ∙ (known e).1)) ∙ sym (known e).0))
 
 -- what is shown where the test holds, of the schema that stands there
 module _ (W : World) (u : Bool) (v : Data) where
@@ -112,42 +105,62 @@ module _ (W : World) (ms : Members) (u : Bool) (v : Data) where
         ((read to_meaning d).whole.answer.accepts v) (codes "then") ++ case_trees W u neighbours v P Q (codes "if") (read to_meaning d)
         (not ((read to_meaning d).whole.answer.accepts v)) (codes "else"))) []) (condition_read to_meaning ms ∙ alone)
 
-  -- `then` and `else` without `if`
-  module _ (d : Data) (absent : lookup_name (codes "if") (listed ms) ≡ None) where
-    none : wholes_at neighbours (codes "if") ≡ []
-    none = wholes_absent to_meaning ms (codes "if") (sym (lookup_listed (codes "if") ms) ∙ absent)
+  -- ---- `then` and `else`
 
-    pub then_accepts_alone : member_accepts W ms (codes "then", d) then_keyword u v ≡ true
-    then_accepts_alone =
-        ap (λ ss. list_all accepts_it (put_if (list_any (λ s. s.answer.accepts v) ss) (asked (read to_meaning d).whole v (codes "then" ∷ []) []) []) && true) none
+  -- the member at k, which is e, asks it of the whole value where c holds
+  pub record AskedWhere (c : Bool) (k : Name) (e : Data) : Type 0 where
+    pub verdict : member_accepts W ms (k, e) (keyword_named W k) u v ≡ cond c (accepts W u e v) true
+    pub asked : member_asks W ms (k, e) (keyword_named W k) u v ≡ cond c (asks W u e v) 0
+    pub faults : (P Q : Path) → member_report W ms (k, e) (keyword_named W k) u v P Q ≡ cond c (report W u e v (P // k) Q) []
 
-    pub else_accepts_alone : member_accepts W ms (codes "else", d) else_keyword u v ≡ true
-    else_accepts_alone =
-        ap (λ ss. list_all accepts_it (put_if (list_any (λ s. not (s.answer.accepts v)) ss)
-        (asked (read to_meaning d).whole v (codes "else" ∷ []) []) []) && true) none
+  module _ (e : Data) where
+    abbrev asked_where : Bool → Name → List Asked
+    asked_where b k = put_if b (asked (read to_meaning e).whole v (k ∷ []) []) []
 
-    pub then_report_alone : (P Q : Path) → member_report W ms (codes "then", d) then_keyword u v P Q ≡ []
-    then_report_alone P Q =
-        ap (λ ss. flat_map (finds_it P Q)
-        (put_if (list_any (λ s. s.answer.accepts v) ss) (asked (read to_meaning d).whole v (codes "then" ∷ []) []) []) ++ []) none
+    accepted_where : (b : Bool) (k : Name) → (list_all accepts_it (asked_where b k) && true) ≡ cond b (accepts W u e v) true
+    unfolding meaning
+    accepted_where true k = and-true _ ∙ and-true _
+    accepted_where false k = refl
 
-    pub else_report_alone : (P Q : Path) → member_report W ms (codes "else", d) else_keyword u v P Q ≡ []
-    else_report_alone P Q =
-        ap (λ ss. flat_map (finds_it P Q)
-        (put_if (list_any (λ s. not (s.answer.accepts v)) ss) (asked (read to_meaning d).whole v (codes "else" ∷ []) []) []) ++ []) none
+    asks_where : (b : Bool) (k : Name) → sum_by asks_it (asked_where b k) + 0 ≡ cond b (asks W u e v) 0
+    unfolding meaning
+    asks_where true k = nothing_last _ ∙ sum_by-cons asks_it (asked (read to_meaning e).whole v (k ∷ []) []) [] ∙ nothing_last _
+    asks_where false k = refl
 
-  -- ---- where it is read
+    found_where : (b : Bool) (k : Name) (P Q : Path) → flat_map (finds_it P Q) (asked_where b k) ++ [] ≡ cond b (report W u e v (P // k) Q) []
+    unfolding meaning
+    found_where true k P Q = append-nil _ ∙ append-nil _
+    found_where false k P Q = refl
+
+    pub then_where : (c : Bool) → if_accepts neighbours v ≡ c → AskedWhere c (codes "then") e
+    then_where c q = record {
+      verdict = ap (λ b. list_all accepts_it (asked_where b (codes "then")) && true) q ∙ accepted_where c (codes "then");
+      asked = ap (λ b. sum_by asks_it (asked_where b (codes "then")) + 0) q ∙ asks_where c (codes "then");
+      faults = λ P Q. ap (λ b. flat_map (finds_it P Q) (asked_where b (codes "then")) ++ []) q ∙ found_where c (codes "then") P Q;
+    }
+
+    pub else_where : (c : Bool) → if_refuses neighbours v ≡ c → AskedWhere c (codes "else") e
+    else_where c q = record {
+      verdict = ap (λ b. list_all accepts_it (asked_where b (codes "else")) && true) q ∙ accepted_where c (codes "else");
+      asked = ap (λ b. sum_by asks_it (asked_where b (codes "else")) + 0) q ∙ asks_where c (codes "else");
+      faults = λ P Q. ap (λ b. flat_map (finds_it P Q) (asked_where b (codes "else")) ++ []) q ∙ found_where c (codes "else") P Q;
+    }
+
+  -- ---- where `if` is not there, or is read
+
+  no_if : lookup_name (codes "if") (listed ms) ≡ None → wholes_at neighbours (codes "if") ≡ []
+  no_if absent = wholes_absent to_meaning ms (codes "if") (sym (lookup_listed (codes "if") ms) ∙ absent)
 
   -- `if` is d
   module _ (d : Data) (there : lookup_name (codes "if") (listed ms) ≡ Some d) where
     at_if : wholes_at neighbours (codes "if") ≡ place to_meaning d ∷ []
     at_if = wholes_there to_meaning ms (codes "if") d (sym (lookup_listed (codes "if") ms) ∙ there)
 
-    if_holds : if_accepts neighbours v ≡ accepts W u d v
+    pub if_holds : if_accepts neighbours v ≡ accepts W u d v
     unfolding meaning
     if_holds = ap (list_any _) at_if ∙ or-false _
 
-    if_fails : if_refuses neighbours v ≡ not (accepts W u d v)
+    pub if_fails : if_refuses neighbours v ≡ not (accepts W u d v)
     unfolding meaning
     if_fails = ap (list_any _) at_if ∙ or-false _
 
@@ -155,44 +168,6 @@ module _ (W : World) (ms : Members) (u : Bool) (v : Data) where
       pub if_asks_beside : member_asks W ms (codes "if", d) if_keyword u v ≡ asks W u d v
       unfolding meaning
       if_asks_beside = nothing_first _ ∙ ap (λ b. cond b ((read to_meaning d).whole.answer.asks v) 0) (condition_read to_meaning ms ∙ read_here)
-
-    -- `then` is e, and `else` is e
-    module _ (e : Data) where
-      abbrev asked_where : Bool → Name → List Asked
-      asked_where b k = put_if b (asked (read to_meaning e).whole v (k ∷ []) []) []
-
-      accepted_where : (b : Bool) (k : Name) → (list_all accepts_it (asked_where b k) && true) ≡ cond b (accepts W u e v) true
-      unfolding meaning
-      accepted_where true k = and-true _ ∙ and-true _
-      accepted_where false k = refl
-
-      asks_where : (b : Bool) (k : Name) → sum_by asks_it (asked_where b k) + 0 ≡ cond b (asks W u e v) 0
-      unfolding meaning
-      asks_where true k = nothing_last _ ∙ sum_by-cons asks_it (asked (read to_meaning e).whole v (k ∷ []) []) [] ∙ nothing_last _
-      asks_where false k = refl
-
-      found_where : (b : Bool) (k : Name) (P Q : Path) → flat_map (finds_it P Q) (asked_where b k) ++ [] ≡ cond b (report W u e v (P // k) Q) []
-      unfolding meaning
-      found_where true k P Q = append-nil _ ∙ append-nil _
-      found_where false k P Q = refl
-
-      pub then_accepts_beside : member_accepts W ms (codes "then", e) then_keyword u v ≡ cond (accepts W u d v) (accepts W u e v) true
-      then_accepts_beside = ap (λ b. list_all accepts_it (asked_where b (codes "then")) && true) if_holds ∙ accepted_where _ (codes "then")
-
-      pub then_asks_beside : member_asks W ms (codes "then", e) then_keyword u v ≡ cond (accepts W u d v) (asks W u e v) 0
-      then_asks_beside = ap (λ b. sum_by asks_it (asked_where b (codes "then")) + 0) if_holds ∙ asks_where _ (codes "then")
-
-      pub then_report_beside : (P Q : Path) → member_report W ms (codes "then", e) then_keyword u v P Q ≡ cond (accepts W u d v) (report W u e v (P // codes "then") Q) []
-      then_report_beside P Q = ap (λ b. flat_map (finds_it P Q) (asked_where b (codes "then")) ++ []) if_holds ∙ found_where _ (codes "then") P Q
-
-      pub else_accepts_beside : member_accepts W ms (codes "else", e) else_keyword u v ≡ cond (not (accepts W u d v)) (accepts W u e v) true
-      else_accepts_beside = ap (λ b. list_all accepts_it (asked_where b (codes "else")) && true) if_fails ∙ accepted_where (not _) (codes "else")
-
-      pub else_asks_beside : member_asks W ms (codes "else", e) else_keyword u v ≡ cond (not (accepts W u d v)) (asks W u e v) 0
-      else_asks_beside = ap (λ b. sum_by asks_it (asked_where b (codes "else")) + 0) if_fails ∙ asks_where (not _) (codes "else")
-
-      pub else_report_beside : (P Q : Path) → member_report W ms (codes "else", e) else_keyword u v P Q ≡ cond (not (accepts W u d v)) (report W u e v (P // codes "else") Q) []
-      else_report_beside P Q = ap (λ b. flat_map (finds_it P Q) (asked_where b (codes "else")) ++ []) if_fails ∙ found_where _ (codes "else") P Q
 
   -- what stands at a name, shown where the test holds
   case_read : (d : Data) (b : Bool) (k : Name) (P Q : Path) → case_trees W u neighbours v P Q (codes "if") (read to_meaning d) b k ≡ case_shown W u v b (P // k) Q (lookup_name k (listed ms))
@@ -216,11 +191,12 @@ module _ (W : World) (ms : Members) (u : Bool) (v : Data) where
 
 -- ---- one of the three where none is read
 
--- it accepts everything, finds nothing and shows nothing
+-- it accepts everything, finds nothing, shows nothing and has no validator
 pub record MeansNothing (W : World) (ms : Members) (m : Name × Data) : Type 0 where
   pub verdict : (u : Bool) (v : Data) → member_accepts W ms m (keyword_named W m.0) u v ≡ true
   pub report : (u : Bool) (v : Data) (P Q : Path) → member_report W ms m (keyword_named W m.0) u v P Q ≡ []
   pub child : (u : Bool) (v : Data) (P Q : Path) → member_child W ms m (keyword_named W m.0) u v P Q ≡ []
+  pub stands : (P : Path) → member_standing W ms m (keyword_named W m.0) P ≡ []
 
 pub unpaired_means_nothing : (W : World) (ms : Members) (m : Name × Data) → is_conditional_name m.0 ≡ true → is_condition ms ≡ false
     → is_some (lookup_name m.0 (listed ms)) ≡ true → MeansNothing W ms m
@@ -229,19 +205,28 @@ unpaired_means_nothing W ms m e unread there = by (conditional_named m.0 e)
     absent : (n : Name) → is_condition ms ≡ is_some (lookup_name n (listed ms)) → lookup_name n (listed ms) ≡ None
     absent n q = absent_if _ (sym q ∙ unread)
 
+    -- what would stand for `if`
+    if_standing : Path → List Placed
+    if_standing P = let S = read_members (standing_step W) ms in
+        (P // codes "if", if_form (is_present S (codes "then")) (is_present S (codes "else")))
+        ∷ ((read (standing_step W) m.1).whole.answer (P // codes "if") ++ flat_map (λ s. s.answer (P // codes "then")) (wholes_at S (codes "then")) ++ flat_map (λ s. s.answer (P // codes "else")) (wholes_at S (codes "else")))
+
     by : (m.0 ≡ codes "if") ⊎ (m.0 ≡ codes "then") ⊎ (m.0 ≡ codes "else") → MeansNothing W ms m
     by (inl q) = subst (λ n. MeansNothing W ms (n, m.1)) (sym q) record {
       verdict = λ u v. refl;
       report = λ u v P Q. refl;
       child = λ u v P Q. if_shows_alone W ms u v m.1 unread P Q;
+      stands = λ P. ap (λ b. cond b (if_standing P) []) (condition_read (standing_step W) ms ∙ unread);
     }
     by (inr (inl q)) = let none = absent (codes "if") (if_beside_then ms (ap (λ n. is_some (lookup_name n (listed ms))) (sym q) ∙ there)) in subst (λ n. MeansNothing W ms (n, m.1)) (sym q) record {
-      verdict = λ u v. then_accepts_alone W ms u v m.1 none;
-      report = λ u v P Q. then_report_alone W ms u v m.1 none P Q;
+      verdict = λ u v. (then_where W ms u v m.1 false (ap (list_any _) (no_if W ms u v none))).verdict;
+      report = λ u v. (then_where W ms u v m.1 false (ap (list_any _) (no_if W ms u v none))).faults;
       child = λ u v P Q. refl;
+      stands = λ P. refl;
     }
     by (inr (inr q)) = let none = absent (codes "if") (if_beside_else ms (ap (λ n. is_some (lookup_name n (listed ms))) (sym q) ∙ there)) in subst (λ n. MeansNothing W ms (n, m.1)) (sym q) record {
-      verdict = λ u v. else_accepts_alone W ms u v m.1 none;
-      report = λ u v P Q. else_report_alone W ms u v m.1 none P Q;
+      verdict = λ u v. (else_where W ms u v m.1 false (ap (list_any _) (no_if W ms u v none))).verdict;
+      report = λ u v. (else_where W ms u v m.1 false (ap (list_any _) (no_if W ms u v none))).faults;
       child = λ u v P Q. refl;
+      stands = λ P. refl;
     }

@@ -2,7 +2,7 @@
 use Rattle.std.specs.Prelude.{◌≡◌, ℕ, ◌+◌, Bool, true, false, not, cond, ◌&&◌, List, [], ◌∷◌, ◌++◌, map, sum_by, codes}
 use Rattle.std.specs.List.{list_all, flat_map}
 use Rattle.std.proofs.Common.{refl, sym, ◌∙◌, ap, subst}
-use Rattle.std.proofs.lemmas.List.{append-nil, append_assoc}
+use Rattle.std.proofs.lemmas.List.{append_assoc}
 use Rattle.std.proofs.lemmas.List.Folds.{list_all-map}
 use Rattle.std.proofs.lemmas.List.Sums.{sum_by-cons}
 use Rattle.std.proofs.Math.Bool.{and-false, and-true}
@@ -12,21 +12,23 @@ use Rattle.olk_spec.specs.Names.{Name, Path, ◌//◌, is_empty, filter_once, pu
 use Rattle.olk_spec.specs.World.{World}
 use Rattle.olk_spec.specs.Vocabulary.{dependent_required, dependent_schemas, dependencies}
 use Rattle.olk_spec.specs.Faults.{Fault, ◌∼◌, like_empty, like_through}
-use Rattle.olk_spec.specs.Schemas.{Schema, Keywords, read, members, has, texts, is_array}
-use Rattle.olk_spec.specs.Meanings.{Meaning, asked_whole}
-use Rattle.olk_spec.specs.Meaning.{accepts, asks, report, tree, meaning, meaning_step}
+use Rattle.olk_spec.specs.Schemas.{Schema, Keywords, read, read_members, members, has, texts, is_array}
+use Rattle.olk_spec.specs.Meanings.{applied, asked}
+use Rattle.olk_spec.specs.Meaning.{accepts, asks, report, meaning, meaning_step}
 use Rattle.olk_spec.specs.Accepts.{missing, due}
 use Rattle.olk_spec.specs.Reports.{required_faults}
 use Rattle.olk_spec.specs.Tree.{plain, erring}
 use Rattle.olk_spec.specs.Malformed.{each, own_refusals, read_places, unless_object, not_a_text, name_list_refusals}
 use Rattle.olk_spec.proofs.Truth.{and_first, and_second}
-use Rattle.olk_spec.proofs.Order.{∼_before, ∼_behind, ∼_swap}
+use Rattle.olk_spec.proofs.Order.{∼_same, ∼_sym, ∼_before, ∼_behind, ∼_swap}
 use Rattle.olk_spec.proofs.Maps.{flat_map-map, map-map, filter_once-map}
-use Rattle.olk_spec.proofs.Reading.{entry, entries_read, schema_of_read}
-use Rattle.olk_meaning.specs.Members.{member_accepts, member_asks, member_report, member_child}
-use Rattle.olk_meaning.specs.Dependencies.{due_entries, list_entries, schema_entries, are_lists, dependency_accepts, dependency_asks, dependency_report, dependency_shown}
-use Rattle.olk_meaning.proofs.Facts.{accepts_it, asks_it, finds_it, shows_it, at_whole_accept, at_whole_ask, at_whole_find, nothing_first, nothing_last}
-use Rattle.olk_meaning.proofs.Children.{whole_shown}
+use Rattle.olk_spec.proofs.Reading.{entry, place, entries_read, schema_of_read}
+use Rattle.olk_meaning.specs.Told.{IsTold, entries_told, schema_answers}
+use Rattle.olk_meaning.specs.Dependencies.{due_entries, list_entries, schema_entries, are_lists, list_answers, dependency_answers}
+use Rattle.olk_meaning.proofs.Facts.{accepts_it, asks_it, finds_it, sum_by_under, nothing_first, nothing_last}
+use Rattle.olk_meaning.proofs.Exchanged.{sum_of_none}
+use Rattle.olk_meaning.proofs.Told.{told_by_entries, asked_entries}
+use Rattle.olk_meaning.proofs.Rows.{Rows}
 
 -- ---- those of a list, in two parts
 
@@ -40,7 +42,7 @@ module _ {X : Type 0} (h a : X → Bool) where
       by false e = e ∙ ap (λ b. put_if b x (filter_once (λ y. h y && a y) xs)) (sym (and-false _))
 
 module _ {X : Type 0} (a : X → Bool) where
-  all_those : (xs : List X) → list_all a xs ≡ true → filter_once a xs ≡ xs
+  pub all_those : (xs : List X) → list_all a xs ≡ true → filter_once a xs ≡ xs
   all_those [] e = refl
   all_those (x ∷ xs) e = λ i. put_if (and_first (a x) (list_all a xs) e i) x (all_those xs (and_second (a x) (list_all a xs) e) i)
 
@@ -110,117 +112,66 @@ module _ {X : Type 0} (step : Schema X → X) (d v : Data) where
   entries_due : filter_once (λ e. has e.0 v) (read step d).entries ≡ map (entry step) (due_entries d v)
   entries_due = ap (filter_once _) (entries_read step d) ∙ filter_once-map _ _ (entry step) (λ e. refl) (members d)
 
-  schemas_due : filter_once (λ e. has e.0 v && not (is_array e.1.schema)) (read step d).entries ≡ map (entry step) (filter_once (λ e. has e.0 v && not (is_array e.1)) (members d))
-  schemas_due = ap (filter_once _) (entries_read step d) ∙ filter_once-map _ _ (entry step) (λ e. refl) (members d)
+  schemas_read : filter_once (λ e. has e.0 v && not (is_array e.1.schema)) (read step d).entries ≡ map (entry step) (filter_once (λ e. has e.0 v && not (is_array e.1)) (members d))
+  schemas_read = ap (filter_once _) (entries_read step d) ∙ filter_once-map _ _ (entry step) (λ e. refl) (members d)
 
-  lists_due : due (read step d) v ≡ map (λ e. (e.0, texts e.1)) (filter_once (λ e. has e.0 v && is_array e.1) (members d))
-  lists_due = due_read ∙ ap (map {A = Name × Data} (λ e. (e.0, texts e.1))) (filter_once-filter_once _ _ (members d))
+  lists_read : due (read step d) v ≡ map (λ e. (e.0, texts e.1)) (filter_once (λ e. has e.0 v && is_array e.1) (members d))
+  lists_read = due_read ∙ ap (map {A = Name × Data} (λ e. (e.0, texts e.1))) (filter_once-filter_once _ _ (members d))
 
-module _ (W : World) (ms : Members) (d : Data) (u : Bool) (v : Data) where
-  -- a schema, with its parts' meanings, to its own
-  abbrev to_meaning : Schema Meaning → Meaning
-  to_meaning = meaning_step W u
+module _ (W : World) (ms : Members) (d : Data) where
+  pub dependent_required_told : are_lists d ≡ true → IsTold W ms (codes "dependentRequired", d) dependent_required (entries_told list_answers (due_entries d))
+  dependent_required_told lists = record {
+    verdict = λ u v. ap (list_all (λ e. is_empty (missing e.1 v))) (due_lists (meaning_step W u) d v lists) ∙ list_all-map (λ e. is_empty (missing e.1 v)) (λ e. (e.0, texts e.1)) (due_entries d v);
+    asked = λ free u v. nothing_first 0 ∙ sym (sum_of_none (due_entries d v));
+    faults = λ u v P Q. ∼_same (sym (ap (flat_map _) (due_lists (meaning_step W u) d v lists) ∙ flat_map-map _ _ (λ e. (e.0, texts e.1)) (λ e. refl) (due_entries d v)));
+    shown = λ u alone v P Q. ap (λ ts. plain (P // codes "dependentRequired") Q ts ∷ [])
+        (ap (map (λ e. erring _ Q _)) (due_lists (meaning_step W u) d v lists)
+        ∙ map-map (λ e. erring _ Q _) (λ e. erring _ Q _) (λ e. (e.0, texts e.1)) (λ e. refl) (due_entries d v));
+  }
 
-  -- ---- dependentRequired
+  pub dependent_schemas_told : IsTold W ms (codes "dependentSchemas", d) dependent_schemas (entries_told (schema_answers W) (due_entries d))
+  dependent_schemas_told = told_by_entries W ms (codes "dependentSchemas", d) dependent_schemas (λ e. e.1) (λ e. e.0 ∷ []) (due_entries d) (λ u v. record {
+    asked = asked_entries (meaning_step W u) (codes "dependentSchemas") v (due_entries d v) (entries_due (meaning_step W u) d v);
+    wants = refl;
+    asks = refl;
+    finds = λ P Q. refl;
+    shows = λ P Q. refl;
+  })
 
-  module _ (lists : are_lists d ≡ true) where
-    pub dependent_required_accepts : member_accepts W ms (codes "dependentRequired", d) dependent_required u v ≡ list_all (λ e. is_empty (missing (texts e.1) v)) (due_entries d v)
-    dependent_required_accepts =
-        ap (list_all (λ e. is_empty (missing e.1 v))) (due_lists to_meaning d v lists) ∙ list_all-map (λ e. is_empty (missing e.1 v)) (λ e. (e.0, texts e.1)) (due_entries d v)
+  -- ---- dependencies: the schemas that are due, and behind them the lists
 
-    module _ (P Q : Path) where
-      abbrev at_required : Path
-      at_required = P // codes "dependentRequired"
+  abbrev schemas_due : Data → Rows
+  schemas_due v = filter_once (λ e. has e.0 v && not (is_array e.1)) (members d)
 
-      pub dependent_required_report : member_report W ms (codes "dependentRequired", d) dependent_required u v P Q ≡ flat_map
-          (λ e. required_faults (texts e.1) v at_required Q) (due_entries d v)
-      dependent_required_report = ap (flat_map _) (due_lists to_meaning d v lists) ∙ flat_map-map _ _ (λ e. (e.0, texts e.1)) (λ e. refl) (due_entries d v)
+  abbrev lists_due : Data → Rows
+  lists_due v = filter_once (λ e. has e.0 v && is_array e.1) (members d)
 
-      pub dependent_required_child : member_child W ms (codes "dependentRequired", d) dependent_required u v P Q
-          ≡ plain at_required Q (map (λ e. erring at_required Q (required_faults (texts e.1) v at_required Q)) (due_entries d v)) ∷ []
-      dependent_required_child = ap (λ ts. plain at_required Q ts ∷ [])
-          (ap (map (λ e. erring _ Q _)) (due_lists to_meaning d v lists)
-          ∙ map-map (λ e. erring _ Q _) (λ e. erring _ Q _) (λ e. (e.0, texts e.1)) (λ e. refl) (due_entries d v))
+  module _ (u : Bool) (v : Data) where
+    asked_due : applied W u (read_members (meaning_step W u) ms) (codes "dependencies") (read (meaning_step W u) d) v dependencies ≡ map
+        (λ e. asked (place (meaning_step W u) e.1) v (codes "dependencies" ∷ e.0 ∷ []) []) (schemas_due v)
+    asked_due = asked_entries (meaning_step W u) (codes "dependencies") v (schemas_due v) (schemas_read (meaning_step W u) d v)
 
-  pub dependent_required_asks : member_asks W ms (codes "dependentRequired", d) dependent_required u v ≡ 0
-  dependent_required_asks = nothing_first 0
-
-  -- ---- dependentSchemas
-
-  pub dependent_schemas_accepts : member_accepts W ms (codes "dependentSchemas", d) dependent_schemas u v ≡ list_all (λ e. accepts W u e.1 v) (due_entries d v)
+  pub dependencies_told : IsTold W ms (codes "dependencies", d) dependencies (entries_told (dependency_answers W) (due_entries d))
   unfolding meaning
-  dependent_schemas_accepts =
-      and-true _
-      ∙ ap (λ es. list_all accepts_it (asked_whole (codes "dependentSchemas") v es)) (entries_due to_meaning d v)
-      ∙ at_whole_accept to_meaning (codes "dependentSchemas") v (due_entries d v)
-
-  pub dependent_schemas_asks : member_asks W ms (codes "dependentSchemas", d) dependent_schemas u v ≡ sum_by (λ e. asks W u e.1 v) (due_entries d v)
-  unfolding meaning
-  dependent_schemas_asks =
-      nothing_last _
-      ∙ ap (λ es. sum_by asks_it (asked_whole (codes "dependentSchemas") v es)) (entries_due to_meaning d v)
-      ∙ at_whole_ask to_meaning (codes "dependentSchemas") v (due_entries d v)
-
-  pub dependent_schemas_report : (P Q : Path) → member_report W ms (codes "dependentSchemas", d) dependent_schemas u v P Q ≡ flat_map
-      (λ e. report W u e.1 v (P // codes "dependentSchemas" // e.0) Q) (due_entries d v)
-  unfolding meaning
-  dependent_schemas_report P Q =
-      append-nil _
-      ∙ ap (λ es. flat_map (finds_it P Q) (asked_whole (codes "dependentSchemas") v es)) (entries_due to_meaning d v)
-      ∙ at_whole_find to_meaning (codes "dependentSchemas") v P Q (due_entries d v)
-
-  pub dependent_schemas_child : (P Q : Path) → member_child W ms (codes "dependentSchemas", d) dependent_schemas u v P Q ≡ plain (P // codes "dependentSchemas") Q
-      (map (λ e. tree W u e.1 v (P // codes "dependentSchemas" // e.0) Q) (due_entries d v)) ∷ []
-  unfolding meaning
-  dependent_schemas_child P Q = ap (λ ts. plain (P // codes "dependentSchemas") Q ts ∷ [])
-      (ap (λ es. map (shows_it P Q) (asked_whole (codes "dependentSchemas") v es)) (entries_due to_meaning d v)
-      ∙ whole_shown W u v to_meaning (codes "dependentSchemas") P Q (due_entries d v))
-
-  -- ---- dependencies
-
-  pub dependencies_accepts : member_accepts W ms (codes "dependencies", d) dependencies u v ≡ list_all (λ e. dependency_accepts W u e v) (due_entries d v)
-  unfolding meaning
-  dependencies_accepts =
-      (λ i. list_all accepts_it (asked_whole (codes "dependencies") v (schemas_due to_meaning d v i))
-      && list_all (λ e. is_empty (missing e.1 v)) (lists_due to_meaning d v i))
-      ∙ (λ i. at_whole_accept to_meaning (codes "dependencies") v (filter_once (λ e. has e.0 v && not (is_array e.1)) (members d)) i
-      && list_all-map (λ (e : Name × List Name). is_empty (missing e.1 v)) (λ e. (e.0, texts e.1)) (filter_once (λ e. has e.0 v && is_array e.1) (members d)) i)
-      ∙ all_parted (λ e. has e.0 v) (λ e. is_array e.1) (λ e. accepts W u e.1 v) (λ e. is_empty _) (λ e. dependency_accepts W u e v) (λ e. refl) (members d)
-
-  pub dependencies_asks : member_asks W ms (codes "dependencies", d) dependencies u v ≡ sum_by (λ e. dependency_asks W u e v) (due_entries d v)
-  unfolding meaning
-  dependencies_asks =
-      nothing_last _
-      ∙ ap (λ es. sum_by asks_it (asked_whole (codes "dependencies") v es)) (schemas_due to_meaning d v)
-      ∙ at_whole_ask to_meaning (codes "dependencies") v (filter_once _ (members d))
-      ∙ sum_parted (λ e. has e.0 v) (λ e. is_array e.1) (λ e. asks W u e.1 v) (λ e. dependency_asks W u e v) (λ e. refl) (members d)
-
-  module _ (P Q : Path) where
-    abbrev at_dependencies : Path
-    at_dependencies = P // codes "dependencies"
-
-    -- the lists' faults stand behind those of the schemas
-    pub dependencies_report : member_report W ms (codes "dependencies", d) dependencies u v P Q ∼ flat_map (λ e. dependency_report W u e v at_dependencies Q) (due_entries d v)
-    unfolding meaning
-    dependencies_report = subst (λ fs. fs ∼ flat_map (λ e. dependency_report W u e v at_dependencies Q) (due_entries d v)) (sym parted)
-        (found_parted _ _ _ _ _ (λ e. refl) (members d))
-      where
-        parted : member_report W ms (codes "dependencies", d) dependencies u v P Q
-            ≡ flat_map (λ e. report W u e.1 v (at_dependencies // e.0) Q) (filter_once (λ e. has e.0 v && not (is_array e.1)) (members d))
-            ++ flat_map (λ e. required_faults (texts e.1) v at_dependencies Q) (filter_once (λ e. has e.0 v && is_array e.1) (members d))
-        parted =
-            (λ i. flat_map (finds_it P Q) (asked_whole (codes "dependencies") v (schemas_due to_meaning d v i))
-            ++ flat_map (λ e. required_faults e.1 v at_dependencies Q) (lists_due to_meaning d v i))
-            ∙ (λ i. at_whole_find to_meaning (codes "dependencies") v P Q (filter_once (λ e. has e.0 v && not (is_array e.1)) (members d)) i
-            ++ flat_map-map (λ (e : Name × List Name). required_faults e.1 v at_dependencies Q) (λ e. required_faults (texts e.1) v at_dependencies Q)
-            (λ e. (e.0, texts e.1)) (λ e. refl) (filter_once (λ e. has e.0 v && is_array e.1) (members d)) i)
-
-    pub dependencies_child : member_child W ms (codes "dependencies", d) dependencies u v P Q ≡ plain at_dependencies Q
-        (map (λ e. dependency_shown W u e v at_dependencies Q) (due_entries d v)) ∷ []
-    unfolding meaning
-    dependencies_child = ap (λ ts. plain at_dependencies Q ts ∷ [])
-        (ap (map (λ e. cond (is_array e.1.schema) _ _)) (entries_due to_meaning d v)
-        ∙ map-map (λ e. cond (is_array e.1.schema) _ _) (λ e. dependency_shown W u e v _ Q) (entry to_meaning) (λ e. refl) (due_entries d v))
+  dependencies_told = record {
+    verdict = λ u v.
+        (λ i. list_all accepts_it (asked_due u v i) && list_all (λ e. is_empty (missing e.1 v)) (lists_read (meaning_step W u) d v i))
+        ∙ (λ i. list_all-map accepts_it (λ e. asked (place (meaning_step W u) e.1) v (codes "dependencies" ∷ e.0 ∷ []) []) (schemas_due v) i
+        && list_all-map (λ (e : Name × List Name). is_empty (missing e.1 v)) (λ e. (e.0, texts e.1)) (lists_due v) i)
+        ∙ all_parted (λ e. has e.0 v) (λ e. is_array e.1) (λ e. accepts W u e.1 v) (λ e. is_empty _) (λ e. (dependency_answers W).verdict u e v) (λ e. refl) (members d);
+    asked = λ free u v. nothing_last _ ∙ ap (sum_by asks_it) (asked_due u v) ∙ sum_by_under _ asks_it (schemas_due v)
+        ∙ sum_parted (λ e. has e.0 v) (λ e. is_array e.1) (λ e. asks W u e.1 v) (λ e. (dependency_answers W).asked u e v) (λ e. refl) (members d);
+    faults = λ u v P Q. ∼_sym (subst (λ fs. fs ∼ flat_map (λ e. (dependency_answers W).faults u e v (P // codes "dependencies") Q) (due_entries d v))
+        (sym ((λ i. flat_map (finds_it P Q) (asked_due u v i) ++ flat_map (λ e. required_faults e.1 v (P // codes "dependencies") Q) (lists_read (meaning_step W u) d v i))
+        ∙ (λ i. flat_map-map (finds_it P Q) (λ e. report W u e.1 v (P // codes "dependencies" // e.0) Q)
+        (λ e. asked (place (meaning_step W u) e.1) v (codes "dependencies" ∷ e.0 ∷ []) []) (λ e. refl) (schemas_due v) i
+        ++ flat_map-map (λ (e : Name × List Name). required_faults e.1 v (P // codes "dependencies") Q) (λ e. required_faults (texts e.1) v (P // codes "dependencies") Q)
+        (λ e. (e.0, texts e.1)) (λ e. refl) (lists_due v) i)))
+        (found_parted _ _ _ _ _ (λ e. refl) (members d)));
+    shown = λ u alone v P Q. ap (λ ts. plain (P // codes "dependencies") Q ts ∷ [])
+        (ap (map (λ e. cond (is_array e.1.schema) _ _)) (entries_due (meaning_step W u) d v)
+        ∙ map-map (λ e. cond (is_array e.1.schema) _ _) (λ e. (dependency_answers W).shown u e v _ Q) (entry (meaning_step W u)) (λ e. refl) (due_entries d v));
+  }
 
 -- ---- what is wrong with them, and the places that they read
 
@@ -237,8 +188,5 @@ module _ {X : Type 0} (step : Schema X → X) (d : Data) (k : Name) where
         ∙ ap (λ fs. unless_object d L ++ fs) (flat_map-map _ _ (entry step) (λ e. refl) (members d))
 
   module _ (S : Keywords X) where
-    pub dependent_schemas_places : read_places k S (read step d) dependent_schemas ≡ each k (map (entry step) (members d))
-    dependent_schemas_places = ap (each k) (entries_read step d)
-
     pub dependencies_places : read_places k S (read step d) dependencies ≡ each k (map (entry step) (schema_entries d))
     dependencies_places = ap (each k) (ap (filter_once _) (entries_read step d) ∙ filter_once-map _ _ (entry step) (λ e. refl) (members d))

@@ -1,8 +1,10 @@
 -- Walks over two lists, the one outside or the other: what all accept, which faults there are, and how much is asked.
-use Rattle.std.specs.Prelude.{◌≡◌, ℕ, ◌+◌, Bool, true, false, cond, not, ◌||◌, List, [], ◌∷◌, ◌++◌, sum_by, option_to_list, Option, Some, None, bytes_eq}
+use Rattle.std.specs.Prelude.{◌≡◌, ℕ, ◌+◌, Bool, true, false, cond, not, ◌||◌, List, [], ◌∷◌, ◌++◌, map, sum_by, option_to_list, Option, Some, None, bytes_eq}
 use Rattle.std.specs.List.{list_all, flat_map}
 use Rattle.std.proofs.Common.{refl, sym, ◌∙◌, ap, arith}
 use Rattle.std.proofs.lemmas.List.Sums.{sum_by-cons, sum_by-append}
+use Rattle.std.proofs.lemmas.List.{append-nil}
+use Rattle.std.proofs.Math.Bool.{and-true}
 use mathlib.Core.Path.{subst₂}
 use Rattle.olk_spec.specs.Names.{Name, lookup_name, filter_once, put_if}
 use Rattle.olk_spec.specs.Faults.{Fault, ◌∼◌}
@@ -104,3 +106,18 @@ module _ {A B : Type 0} (f : A → B → ℕ) where
       ∙ sums_exchanged (λ e m. cond (bytes_eq e.0 m.0) (f e.1 m.1) 0) es ms
       ∙ (λ i. sum_by (λ m. sum_by (λ e. cond (bytes_eq-sym e.0 m.0 i) (f e.1 m.1) 0) es) ms)
       ∙ (λ i. sum_by (λ m. sym (sum_at_lookup (λ x. f x m.1) m.0 es d) i) ms)
+
+-- ---- walks over what is there, or over nothing
+
+module _ {X Y : Type 0} (h : X → Y) where
+  pub all_there : (g : Y → Bool) (f : Option X → Bool) → true ≡ f None → ((x : X) → g (h x) ≡ f (Some x)) → (o : Option X) → list_all g (map h (option_to_list o)) ≡ f o
+  all_there g f none some None = none
+  all_there g f none some (Some x) = and-true _ ∙ some x
+
+  pub sum_there : (g : Y → ℕ) (f : Option X → ℕ) → 0 ≡ f None → ((x : X) → g (h x) ≡ f (Some x)) → (o : Option X) → sum_by g (map h (option_to_list o)) ≡ f o
+  sum_there g f none some None = none
+  sum_there g f none some (Some x) = let one = sum_by-cons g (h x) [] in let same = some x in omega (arith, one, same)
+
+  pub find_there : (g : Y → List Fault) (f : Option X → List Fault) → [] ≡ f None → ((x : X) → g (h x) ≡ f (Some x)) → (o : Option X) → flat_map g (map h (option_to_list o)) ≡ f o
+  find_there g f none some None = none
+  find_there g f none some (Some x) = append-nil _ ∙ some x

@@ -1,5 +1,5 @@
 pub mod Rows
-mod MemberLookups
+pub mod MemberLookups
 mod Fused
 mod FewMembers
 pub mod Heads
@@ -9,6 +9,7 @@ pub mod Claims
 pub mod RestrictedClaims
 pub mod Exchanged
 pub mod Facts
+pub mod Told
 pub mod Children
 pub mod Clean
 pub mod Objects
@@ -25,3 +26,4 @@ pub mod AdditionalPlaces
 pub mod Restriction
 pub mod OneFused
 pub mod RestrictionShown
+pub mod Standing

@@ -1,5 +1,5 @@
 -- The members of an object by their names, where no name stands twice.
-use Rattle.std.specs.Prelude.{◌≡◌, ◌||◌, map, true, false, List, [], ◌∷◌, ◌++◌, length, Option, Some, None, is_some, unwrap_or, bytes_eq, String}
+use Rattle.std.specs.Prelude.{◌≡◌, ◌||◌, Bool, IsPermutation, map, true, false, List, [], ◌∷◌, ◌++◌, length, Option, Some, None, is_some, unwrap_or, bytes_eq, String}
 use Rattle.std.specs.declared.alloc.Global.{Global}
 use Rattle.std.specs.List.{AllByRecursion}
 use Rattle.std.specs.List.Sorted.{IsStrictlySortedBy}
@@ -10,6 +10,7 @@ use Rattle.std.specs.declared.cmp.Ordering.{Ordering}
 use Rattle.std.specs.declared.cmp.Ordering.TheVariants.{Less, Equal, Greater}
 use Rattle.std.proofs.Common.{refl, sym, ◌∙◌, ap, subst, option_to_list, string_cmp, string_bytes, arith}
 use Rattle.std.proofs.lemmas.Map.Text.{is_eq-slice_cmp}
+use Rattle.std.proofs.lemmas.List.Sorted.{IsPermutation-refl, IsPermutation-trans, IsPermutation-append}
 use mathlib.Core.Bool.{true≢false}
 use Rattle.serde_json.specs.Data.{Data, Members}
 use Rattle.serde_json.specs.View.{members_view}
@@ -19,7 +20,7 @@ use Rattle.olk_spec.specs.Schemas.{listed}
 use Rattle.olk_spec.specs.Malformed.{has_repeat}
 use Rattle.olk_spec.proofs.Each.{Each}
 use Rattle.olk_spec.proofs.Walks.{same_name, bytes_eq-itself, Distinct, Distinct-from, Each-found}
-use Rattle.olk_meaning.proofs.Heads.{names_of}
+use Rattle.olk_meaning.proofs.Heads.{names_of, those_split}
 use Rattle.olk_meaning.proofs.Rows.{Rows}
 
 abbrev pub members_named : Name → Rows → Rows
@@ -43,6 +44,13 @@ named_once k d (m ∷ es) h e = by _ (is_eq-slice_cmp k m.0) e (named_once k d e
         ap (λ b. put_if b m (members_named k es)) (sym q)
         ∙ ap (λ l. m ∷ l) (none_named k es (subst (λ n. Each (λ x. bytes_eq n x.0 ≡ false) es) (sym same) h.0))
         ∙ (λ i. (sym same i, unwrap_or (f i) d) ∷ [])
+
+-- the members of a name, before others of whose names a test holds
+pub named_first : (es : Rows) (k : Name) (test : Name → Bool) {xs : Rows} → test k ≡ false → IsPermutation xs (filter_once (λ x. test x.0) es)
+    → IsPermutation (members_named k es ++ xs) (filter_once (λ x. bytes_eq k x.0 || test x.0) es)
+named_first es k test {xs} e h =
+    IsPermutation-trans _ _ _ (IsPermutation-append _ _ _ _ (IsPermutation-refl _) h)
+    (those_split (λ x. bytes_eq k x.0) _ (λ x q. ap test (sym (same_name k x.0 q)) ∙ e) es)
 
 module _ (ms : Members) (distinct : has_repeat (names_of (listed ms)) ≡ false) where
   -- the members of a name are what a look-up finds

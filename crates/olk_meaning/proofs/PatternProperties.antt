@@ -2,30 +2,30 @@
 use Rattle.std.specs.Prelude.{◌≡◌, ℕ, ◌+◌, ◌*◌, Bool, true, false, not, cond, ◌&&◌, List, [], ◌∷◌, ◌++◌, map, length, sum_by, count_by, codes, Some, None}
 use Rattle.std.specs.List.{list_all, flat_map}
 use Rattle.std.proofs.Common.{refl, sym, ◌∙◌, ap, arith}
-use Rattle.std.proofs.lemmas.List.{append-nil, length-map, map-append}
-use Rattle.std.proofs.lemmas.List.Folds.{list_all-append, list_all-map}
-use Rattle.std.proofs.lemmas.List.Sums.{sum_by-cons, sum_by-append}
-use Rattle.std.proofs.lemmas.Grind.{flat_map-append}
+use Rattle.std.proofs.lemmas.List.{append-nil, length-map}
+use Rattle.std.proofs.lemmas.List.Sums.{sum_by-cons}
 use Rattle.std.proofs.Math.Bool.{and-true}
 use Rattle.serde_json.specs.Data.{Data, string, Members}
 use Rattle.olk_spec.specs.Names.{Name, Path, ◌//◌, filter_once, put_if}
 use Rattle.olk_spec.specs.World.{World, is_unfinished}
 use Rattle.olk_spec.specs.Vocabulary.{pattern_properties}
 use Rattle.olk_spec.specs.Faults.{Fault, Regex}
-use Rattle.olk_spec.specs.Schemas.{Sub, Schema, Keywords, read, read_members, answer_for, members, is_object, entries_at}
-use Rattle.olk_spec.specs.Meanings.{Meaning, Subschema, Asked, asked, restricts, matches, is_open, is_declared}
+use Rattle.olk_spec.specs.Schemas.{Sub, Schema, read, read_members, members, is_object, entries_at}
+use Rattle.olk_spec.specs.Meanings.{Meaning, Asked, asked, applied, restricts, matches, is_open, is_declared}
 use Rattle.olk_spec.specs.Meaning.{accepts, asks, report, tree, meaning, meaning_step}
 use Rattle.olk_spec.specs.Asks.{open_patterns, asks_at}
 use Rattle.olk_spec.specs.Tree.{result}
-use Rattle.olk_spec.specs.Malformed.{refusal, each, unless_object, own_refusals, read_places}
+use Rattle.olk_spec.specs.Malformed.{refusal, unless_object, own_refusals}
 use Rattle.olk_spec.specs.Costs.{Cost, cost_step, own_cost, no_cost, ◌⊕◌, total_cost}
 use Rattle.olk_spec.proofs.CostSums.{sum_last}
-use Rattle.olk_spec.proofs.Maps.{map-map}
-use Rattle.olk_spec.proofs.Reading.{entry, entries_read, schema_of_read}
+use Rattle.olk_spec.proofs.Maps.{map-map, flat_map-map}
+use Rattle.olk_spec.proofs.Order.{∼_same}
+use Rattle.olk_spec.proofs.Reading.{entry, place, entries_read, schema_of_read}
 use Rattle.olk_meaning.specs.Members.{member_accepts, member_asks, member_report, member_child}
-use Rattle.olk_meaning.specs.PatternProperties.{matched_members, pattern_asks, open_names, pattern_faults, matcher_made, matchers_made, names_asked}
+use Rattle.olk_meaning.specs.Told.{IsTold}
+use Rattle.olk_meaning.specs.PatternProperties.{matched_members, pattern_asks, open_names, pattern_faults, matcher_made, matchers_made, names_asked, patterns_told}
 use Rattle.olk_meaning.specs.AdditionalProperties.{declared_beside, matching_asks, patterns_asked}
-use Rattle.olk_meaning.proofs.Facts.{accepts_it, asks_it, finds_it, shows_it, sum_by_under}
+use Rattle.olk_meaning.proofs.Facts.{accepts_it, asks_it, finds_it, shows_it, asked_each, each_accepts, each_asks, each_finds, each_shows}
 use Rattle.olk_meaning.proofs.Exchanged.{sum_of_both, sum_of_those, sums_exchanged, sum_by-exchanged}
 use Rattle.olk_meaning.specs.Conditions.{is_restricted, known_of}
 use Rattle.olk_meaning.proofs.Beside.{entries_beside, declared_read}
@@ -34,57 +34,17 @@ use Rattle.olk_meaning.proofs.Rows.{Rows}
 
 -- ---- the members that are asked about
 
-module _ (W : World) (u : Bool) (step : Schema Meaning → Meaning) (k : Name) (v : Data) where
-  abbrev asked_of : Name × Subschema → Name × Data → Asked
-  asked_of e x = asked e.1 x.1 (k ∷ e.0 ∷ []) (x.0 ∷ [])
+module _ (W : World) (u : Bool) (ms : Members) (d : Data) (v : Data) where
+  abbrev asked_of : Name × Data → Name × Data → Asked
+  asked_of e x = asked (place (meaning_step W u) e.1) x.1 (codes "patternProperties" ∷ e.0 ∷ []) (x.0 ∷ [])
 
-  abbrev asked_in : Name × Subschema → List Asked
-  asked_in e = map (asked_of e) (matched_members W u e.0 v)
-
-  abbrev at_matched : Rows → List Asked
-  at_matched es = flat_map asked_in (map (entry step) es)
-
-  at_matched_accept : (es : Rows) → list_all accepts_it (at_matched es) ≡ list_all (λ e. list_all (λ x. (answer_for step e.1).accepts x.1) (matched_members W u e.0 v)) es
-  at_matched_accept [] = refl
-  at_matched_accept (e ∷ es) =
-      list_all-append accepts_it (asked_in (entry step e)) (at_matched es)
-      ∙ (λ i. list_all-map accepts_it (asked_of (entry step e)) (matched_members W u e.0 v) i && at_matched_accept es i)
-
-  at_matched_ask : (es : Rows) → sum_by asks_it (at_matched es) ≡ sum_by (λ e. sum_by (λ x. (answer_for step e.1).asks x.1) (matched_members W u e.0 v)) es
-  at_matched_ask [] = refl
-  at_matched_ask (e ∷ es) =
-      sum_by-append asks_it (asked_in (entry step e)) (at_matched es)
-      ∙ (λ i. sum_by_under (asked_of (entry step e)) asks_it (matched_members W u e.0 v) i + at_matched_ask es i)
-      ∙ sym (sum_by-cons _ e es)
-
-  module _ (P Q : Path) where
-    found_in : (e : Name × Data) (xs : Rows) → flat_map (finds_it P Q)
-        (map (asked_of (entry step e)) xs) ≡ flat_map (λ x. (answer_for step e.1).report x.1 (P // k // e.0) (Q // x.0)) xs
-    found_in e [] = refl
-    found_in e (x ∷ xs) = ap (λ l. (answer_for step e.1).report x.1 (P // k // e.0) (Q // x.0) ++ l) (found_in e xs)
-
-    at_matched_find : (es : Rows) → flat_map (finds_it P Q)
-        (at_matched es) ≡ flat_map (λ e. flat_map (λ x. (answer_for step e.1).report x.1 (P // k // e.0) (Q // x.0)) (matched_members W u e.0 v)) es
-    at_matched_find [] = refl
-    at_matched_find (e ∷ es) =
-        flat_map-append (finds_it P Q) (asked_in (entry step e)) (at_matched es)
-        ∙ (λ i. found_in e (matched_members W u e.0 v) i ++ at_matched_find es i)
-
-    at_matched_show : (es : Rows) → map (shows_it P Q) (at_matched es) ≡ flat_map
-        (λ e. map (λ x. (answer_for step e.1).tree x.1 (P // k // e.0) (Q // x.0)) (matched_members W u e.0 v)) es
-    at_matched_show [] = refl
-    at_matched_show (e ∷ es) =
-        map-append (shows_it P Q) (asked_in (entry step e)) (at_matched es)
-        ∙ (λ i. map-map (shows_it P Q) _
-        (asked_of (entry step e)) (λ x. refl) (matched_members W u e.0 v) i ++ at_matched_show es i)
-
-  named_by_entries : (es : Rows) → flat_map (λ e. map (λ x. x.0) (matched_members W u e.0 v)) (map (entry step) es) ≡ flat_map (λ e. map (λ x. x.0) (matched_members W u e.0 v)) es
-  named_by_entries [] = refl
-  named_by_entries (e ∷ es) = ap (λ l. map (λ x. x.0) (matched_members W u e.0 v) ++ l) (named_by_entries es)
+  asked_matching : applied W u (read_members (meaning_step W u) ms) (codes "patternProperties") (read (meaning_step W u) d) v pattern_properties ≡ asked_each asked_of
+      (λ e. matched_members W u e.0 v) (members d)
+  asked_matching = ap (flat_map _) (entries_read (meaning_step W u) d) ∙ flat_map-map _ _ (entry (meaning_step W u)) (λ e. refl) (members d)
 
 -- ---- how many matchers are asked
 
-other_way : (a b : ℕ) → a + b ≡ b + a
+pub other_way : (a b : ℕ) → a + b ≡ b + a
 other_way a b = omega arith
 
 module _ (W : World) where
@@ -109,25 +69,15 @@ module _ (W : World) (ms : Members) (d : Data) (u : Bool) (v : Data) where
   abbrev to_meaning : Schema Meaning → Meaning
   to_meaning = meaning_step W u
 
-  abbrev asked_by : List (Name × Subschema) → List Asked
-  asked_by es = flat_map (asked_in W u to_meaning (codes "patternProperties") v) es
-
   pub pattern_properties_accepts : member_accepts W ms (codes "patternProperties", d) pattern_properties u v ≡ list_all
       (λ e. list_all (λ x. accepts W u e.1 x.1) (matched_members W u e.0 v)) (members d)
   unfolding meaning
-  pattern_properties_accepts =
-      and-true _
-      ∙ ap (λ es. list_all accepts_it (asked_by es)) (entries_read to_meaning d)
-      ∙ at_matched_accept W u to_meaning (codes "patternProperties") v _
+  pattern_properties_accepts = and-true _ ∙ ap (list_all accepts_it) (asked_matching W u ms d v) ∙ each_accepts _ _ (members d)
 
   pub pattern_properties_report : (P Q : Path) → member_report W ms (codes "patternProperties", d) pattern_properties u v P Q ≡ flat_map
       (λ e. flat_map (λ x. report W u e.1 x.1 (P // codes "patternProperties" // e.0) (Q // x.0)) (matched_members W u e.0 v)) (members d)
   unfolding meaning
-  pattern_properties_report P Q =
-      append-nil _
-      ∙ ap (λ es. flat_map (finds_it P Q) (asked_by es))
-      (entries_read to_meaning d)
-      ∙ at_matched_find W u to_meaning (codes "patternProperties") v P Q _
+  pattern_properties_report P Q = append-nil _ ∙ ap (flat_map (finds_it P Q)) (asked_matching W u ms d v) ∙ each_finds _ _ P Q (members d)
 
   -- ---- where it has a validator of its own
 
@@ -149,27 +99,24 @@ module _ (W : World) (ms : Members) (d : Data) (u : Bool) (v : Data) where
         (λ e. sum_by (λ x. pattern_asks W e.0 + cond (matches W u e.0 x.0) (asks W u e.1 x.1) 0) (members v)) (members d)
     unfolding meaning
     pattern_properties_asks =
-        (λ i. sum_by asks_it (asked_by (entries_read to_meaning d i)) + own_asked i)
-        ∙ ap (λ n. n + sum_by (λ e. sum_by (λ x. pattern_asks W e.0) (members v)) (members d)) (at_matched_ask W u to_meaning (codes "patternProperties") v (members d))
+        (λ i. sum_by asks_it (asked_matching W u ms d v i) + own_asked i)
+        ∙ ap (λ n. n + sum_by (λ e. sum_by (λ x. pattern_asks W e.0) (members v)) (members d)) (each_asks _ _ (members d))
         ∙ other_way (sum_by (λ e. sum_by (λ x. asks W u e.1 x.1) (matched_members W u e.0 v)) (members d)) (sum_by (λ e. sum_by (λ x. pattern_asks W e.0) (members v)) (members d))
         ∙ sym (sum_of_both (λ e. sum_by (λ x. pattern_asks W e.0) (members v)) (λ e. sum_by (λ x. asks W u e.1 x.1) (matched_members W u e.0 v)) (members d))
         ∙ (λ i. sum_by (λ e. sym (asked_together e) i) (members d))
 
     -- a child for each match, and a name for each match, pattern by pattern
-    pub pattern_properties_child : (P Q : Path) → member_child W ms (codes "patternProperties", d) pattern_properties u v P Q
-        ≡ result (P // codes "patternProperties") Q (cond (is_object v) (Some (flat_map (λ e. map (λ x. x.0) (matched_members W u e.0 v)) (members d))) None) false []
-        (flat_map (λ e. map (λ x. tree W u e.1 x.1 (P // codes "patternProperties" // e.0) (Q // x.0)) (matched_members W u e.0 v)) (members d)) ∷ []
+    pattern_properties_child : (P Q : Path) → member_child W ms (codes "patternProperties", d) pattern_properties u v P Q ≡ (patterns_told W (members d)).shown u v (P // codes "patternProperties") Q ∷ []
     unfolding meaning
     pattern_properties_child P Q = λ i. put_if (not (free i)) (result (P // codes "patternProperties") Q (cond (and-true (is_object v) i) (Some (names i)) None) false [] (trees i)) []
       where
         names : flat_map (λ e. map (λ m. m.0) (filter_once (λ m. matches W u e.0 m.0) (members v))) (read to_meaning d).entries ≡ flat_map
             (λ e. map (λ x. x.0) (matched_members W u e.0 v)) (members d)
-        names = ap (flat_map _) (entries_read to_meaning d) ∙ named_by_entries W u to_meaning (codes "patternProperties") v (members d)
+        names = ap (flat_map _) (entries_read to_meaning d) ∙ flat_map-map _ _ (entry to_meaning) (λ e. refl) (members d)
 
-        trees : map (shows_it P Q)
-            (asked_by (read to_meaning d).entries) ≡ flat_map
+        trees : map (shows_it P Q) (applied W u (read_members to_meaning ms) (codes "patternProperties") (read to_meaning d) v pattern_properties) ≡ flat_map
             (λ e. map (λ x. tree W u e.1 x.1 (P // codes "patternProperties" // e.0) (Q // x.0)) (matched_members W u e.0 v)) (members d)
-        trees = ap (λ es. map (shows_it P Q) (asked_by es)) (entries_read to_meaning d) ∙ at_matched_show W u to_meaning (codes "patternProperties") v P Q (members d)
+        trees = ap (map (shows_it P Q)) (asked_matching W u ms d v) ∙ each_shows _ _ P Q (members d)
 
   -- ---- where `additionalProperties` stands for it
 
@@ -185,11 +132,19 @@ module _ (W : World) (ms : Members) (d : Data) (u : Bool) (v : Data) where
         (λ x. matching_asks W u (declared_beside ms) (members d) x + patterns_asked W (declared_beside ms) (members d) x.0) (members v)
     unfolding meaning
     pattern_properties_asks_beside =
-        (λ i. sum_by asks_it (asked_by (entries_read to_meaning d i)) + table_asked i)
+        (λ i. sum_by asks_it (asked_matching W u ms d v i) + table_asked i)
         ∙ ap (λ n. n + sum_by (λ x. patterns_asked W (declared_beside ms) (members d) x.0) (members v))
-        (at_matched_ask W u to_meaning (codes "patternProperties") v (members d)
+        (each_asks _ _ (members d)
         ∙ sum_by-exchanged (λ e x. matches W u e.0 x.0) (λ e x. asks W u e.1 x.1) (members d) (members v))
         ∙ sym (sum_of_both (matching_asks W u (declared_beside ms) _) (λ x. patterns_asked W _ _ x.0) (members v))
+
+pub pattern_properties_told : (W : World) (ms : Members) (d : Data) → IsTold W ms (codes "patternProperties", d) pattern_properties (patterns_told W (members d))
+pattern_properties_told W ms d = record {
+  verdict = pattern_properties_accepts W ms d;
+  asked = λ free u v. pattern_properties_asks W ms d u v (restricted_read (meaning_step W u) ms ∙ sym (and-true (is_restricted ms)) ∙ free);
+  faults = λ u v P Q. ∼_same (sym (pattern_properties_report W ms d u v P Q));
+  shown = λ u free v. pattern_properties_child W ms d u v free;
+}
 
 -- ---- what is wrong with it, and the places that it reads
 
@@ -200,9 +155,6 @@ unbuilt W d L = map (λ t. refusal Regex (string t) (L // t)) (filter_once (λ t
 module _ {X : Type 0} (step : Schema X → X) (d : Data) (k : Name) where
   pub pattern_properties_refusals : (W : World) (L : Path) → own_refusals W k (read step d) L pattern_properties ≡ unless_object d L ++ unbuilt W d L
   pattern_properties_refusals W L = λ i. unless_object (schema_of_read step d i) L ++ map (λ t. refusal Regex (string t) (L // t)) (filter_once (λ t. not (W.builds t)) (open_read W step d i))
-
-  pub pattern_properties_places : (S : Keywords X) → read_places k S (read step d) pattern_properties ≡ each k (map (entry step) (members d))
-  pattern_properties_places S = ap (each k) (entries_read step d)
 
 module _ (W : World) (ms : Members) (d : Data) where
   -- a matcher for each pattern that has no test, and what is asked for a table

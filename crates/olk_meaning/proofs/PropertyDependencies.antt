@@ -1,60 +1,33 @@
 -- `propertyDependencies`, over the raw data of its entries.
-use Rattle.std.specs.Prelude.{◌≡◌, Bool, List, [], ◌∷◌, ◌++◌, map, sum_by, codes, option_to_list}
-use Rattle.std.specs.List.{list_all, flat_map}
-use Rattle.std.specs.declared.cmp.Ordering.{Ordering}
-use Rattle.std.specs.declared.cmp.Ordering.TheVariants.{Less, Equal, Greater}
+use Rattle.std.specs.Prelude.{◌≡◌, Bool, List, [], ◌∷◌, ◌++◌, map, codes, option_to_list}
+use Rattle.std.specs.List.{flat_map}
 use Rattle.std.proofs.Common.{refl, sym, ◌∙◌, ap}
-use Rattle.std.proofs.lemmas.List.{append-nil, map-append}
-use Rattle.std.proofs.lemmas.List.Folds.{list_all-map}
-use Rattle.std.proofs.lemmas.Grind.{flat_map-append}
-use Rattle.std.proofs.Math.Bool.{and-true}
+use Rattle.std.proofs.lemmas.List.{map-append}
 use Rattle.serde_json.specs.Data.{Data, Members}
-use Rattle.olk_spec.specs.Names.{Name, Path, ◌//◌, down, lookup_name, first_if_equal}
+use Rattle.olk_spec.specs.Names.{Name, Path, ◌//◌, down, lookup_name}
 use Rattle.olk_spec.specs.World.{World}
 use Rattle.olk_spec.specs.Vocabulary.{property_dependencies}
 use Rattle.olk_spec.specs.Schemas.{Sub, Schema, Keywords, read, read_members, members, at, as_text}
 use Rattle.olk_spec.specs.Meanings.{Meaning, Asked, asked, applied}
-use Rattle.olk_spec.specs.Meaning.{accepts, asks, report, tree, meaning, meaning_step}
-use Rattle.olk_spec.specs.Tree.{plain}
+use Rattle.olk_spec.specs.Meaning.{meaning_step}
 use Rattle.olk_spec.specs.Malformed.{own_refusals, read_places, unless_object, malformations_step, malformations_at}
 use Rattle.olk_spec.specs.Costs.{Cost, cost, cost_step, ◌⊕◌, total_cost}
 use Rattle.olk_spec.proofs.CostSums.{total_cost-append, total_cost-map}
 use Rattle.olk_spec.proofs.Maps.{flat_map-map, map-map}
-use Rattle.olk_spec.proofs.Walks.{list_all-flat_map}
 use Rattle.olk_spec.proofs.Reading.{place, entry, inner_entry, inner_read, entries_read, schema_of_read}
-use Rattle.olk_meaning.specs.Members.{member_accepts, member_asks, member_report, member_child}
-use Rattle.olk_meaning.specs.PropertyDependencies.{chosen}
-use Rattle.olk_meaning.proofs.Facts.{accepts_it, asks_it, finds_it, shows_it, sum_by_under, nothing_last}
-use Rattle.olk_meaning.proofs.Exchanged.{sum_by-flat_map}
+use Rattle.olk_meaning.specs.Told.{IsTold, entries_told}
+use Rattle.olk_meaning.specs.PropertyDependencies.{chosen, choices, choice_answers}
+use Rattle.olk_meaning.proofs.Facts.{at_entries, flat_map-flat_map, map-flat_map}
+use Rattle.olk_meaning.proofs.Told.{told_by_entries}
 
 -- ---- walks over lists of lists
 
 module _ {X Y : Type 0} (g : X → List Y) where
-  module _ {Z : Type 0} where
-    flat_map-flat_map : (f : Y → List Z) (xs : List X) → flat_map f (flat_map g xs) ≡ flat_map (λ x. flat_map f (g x)) xs
-    flat_map-flat_map f [] = refl
-    flat_map-flat_map f (x ∷ xs) = flat_map-append f (g x) (flat_map g xs) ∙ ap (λ l. flat_map f (g x) ++ l) (flat_map-flat_map f xs)
-
-    map-flat_map : (f : Y → Z) (xs : List X) → map f (flat_map g xs) ≡ flat_map (λ x. map f (g x)) xs
-    map-flat_map f [] = refl
-    map-flat_map f (x ∷ xs) = map-append f (g x) (flat_map g xs) ∙ ap (λ l. map f (g x) ++ l) (map-flat_map f xs)
-
   total_cost-flat_map : (f : Y → Cost) (xs : List X) → total_cost f (flat_map g xs) ≡ total_cost (λ x. total_cost f (g x)) xs
   total_cost-flat_map f [] = refl
   total_cost-flat_map f (x ∷ xs) = total_cost-append f (g x) (flat_map g xs) ∙ ap (λ c. total_cost f (g x) ⊕ c) (total_cost-flat_map f xs)
 
 -- ---- the schemas that are asked
-
-module _ {X : Type 0} (step : Schema X → X) where
-  at_entries : (t : Name) (es : List (Name × Data)) → option_to_list (lookup_name t (map (entry step) es)) ≡ map (place step) (option_to_list (lookup_name t es))
-  at_entries t [] = refl
-  at_entries t (e ∷ es) = by _ (at_entries t es)
-    where
-      by : (o : Ordering) → option_to_list (lookup_name t (map (entry step) es)) ≡ map (place step) (option_to_list (lookup_name t es))
-          → option_to_list (first_if_equal o (place step e.1) (lookup_name t (map (entry step) es))) ≡ map (place step) (option_to_list (first_if_equal o e.1 (lookup_name t es)))
-      by Less h = h
-      by Equal h = refl
-      by Greater h = h
 
 module _ (step : Schema Meaning → Meaning) (k : Name) (v : Data) where
   abbrev asked_of : Name → Name × Data → Asked
@@ -73,54 +46,23 @@ module _ (step : Schema Meaning → Meaning) (k : Name) (v : Data) where
       (flat_map as_text (at e.0 v)) ≡ map (asked_of e.0) (chosen v e)
   asked_by e = asked_at e _ ∙ ap (map (asked_of e.0)) (flat_map-flat_map as_text _ (at e.0 v))
 
-  asked_read : (W : World) (u : Bool) (S : Keywords Meaning) (d : Data) → applied W u S k (read step d) v property_dependencies ≡ flat_map (λ e. map (asked_of e.0) (chosen v e)) (members d)
-  asked_read W u S d = ap (flat_map _) (inner_read step d) ∙ flat_map-map _ _ (inner_entry step) asked_by (members d)
+  abbrev asked_choice : Name × Name × Data → Asked
+  asked_choice c = asked (place step c.2) v (k ∷ c.0 ∷ c.1 ∷ []) []
 
--- ---- what it means
+  chosen_asked : (W : World) (u : Bool) (S : Keywords Meaning) (d : Data) → applied W u S k (read step d) v property_dependencies ≡ map asked_choice (choices (members d) v)
+  chosen_asked W u S d = ap (flat_map _) (inner_read step d)
+      ∙ flat_map-map _ (λ e. map asked_choice (map (λ c. (e.0, c.0, c.1)) (chosen v e))) (inner_entry step)
+      (λ e. asked_by e ∙ sym (map-map asked_choice (asked_of e.0) (λ c. (e.0, c.0, c.1)) (λ c. refl) (chosen v e))) (members d)
+      ∙ sym (map-flat_map (λ e. map (λ c. (e.0, c.0, c.1)) (chosen v e)) asked_choice (members d))
 
-module _ (W : World) (ms : Members) (d : Data) (u : Bool) (v : Data) where
-  abbrev all_asked : List Asked
-  all_asked = applied W u (read_members (meaning_step W u) ms) (codes "propertyDependencies") (read (meaning_step W u) d) v property_dependencies
-
-  abbrev asked_here : Name → Name × Data → Asked
-  asked_here = asked_of (meaning_step W u) (codes "propertyDependencies") v
-
-  chosen_asked : all_asked ≡ flat_map (λ e. map (asked_here e.0) (chosen v e)) (members d)
-  chosen_asked = asked_read (meaning_step W u) (codes "propertyDependencies") v W u (read_members (meaning_step W u) ms) d
-
-  pub property_dependencies_accepts : member_accepts W ms (codes "propertyDependencies", d) property_dependencies u v ≡ list_all (λ e. list_all (λ c. accepts W u c.1 v) (chosen v e)) (members d)
-  unfolding meaning
-  property_dependencies_accepts =
-      and-true _
-      ∙ ap (list_all _) chosen_asked
-      ∙ list_all-flat_map accepts_it _ (members d)
-      ∙ (λ i. list_all (λ e. list_all-map accepts_it (asked_here e.0) (chosen v e) i) (members d))
-
-  pub property_dependencies_asks : member_asks W ms (codes "propertyDependencies", d) property_dependencies u v ≡ sum_by (λ e. sum_by (λ c. asks W u c.1 v) (chosen v e)) (members d)
-  unfolding meaning
-  property_dependencies_asks =
-      nothing_last _
-      ∙ ap (sum_by _) chosen_asked
-      ∙ sum_by-flat_map _ asks_it (members d)
-      ∙ (λ i. sum_by (λ e. sum_by_under (asked_here e.0) asks_it (chosen v e) i) (members d))
-
-  module _ (P Q : Path) where
-    pub property_dependencies_report : member_report W ms (codes "propertyDependencies", d) property_dependencies u v P Q ≡ flat_map
-        (λ e. flat_map (λ c. report W u c.1 v (P // codes "propertyDependencies" // e.0 // c.0) Q) (chosen v e)) (members d)
-    unfolding meaning
-    property_dependencies_report =
-        append-nil _
-        ∙ ap (flat_map _) chosen_asked
-        ∙ flat_map-flat_map _ _ (members d)
-        ∙ (λ i. flat_map (λ e. flat_map-map (finds_it P Q) _ (asked_here e.0) (λ c. refl) (chosen v e) i) (members d))
-
-    pub property_dependencies_child : member_child W ms (codes "propertyDependencies", d) property_dependencies u v P Q ≡ plain (P // codes "propertyDependencies") Q
-        (flat_map (λ e. map (λ c. tree W u c.1 v (P // codes "propertyDependencies" // e.0 // c.0) Q) (chosen v e)) (members d)) ∷ []
-    unfolding meaning
-    property_dependencies_child = ap (λ ts. plain (P // codes "propertyDependencies") Q ts ∷ [])
-        (ap (map _) chosen_asked
-        ∙ map-flat_map _ _ (members d)
-        ∙ (λ i. flat_map (λ e. map-map (shows_it P Q) _ (asked_here e.0) (λ c. refl) (chosen v e) i) (members d)))
+pub property_dependencies_told : (W : World) (ms : Members) (d : Data) → IsTold W ms (codes "propertyDependencies", d) property_dependencies (entries_told (choice_answers W) (choices (members d)))
+property_dependencies_told W ms d = told_by_entries W ms (codes "propertyDependencies", d) property_dependencies (λ c. c.2) (λ c. c.0 ∷ c.1 ∷ []) (choices (members d)) (λ u v. record {
+  asked = chosen_asked (meaning_step W u) (codes "propertyDependencies") v W u (read_members (meaning_step W u) ms) d;
+  wants = refl;
+  asks = refl;
+  finds = λ P Q. refl;
+  shows = λ P Q. refl;
+})
 
 -- ---- what is wrong with it, and the places that it reads
 

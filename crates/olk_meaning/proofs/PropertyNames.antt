@@ -1,24 +1,23 @@
 -- `propertyNames`, over the raw data of its value: a schema for names, `false`, or what is not read.
-use Rattle.std.specs.Prelude.{◌≡◌, Bool, true, false, not, ◌&&◌, ◌||◌, List, [], ◌∷◌, ◌++◌, map, sum_by, codes}
+use Rattle.std.specs.Prelude.{◌≡◌, Bool, true, false, not, ◌&&◌, ◌||◌, List, [], ◌++◌, map, codes}
 use Rattle.std.specs.List.{list_all, flat_map}
-use Rattle.std.proofs.Common.{refl, sym, ◌∙◌, ap}
+use Rattle.std.proofs.Common.{refl, sym, ◌∙◌}
 use Rattle.std.proofs.lemmas.List.{append-nil}
 use Rattle.std.proofs.Math.Bool.{and-true}
 use mathlib.Core.Bool.{true≢false}
 use Rattle.serde_json.specs.Data.{Data, boolean, string, object, Members}
-use Rattle.olk_spec.specs.Names.{Name, Path, ◌//◌, is_empty, put_if}
+use Rattle.olk_spec.specs.Names.{Path, ◌//◌, is_empty, put_if}
 use Rattle.olk_spec.specs.World.{World}
 use Rattle.olk_spec.specs.Vocabulary.{property_names}
 use Rattle.olk_spec.specs.Faults.{Fault, FalseSchema, IsLike, like, like_names, ◌∼◌, like_empty, like_next, like_swap, like_through}
-use Rattle.olk_spec.specs.Schemas.{Schema, Keywords, read, read_members, members, is_object, is_truth}
-use Rattle.olk_spec.specs.Meaning.{accepts, asks, report, tree, meaning, meaning_step}
+use Rattle.olk_spec.specs.Schemas.{Schema, members, is_object, is_truth}
+use Rattle.olk_spec.specs.Meaning.{accepts, tree, meaning, meaning_step}
 use Rattle.olk_spec.specs.Reports.{fault_if, wrapped}
 use Rattle.olk_spec.specs.Tree.{plain, erring}
-use Rattle.olk_spec.specs.Malformed.{itself, places_where, malformations_at, read_places, malformations_step}
-use Rattle.olk_spec.specs.Costs.{cost, cost_step, total_cost}
-use Rattle.olk_spec.proofs.CostSums.{sum_first, sum_last}
 use Rattle.olk_spec.proofs.Reading.{place, whole_read}
-use Rattle.olk_meaning.specs.Members.{member_accepts, member_asks, member_report, member_child, member_malformations, member_cost}
+use Rattle.olk_spec.proofs.Order.{∼_same}
+use Rattle.olk_meaning.specs.Told.{IsTold, each_name_told, no_name_told}
+use Rattle.olk_meaning.specs.Members.{member_accepts, member_asks, member_report, member_child}
 use Rattle.olk_meaning.proofs.Asking.{names_ask_nothing}
 use Rattle.olk_meaning.proofs.Facts.{nothing_first}
 use Rattle.olk_spec.specs.Meanings.{Meaning}
@@ -81,42 +80,10 @@ module _ (W : World) (ms : Members) (d : Data) (u : Bool) (v : Data) where
         ∙ (λ i. put_if (is_names i) (plain (P // codes "propertyNames") Q (map (λ m. tree W u d (string m.0) (P // codes "propertyNames") Q) (members v))) []
         ++ put_if (is_none i) (erring (P // codes "propertyNames") Q (fault_if (not (is_empty (members v))) FalseSchema v (P // codes "propertyNames") Q)) [])
 
-  -- no schema for names asks a matcher
-  pub property_names_asks : member_asks W ms (codes "propertyNames", d) property_names u v ≡ sum_by (λ m. asks W u d (string m.0)) (members v)
-  property_names_asks = nothing_first 0 ∙ sym (names_ask_nothing W u d (members v))
-
-  -- ---- a schema for names
-
-  module _ (names : is_object d ≡ true) where
-    pub property_names_accepts : member_accepts W ms (codes "propertyNames", d) property_names u v ≡ list_all (λ m. accepts W u d (string m.0)) (members v)
-    property_names_accepts = accepts_by true false names (object_is_not_false d names) ∙ and-true _
-
-    pub property_names_report : (P Q : Path) → member_report W ms (codes "propertyNames", d) property_names u v P Q ≡ flat_map
-        (λ m. map (wrapped v Q) (report W u d (string m.0) (P // codes "propertyNames") Q)) (members v)
-    unfolding meaning
-    property_names_report P Q = report_by true false names (object_is_not_false d names) P Q ∙ append-nil _ ∙ append-nil _
-
-    pub property_names_child : (P Q : Path) → member_child W ms (codes "propertyNames", d) property_names u v P Q ≡ plain (P // codes "propertyNames") Q
-        (map (λ m. tree W u d (string m.0) (P // codes "propertyNames") Q) (members v)) ∷ []
-    property_names_child P Q = child_by true false names (object_is_not_false d names) P Q
-
   -- ---- no schema
 
   pub no_schema_asks : member_asks W ms (codes "propertyNames", d) property_names u v ≡ 0
   no_schema_asks = nothing_first 0
-
-  -- ---- false
-
-  module _ (none : is_truth false d ≡ true) where
-    pub no_names_accepts : member_accepts W ms (codes "propertyNames", d) property_names u v ≡ is_empty (members v)
-    no_names_accepts = accepts_by false true (false_is_no_object d none) none
-
-    pub no_names_report : (P Q : Path) → member_report W ms (codes "propertyNames", d) property_names u v P Q ≡ fault_if (not (is_empty (members v))) FalseSchema v (P // codes "propertyNames") Q
-    no_names_report P Q = report_by false true (false_is_no_object d none) none P Q
-
-    pub no_names_child : (P Q : Path) → member_child W ms (codes "propertyNames", d) property_names u v P Q ≡ erring (P // codes "propertyNames") Q
-        (fault_if (not (is_empty (members v))) FalseSchema v (P // codes "propertyNames") Q) ∷ []
-    no_names_child P Q = child_by false true (false_is_no_object d none) none P Q
 
   -- ---- anything else is not read
 
@@ -130,26 +97,21 @@ module _ (W : World) (ms : Members) (d : Data) (u : Bool) (v : Data) where
     pub any_names_child : (P Q : Path) → member_child W ms (codes "propertyNames", d) property_names u v P Q ≡ []
     any_names_child P Q = child_by false false names none P Q
 
--- ---- what is wrong with it, and the places that it reads
-
-module _ {X : Type 0} (step : Schema X → X) (d : Data) (k : Name) where
-  module _ (S : Keywords X) where
-    places_by : (b : Bool) → is_object d ≡ b → read_places k S (read step d) property_names ≡ places_where k b (itself k (place step d))
-    places_by b e = (λ i. places_where k (is_object (whole_read step d i).schema) (itself k (whole_read step d i))) ∙ (λ i. places_where k (e i) (itself k (place step d)))
-
-    pub property_names_places : is_object d ≡ true → read_places k S (read step d) property_names ≡ itself k (place step d)
-    property_names_places = places_by true
-
-    pub other_names_places : is_object d ≡ false → read_places k S (read step d) property_names ≡ []
-    other_names_places = places_by false
-
 module _ (W : World) (ms : Members) (d : Data) where
-  module _ (P : Path) where
-    pub property_names_malformations : is_object d ≡ true → member_malformations W ms (codes "propertyNames", d) property_names P ≡ malformations_at W d (P // codes "propertyNames")
-    unfolding malformations_at
-    property_names_malformations e =
-        ap (flat_map (λ r. r.0.answer _)) (property_names_places (malformations_step W) d (codes "propertyNames") (read_members (malformations_step W) ms) e) ∙ append-nil _
+  -- a schema for names, of which none asks a matcher
+  pub property_names_told : is_object d ≡ true → IsTold W ms (codes "propertyNames", d) property_names (each_name_told W d)
+  unfolding meaning
+  property_names_told names = record {
+    verdict = λ u v. accepts_by W ms d u v true false names (object_is_not_false d names) ∙ and-true _;
+    asked = λ free u v. no_schema_asks W ms d u v ∙ sym (names_ask_nothing W u d (members v));
+    faults = λ u v P Q. ∼_same (sym (report_by W ms d u v true false names (object_is_not_false d names) P Q ∙ append-nil _ ∙ append-nil _));
+    shown = λ u alone v P Q. child_by W ms d u v true false names (object_is_not_false d names) P Q;
+  }
 
-  pub property_names_cost : is_object d ≡ true → member_cost W ms (codes "propertyNames", d) property_names ≡ cost W d
-  unfolding cost
-  property_names_cost e = sum_first _ ∙ ap (total_cost (λ r. r.0.answer)) (property_names_places (cost_step W) d (codes "propertyNames") (read_members (cost_step W) ms) e) ∙ sum_last _
+  pub no_names_told : is_truth false d ≡ true → IsTold W ms (codes "propertyNames", d) property_names no_name_told
+  no_names_told none = record {
+    verdict = λ u v. accepts_by W ms d u v false true (false_is_no_object d none) none;
+    asked = λ free u v. no_schema_asks W ms d u v;
+    faults = λ u v P Q. ∼_same (sym (report_by W ms d u v false true (false_is_no_object d none) none P Q));
+    shown = λ u alone v P Q. child_by W ms d u v false true (false_is_no_object d none) none P Q;
+  }

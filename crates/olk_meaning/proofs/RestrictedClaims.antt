@@ -1,8 +1,8 @@
 -- What the validator of `additionalProperties` stands for where it restricts other members.
 use Rattle.std.specs.Prelude.{◌≡◌, ◌&&◌, ◌||◌, Bool, true, false, cond, [], ◌∷◌, ◌++◌, map, Option, Some, None, is_some, option_to_list, codes, bytes_eq, IsPermutation}
 use Rattle.std.proofs.Common.{refl, sym, ◌∙◌, ap}
-use Rattle.std.proofs.lemmas.List.Sorted.{IsPermutation-refl, IsPermutation-trans, IsPermutation-append}
-use Rattle.std.proofs.Math.Bool.{and-false, or-false}
+use Rattle.std.proofs.lemmas.List.Sorted.{IsPermutation-refl}
+use Rattle.std.proofs.Math.Bool.{and-false, or-false, or-true}
 use mathlib.Core.Path.{subst₂}
 use Rattle.serde_json.specs.Data.{Data, string, array, no_items, item, Members}
 use Rattle.olk_spec.specs.Names.{Name, lookup_name, filter_once}
@@ -13,8 +13,9 @@ use Rattle.olk_meaning.specs.Conditions.{is_restricted}
 use Rattle.olk_meaning.specs.Fused.{fused_one}
 use Rattle.olk_meaning.specs.Plans.{Planned, plan_of, is_case, is_taken_over, head, claims}
 use Rattle.olk_meaning.specs.AdditionalProperties.{rows_at, fused_rows}
-use Rattle.olk_meaning.proofs.Heads.{those_split, those_none, filter_once-same, names_of}
-use Rattle.olk_meaning.proofs.Claims.{members_named, named_once, members_found, past_cases, or_true}
+use Rattle.olk_meaning.proofs.Heads.{those_none, filter_once-same, names_of}
+use Rattle.olk_meaning.proofs.Listed.{named_first}
+use Rattle.olk_meaning.proofs.Claims.{members_named, named_once, members_found, past_cases}
 use Rattle.olk_meaning.proofs.TakenOver.{restricted_fuses_none, fuses_one_name}
 use Rattle.olk_meaning.proofs.Rows.{Rows}
 
@@ -39,7 +40,7 @@ module _ (p : Planned) (restricted : p.restricted ≡ true) (unfused : is_some p
       by : (a b c : Bool) → bytes_eq (codes "additionalProperties") (cond ((true && (a || (b || false))) || c) (codes "additionalProperties") (not_taken n)) ≡
           (bytes_eq (codes "additionalProperties") n || (a || (b || c)))
       by false false false = not_taken_alone (codes "additionalProperties") n refl refl ∙ sym (or-false _)
-      by _ _ _ = or_true _
+      by _ _ _ = sym (or-true _)
 
   -- what is taken over is the head of nothing
   taken_heads_none : (k : Name) → is_taken_over p k ≡ true → bytes_eq k (codes "additionalProperties") ≡ false → bytes_eq k (codes "if") ≡ false
@@ -87,24 +88,15 @@ module _ (ms : Members) (restricted : is_restricted ms ≡ true) where
     fused_found None e = those_none (listed ms)
     fused_found (Some n) e = named_once _ _ (listed ms) (Distinct-from _ distinct) (fuses_one_name ms n e).listed_at
 
-    apart_of : (k : Name) (test : Name → Bool) → test k ≡ false → (x : Name × Data) → bytes_eq k x.0 ≡ true → test x.0 ≡ false
-    apart_of k test e x q = ap test (sym (same_name k x.0 q)) ∙ e
-
     abbrev fused_here : Name → Bool
     fused_here n = is_some (fused_one ms) && bytes_eq (codes "required") n
 
     tested : IsPermutation (members_named (codes "additionalProperties") (listed ms)
         ++ (members_named (codes "properties") (listed ms) ++ (members_named (codes "patternProperties") (listed ms) ++ filter_once (λ x. fused_here x.0) (listed ms))))
         (filter_once (λ x. is_below plan x.0) (listed ms))
-    tested = one_more (codes "additionalProperties") _ (and-false (is_some _))
-        (one_more (codes "properties") _ (and-false (is_some _))
-        (one_more (codes "patternProperties") fused_here (and-false _) (IsPermutation-refl _)))
-      where
-        one_more : (k : Name) (test : Name → Bool) {xs : Rows} → test k ≡ false → IsPermutation xs (filter_once (λ x. test x.0) (listed ms))
-            → IsPermutation (members_named k (listed ms) ++ xs) (filter_once (λ x. bytes_eq k x.0 || test x.0) (listed ms))
-        one_more k test {xs} e h =
-            IsPermutation-trans _ _ _ (IsPermutation-append _ _ _ _ (IsPermutation-refl _) h)
-            (those_split (λ x. bytes_eq k x.0) _ (apart_of k test e) (listed ms))
+    tested = named_first (listed ms) (codes "additionalProperties") _ (and-false (is_some _))
+        (named_first (listed ms) (codes "properties") _ (and-false (is_some _))
+        (named_first (listed ms) (codes "patternProperties") fused_here (and-false _) (IsPermutation-refl _)))
 
     -- itself, `properties` and `patternProperties` where they stand, and `required` where it is fused
     pub claims_restriction : (d : Data) → lookup_name (codes "additionalProperties") (listed ms) ≡ Some d

@@ -1,13 +1,13 @@
 -- What the members mean together for which the validator of `additionalProperties` stands where it restricts other members.
-use Rattle.std.specs.Prelude.{◌≡◌, ℕ, ◌+◌, Bool, true, false, cond, ◌&&◌, List, [], ◌∷◌, ◌++◌, map, sum_by, codes, Option, Some, None, option_to_list}
+use Rattle.std.specs.Prelude.{◌≡◌, ℕ, ◌+◌, Bool, true, false, cond, ◌&&◌, List, ◌++◌, sum_by, codes, Some, option_to_list}
 use Rattle.std.specs.List.{list_all, flat_map}
 use Rattle.std.proofs.Common.{refl, sym, ◌∙◌, ap, arith}
-use Rattle.std.proofs.lemmas.List.{append-nil, append_assoc}
+use Rattle.std.proofs.lemmas.List.{append_assoc}
 use Rattle.std.proofs.lemmas.List.Folds.{list_all-append}
 use Rattle.std.proofs.lemmas.List.Sums.{sum_by-cons, sum_by-append}
 use Rattle.std.proofs.lemmas.Grind.{flat_map-append}
 use Rattle.std.proofs.lemmas.List.Sorted.{sum_by-IsPermutation}
-use Rattle.std.proofs.Math.Bool.{and_assoc, and-true}
+use Rattle.std.proofs.Math.Bool.{and_assoc}
 use Rattle.serde_json.specs.Data.{Data, string, array, no_items, item, Members}
 use Rattle.olk_spec.specs.Names.{Name, Path, ◌//◌, lookup_name, is_empty}
 use Rattle.olk_spec.specs.World.{World}
@@ -28,8 +28,8 @@ use Rattle.olk_meaning.specs.Plans.{plan_of, head, claims}
 use Rattle.olk_meaning.specs.AdditionalProperties.{rows_at, fused_rows, entries_in, declared_beside, patterns_beside, required_beside, has_beside, declared_accepts, matching_accept, rest_accepts, each_accepts, declared_report, matching_report, rest_report, each_report, others_report, declared_asks, matching_asks, patterns_asked, rest_asks, each_asks, is_declared_in}
 use Rattle.olk_meaning.proofs.AdditionalProperties.{additional_accepts, additional_report, additional_asks}
 use Rattle.olk_meaning.proofs.Claims.{list_all-permuted}
-use Rattle.olk_meaning.proofs.Exchanged.{list_all-exchanged, ∼_exchanged, sum_by-other_side, sum_of_both, sum_of_none}
-use Rattle.olk_meaning.proofs.Facts.{declared_accept, declared_find, declared_ask, required_accepts, required_report, required_asks, nothing_last}
+use Rattle.olk_meaning.proofs.Exchanged.{list_all-exchanged, ∼_exchanged, sum_by-other_side, sum_of_both, sum_of_none, all_there, sum_there, find_there}
+use Rattle.olk_meaning.proofs.Facts.{declared_accept, declared_find, declared_ask, required_accepts, required_report, required_asks}
 use Rattle.olk_meaning.proofs.Heads.{names_of}
 use Rattle.olk_meaning.proofs.PatternProperties.{pattern_properties_accepts, pattern_properties_report, pattern_properties_asks_beside}
 use Rattle.olk_meaning.proofs.Conditions.{restricted_read}
@@ -48,6 +48,10 @@ found_in_order r o a b c =
     (like_through (∼_same (append_assoc a (b ++ c) (r ++ o) ∙ ap (λ l. a ++ l) (append_assoc b c _)))
     (like_through (∼_before a (∼_before b (∼_swap c _)))
     (∼_same (ap (λ l. a ++ (b ++ l)) (append_assoc r o c) ∙ ap (λ l. a ++ l) (sym (append_assoc b r _)) ∙ sym (append_assoc a _ _) ∙ sym (append_assoc _ o c)))))
+
+-- `required` of one name
+abbrev listing : Name → Name × Data
+listing n = (codes "required", array (item (string n) no_items))
 
 module _ (W : World) (ms : Members) (d : Data) (distinct : has_repeat (names_of (listed ms)) ≡ false) (there : lookup_name (codes "additionalProperties") (listed ms) ≡ Some d)
     (restricted : is_restricted ms ≡ true) (u : Bool) (v : Data) where
@@ -78,26 +82,16 @@ module _ (W : World) (ms : Members) (d : Data) (distinct : has_repeat (names_of 
   none_missing = is_empty (missing (required_beside ms) v)
 
   declared_rows_accept : list_all row_accepts (rows_at (codes "properties") ms) ≡ all_declared_accept
-  declared_rows_accept = by _
-    where
-      by : (o : Option Data) → list_all row_accepts (map (λ d. (codes "properties", d)) (option_to_list o)) ≡ list_all (λ e. list_all (accepts W u e.1) (at e.0 v)) (entries_in o)
-      by None = refl
-      by (Some d) = and-true _ ∙ declared_accept W ms d u v
+  declared_rows_accept = all_there (λ d. (codes "properties", d)) row_accepts (λ o. list_all (λ e. list_all (accepts W u e.1) (at e.0 v)) (entries_in o)) refl (λ d. declared_accept W ms d u v) _
 
   pattern_rows_accept : list_all row_accepts (rows_at (codes "patternProperties") ms) ≡ list_all (matching_accept W u fs es) (members v)
-  pattern_rows_accept = by _ ∙ list_all-exchanged _ _ es _
-    where
-      by : (o : Option Data) → list_all row_accepts (map (λ d. (codes "patternProperties", d)) (option_to_list o)) ≡ list_all
-          (λ e. list_all (λ x. accepts W u e.1 x.1) (matched_members W u e.0 v)) (entries_in o)
-      by None = refl
-      by (Some d) = and-true _ ∙ pattern_properties_accepts W ms d u v
+  pattern_rows_accept =
+      all_there (λ d. (codes "patternProperties", d)) row_accepts (λ o. list_all (λ e. list_all (λ x. accepts W u e.1 x.1) (matched_members W u e.0 v)) (entries_in o)) refl
+      (λ d. pattern_properties_accepts W ms d u v) _
+      ∙ list_all-exchanged _ _ es _
 
   fused_rows_accept : list_all row_accepts (fused_rows ms) ≡ none_missing
-  fused_rows_accept = by (fused_one ms)
-    where
-      by : (o : Option Name) → list_all row_accepts (map (λ n. (codes "required", array (item (string n) no_items))) (option_to_list o)) ≡ is_empty (missing (option_to_list o) v)
-      by None = refl
-      by (Some n) = and-true _ ∙ required_accepts W ms (array (item (string n) no_items)) u v
+  fused_rows_accept = all_there listing row_accepts (λ o. is_empty (missing (option_to_list o) v)) refl (λ n. required_accepts W ms (listing n).1 u v) (fused_one ms)
 
   -- each declared schema at the member of its name, and each member by the patterns and the rest
   pub claims_accept : list_all row_accepts claimed ≡ ((all_declared_accept && list_all others_accept_it (members v)) && none_missing)
@@ -139,28 +133,16 @@ module _ (W : World) (ms : Members) (d : Data) (distinct : has_repeat (names_of 
     required_found = required_faults (required_beside ms) v (P // codes "required") Q
 
     declared_rows_find : flat_map row_report (rows_at (codes "properties") ms) ≡ declared_found
-    declared_rows_find = by _
-      where
-        by : (o : Option Data) → flat_map row_report (map (λ d. (codes "properties", d)) (option_to_list o)) ≡ flat_map
-            (λ e. flat_map (λ x. report W u e.1 x (P // codes "properties" // e.0) (Q // e.0)) (at e.0 v)) (entries_in o)
-        by None = refl
-        by (Some d) = append-nil _ ∙ declared_find W ms d u v P Q
+    declared_rows_find = find_there (λ d. (codes "properties", d)) row_report
+        (λ o. flat_map (λ e. flat_map (λ x. report W u e.1 x (P // codes "properties" // e.0) (Q // e.0)) (at e.0 v)) (entries_in o)) refl (λ d. declared_find W ms d u v P Q) _
 
     pattern_rows_find : flat_map row_report (rows_at (codes "patternProperties") ms) ∼ flat_map (matching_report W u fs es P Q) (members v)
-    pattern_rows_find = like_through (∼_same (by _)) (∼_exchanged _ _ es _)
-      where
-        by : (o : Option Data) → flat_map row_report (map (λ d. (codes "patternProperties", d)) (option_to_list o)) ≡ flat_map
-            (λ e. flat_map (λ x. report W u e.1 x.1 (P // codes "patternProperties" // e.0) (Q // x.0)) (matched_members W u e.0 v)) (entries_in o)
-        by None = refl
-        by (Some d) = append-nil _ ∙ pattern_properties_report W ms d u v P Q
+    pattern_rows_find = like_through (∼_same (find_there (λ d. (codes "patternProperties", d)) row_report
+        (λ o. flat_map (λ e. flat_map (λ x. report W u e.1 x.1 (P // codes "patternProperties" // e.0) (Q // x.0)) (matched_members W u e.0 v)) (entries_in o)) refl
+        (λ d. pattern_properties_report W ms d u v P Q) _)) (∼_exchanged _ _ es _)
 
     fused_rows_find : flat_map row_report (fused_rows ms) ≡ required_found
-    fused_rows_find = by (fused_one ms)
-      where
-        by : (o : Option Name) → flat_map row_report (map (λ n. (codes "required", array (item (string n) no_items))) (option_to_list o)) ≡ required_faults
-            (option_to_list o) v (P // codes "required") Q
-        by None = refl
-        by (Some n) = append-nil _ ∙ required_report W ms (array (item (string n) no_items)) u v P Q
+    fused_rows_find = find_there listing row_report (λ o. required_faults (option_to_list o) v (P // codes "required") Q) refl (λ n. required_report W ms (listing n).1 u v P Q) (fused_one ms)
 
     -- in a member, by the patterns and the rest
     abbrev others_find_it : Name × Data → List Fault
@@ -207,34 +189,20 @@ module _ (W : World) (ms : Members) (d : Data) (distinct : has_repeat (names_of 
   abbrev declared_asked : ℕ
   declared_asked = sum_by (λ e. sum_by (asks W u e.1) (at e.0 v)) fs
 
-  one_row_asks : (m : Name × Data) → sum_by row_asks (m ∷ []) ≡ row_asks m
-  one_row_asks m = sum_by-cons row_asks m [] ∙ nothing_last _
-
   declared_rows_ask : sum_by row_asks (rows_at (codes "properties") ms) ≡ declared_asked
-  declared_rows_ask = by _
-    where
-      by : (o : Option Data) → sum_by row_asks (map (λ d. (codes "properties", d)) (option_to_list o)) ≡ sum_by (λ e. sum_by (asks W u e.1) (at e.0 v)) (entries_in o)
-      by None = refl
-      by (Some d) = one_row_asks (codes "properties", d) ∙ declared_ask W ms d u v
+  declared_rows_ask = sum_there (λ d. (codes "properties", d)) row_asks (λ o. sum_by (λ e. sum_by (asks W u e.1) (at e.0 v)) (entries_in o)) refl (λ d. declared_ask W ms d u v) _
 
   pattern_rows_ask : sum_by row_asks (rows_at (codes "patternProperties") ms) ≡ sum_by patterns_ask_it (members v)
-  pattern_rows_ask = by _
+  pattern_rows_ask = sum_there (λ d. (codes "patternProperties", d)) row_asks (λ o. sum_by (λ x. matching_asks W u fs (entries_in o) x + patterns_asked W fs (entries_in o) x.0) (members v))
+      (sym ((λ i. sum_by (λ (x : Name × Data). either (is_declared_in fs x.0) i) (members v)) ∙ sum_of_none (members v)))
+      (λ d. pattern_properties_asks_beside W ms d u v (restricted_read (meaning_step W u) ms ∙ restricted)) _
     where
       either : (b : Bool) → 0 + cond b 0 0 ≡ 0
       either true = omega arith
       either false = omega arith
 
-      by : (o : Option Data) → sum_by row_asks (map (λ d. (codes "patternProperties", d)) (option_to_list o)) ≡ sum_by
-          (λ x. matching_asks W u fs (entries_in o) x + patterns_asked W fs (entries_in o) x.0) (members v)
-      by None = sym ((λ i. sum_by (λ (x : Name × Data). either (is_declared_in fs x.0) i) (members v)) ∙ sum_of_none (members v))
-      by (Some d) = one_row_asks (codes "patternProperties", d) ∙ pattern_properties_asks_beside W ms d u v (restricted_read (meaning_step W u) ms ∙ restricted)
-
   fused_rows_ask : sum_by row_asks (fused_rows ms) ≡ 0
-  fused_rows_ask = by (fused_one ms)
-    where
-      by : (o : Option Name) → sum_by row_asks (map (λ n. (codes "required", array (item (string n) no_items))) (option_to_list o)) ≡ 0
-      by None = refl
-      by (Some n) = one_row_asks (codes "required", array (item (string n) no_items)) ∙ required_asks W ms (array (item (string n) no_items)) u v
+  fused_rows_ask = sum_there listing row_asks (λ o. 0) refl (λ n. required_asks W ms (listing n).1 u v) (fused_one ms)
 
   pub claims_ask : sum_by row_asks claimed ≡ declared_asked + sum_by patterns_ask_it (members v) + sum_by (rest_asks W u fs es d) (members v)
   claims_ask =

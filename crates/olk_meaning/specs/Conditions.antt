@@ -1,5 +1,5 @@
 -- What a member of a schema object has to know of its neighbours: when `if` is read, and `then` and `else` with it; whether members that no pattern matches are held to anything, and then which are declared.
-use Rattle.std.specs.Prelude.{◌≡◌, ◌&&◌, ◌||◌, Bool, true, false, cond, List, [], ◌∷◌, codes, bytes_eq, Option, Some, None, is_some, String}
+use Rattle.std.specs.Prelude.{◌≡◌, ◌&&◌, ◌||◌, Bool, true, false, cond, List, [], ◌∷◌, codes, Option, Some, None, is_some, String}
 use Rattle.std.specs.declared.alloc.Global.{Global}
 use Rattle.std.specs.BTreeMap.{BTreeMap}
 use Rattle.serde_json.specs.Data.{Data, Members}
@@ -26,10 +26,6 @@ is_restriction (Some d) = is_truth false d || is_object d
 abbrev pub is_restricted : Members → Bool
 is_restricted ms = is_restriction (lookup_name (codes "additionalProperties") (listed ms))
 
--- one of the keywords that mean something else beside others
-abbrev pub is_read_beside : Name → Bool
-is_read_beside k = is_conditional_name k || bytes_eq k (codes "patternProperties")
-
 -- what is known of the neighbours where a value is read: whether `if` is read there, and the entries of `properties` of whose names the patterns are asked; these are none where other members are not restricted
 pub record Known : Type 0 where
   pub condition : Bool
@@ -45,6 +41,6 @@ declared_in (Some m) = listed (members_view m.entries)
 abbrev pub known : Neighbours → Known
 known n = known_of (members_view n.members.now.entries)
 
--- of `if`, `then` and `else`: the keyword stands in the object, and it is known whether `if` is read there; of `patternProperties`: it is known of which names the patterns are asked
+-- of `if`, `then` and `else`: the keyword stands in the object, and it is known whether `if` is read there
 abbrev pub IsKnown : Known → Members → Name → Type 0
-IsKnown c ms k = (is_conditional_name k ≡ true → (c.condition ≡ is_condition ms) × (is_some (lookup_name k (listed ms)) ≡ true)) × (k ≡ codes "patternProperties" → c.declared ≡ (known_of ms).declared)
+IsKnown c ms k = is_conditional_name k ≡ true → (c.condition ≡ is_condition ms) × (is_some (lookup_name k (listed ms)) ≡ true)

@@ -1,15 +1,15 @@
 -- What the entries of `dependentRequired`, `dependentSchemas` and `dependencies` ask for, over their raw data.
-use Rattle.std.specs.Prelude.{ℕ, Bool, not, cond, List}
+use Rattle.std.specs.Prelude.{Bool, not, cond, List, [], ◌∷◌}
 use Rattle.std.specs.List.{list_all}
 use Rattle.serde_json.specs.Data.{Data}
-use Rattle.olk_spec.specs.Names.{Name, Path, ◌//◌, filter_once, is_empty}
+use Rattle.olk_spec.specs.Names.{Name, filter_once, is_empty}
 use Rattle.olk_spec.specs.World.{World}
-use Rattle.olk_spec.specs.Faults.{Fault}
 use Rattle.olk_spec.specs.Schemas.{is_array, members, has, texts}
-use Rattle.olk_spec.specs.Meaning.{accepts, asks, report, tree}
 use Rattle.olk_spec.specs.Accepts.{missing}
 use Rattle.olk_spec.specs.Reports.{required_faults}
-use Rattle.olk_spec.specs.Tree.{Tree, erring}
+use Rattle.olk_spec.specs.Tree.{erring}
+use Rattle.olk_meaning.specs.Chosen.{names_form}
+use Rattle.olk_meaning.specs.Told.{EntryAnswers, schema_answers}
 
 -- the entries of d whose key is a member of v
 abbrev pub due_entries : Data → Data → List (Name × Data)
@@ -27,18 +27,25 @@ schema_entries d = filter_once (λ e. not (is_array e.1)) (members d)
 abbrev pub are_lists : Data → Bool
 are_lists d = list_all (λ e. is_array e.1) (members d)
 
--- an entry that is a list wants each of its names, and one that is a schema is asked of the whole value
-module _ (W : World) (u : Bool) (e : Name × Data) (v : Data) where
-  abbrev pub dependency_accepts : Bool
-  dependency_accepts = cond (is_array e.1) (is_empty (missing (texts e.1) v)) (accepts W u e.1 v)
+-- an entry that is a list wants each of its names, at the keyword itself
+abbrev pub list_answers : EntryAnswers (Name × Data)
+list_answers = record {
+  verdict = λ u e v. is_empty (missing (texts e.1) v);
+  asked = λ u e v. 0;
+  faults = λ u e v L Q. required_faults (texts e.1) v L Q;
+  shown = λ u e v L Q. erring L Q (required_faults (texts e.1) v L Q);
+  placed = λ e L. (L, names_form) ∷ [];
+}
 
-  abbrev pub dependency_asks : ℕ
-  dependency_asks = cond (is_array e.1) 0 (asks W u e.1 v)
+-- it does so where it is a list, and else is a schema, which is asked of the whole value
+abbrev pub either_answers : World → (Data → Bool) → EntryAnswers (Name × Data)
+either_answers W is_list = record {
+  verdict = λ u e v. cond (is_list e.1) (list_answers.verdict u e v) ((schema_answers W).verdict u e v);
+  asked = λ u e v. cond (is_list e.1) 0 ((schema_answers W).asked u e v);
+  faults = λ u e v L Q. cond (is_list e.1) (list_answers.faults u e v L Q) ((schema_answers W).faults u e v L Q);
+  shown = λ u e v L Q. cond (is_list e.1) (list_answers.shown u e v L Q) ((schema_answers W).shown u e v L Q);
+  placed = λ e L. cond (is_list e.1) (list_answers.placed e L) ((schema_answers W).placed e L);
+}
 
-  -- the keyword stands at L
-  module _ (L Q : Path) where
-    abbrev pub dependency_report : List Fault
-    dependency_report = cond (is_array e.1) (required_faults (texts e.1) v L Q) (report W u e.1 v (L // e.0) Q)
-
-    abbrev pub dependency_shown : Tree
-    dependency_shown = cond (is_array e.1) (erring L Q (required_faults (texts e.1) v L Q)) (tree W u e.1 v (L // e.0) Q)
+abbrev pub dependency_answers : World → EntryAnswers (Name × Data)
+dependency_answers W = either_answers W is_array

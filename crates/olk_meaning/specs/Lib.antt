@@ -1,8 +1,10 @@
+pub mod Chosen
 pub mod Members
 pub mod Fused
 pub mod Conditions
 pub mod Dependencies
 pub mod PropertyDependencies
+pub mod Told
 pub mod PatternProperties
 pub mod AdditionalProperties
 pub mod Plans

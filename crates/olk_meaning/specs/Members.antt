@@ -14,6 +14,7 @@ use Rattle.olk_spec.specs.Accepts.{keyword_accepts}
 use Rattle.olk_spec.specs.Reports.{keyword_report}
 use Rattle.olk_spec.specs.Asks.{keyword_asks}
 use Rattle.olk_spec.specs.Malformed.{malformations_step, keyword_malformations}
+use Rattle.olk_meaning.specs.Chosen.{Placed, standing_step, keyword_standing}
 use Rattle.olk_spec.specs.Costs.{Cost, cost_step, keyword_cost}
 
 -- m is a member of the schema object with the members ms, which stands at P
@@ -34,6 +35,9 @@ module _ (W : World) (ms : Members) (m : Name × Data) (w : Keyword) where
   abbrev pub member_malformations : Path → List Fault
   member_malformations P = keyword_malformations W (read_members (malformations_step W) ms) m.0 (read (malformations_step W) m.1) P w
 
+  abbrev pub member_standing : Path → List Placed
+  member_standing P = keyword_standing (read_members (standing_step W) ms) P m.0 (read (standing_step W) m.1) w
+
   abbrev pub member_cost : Cost
   member_cost = keyword_cost W (read_members (cost_step W) ms) m.0 (read (cost_step W) m.1) w
 
@@ -44,3 +48,11 @@ module _ (W : World) (u : Bool) (ms : Members) (m : Name × Data) where
   StandsAlone pattern_properties = restricts (read_members (meaning_step W u) ms) ≡ false
   StandsAlone required = (fuses_one (read_members (meaning_step W u) ms) ≡ false) × (fuses_two (read_members (meaning_step W u) ms) ≡ false)
   StandsAlone w = ⊤
+
+-- the member has a validator of its own
+module _ (W : World) (ms : Members) where
+  abbrev pub StandsByItself : Keyword → Type 0
+  StandsByItself properties = (restricts (read_members (standing_step W) ms) ≡ false) × (fuses_two (read_members (standing_step W) ms) ≡ false)
+  StandsByItself pattern_properties = restricts (read_members (standing_step W) ms) ≡ false
+  StandsByItself required = (fuses_one (read_members (standing_step W) ms) ≡ false) × (fuses_two (read_members (standing_step W) ms) ≡ false)
+  StandsByItself w = ⊤

@@ -1,13 +1,17 @@
 -- What the entries of `patternProperties` ask for, over their raw data.
-use Rattle.std.specs.Prelude.{ℕ, ◌*◌, Bool, not, cond, ◌&&◌, List, [], map, length}
+use Rattle.std.specs.Prelude.{ℕ, ◌+◌, ◌*◌, Bool, false, not, cond, ◌&&◌, List, [], map, length, sum_by, Some, None}
+use Rattle.std.specs.List.{list_all, flat_map}
 use Rattle.serde_json.specs.Data.{Data, string}
 use Rattle.olk_spec.specs.Names.{Name, Text, Path, ◌//◌, filter_once, put_if}
 use Rattle.olk_spec.specs.Faults.{Fault, Regex}
 use Rattle.olk_spec.specs.Malformed.{refusal}
 use Rattle.olk_spec.specs.Costs.{Cost, no_cost}
 use Rattle.olk_spec.specs.World.{World}
-use Rattle.olk_spec.specs.Schemas.{members}
+use Rattle.olk_spec.specs.Schemas.{members, is_object}
 use Rattle.olk_spec.specs.Meanings.{matches, is_open}
+use Rattle.olk_spec.specs.Meaning.{accepts, asks, report, tree}
+use Rattle.olk_spec.specs.Tree.{result}
+use Rattle.olk_meaning.specs.Told.{Told}
 
 module _ (W : World) where
   -- the members of v whose names the pattern matches
@@ -36,3 +40,13 @@ module _ (W : World) where
   -- and each of these matchers asked of each of the names that are declared beside them
   abbrev pub names_asked : List (Name × Data) → Data → Cost
   names_asked fs d = record no_cost { table_asks = length fs * length (open_names d) }
+
+-- `patternProperties` of these entries, where it has a validator of its own: each matcher is asked each member's name, and where the pattern matches, its schema is asked
+abbrev pub patterns_told : World → List (Name × Data) → Told
+patterns_told W es = record {
+  verdict = λ u v. list_all (λ e. list_all (λ x. accepts W u e.1 x.1) (matched_members W u e.0 v)) es;
+  asked = λ u v. sum_by (λ e. sum_by (λ x. pattern_asks W e.0 + cond (matches W u e.0 x.0) (asks W u e.1 x.1) 0) (members v)) es;
+  faults = λ u v L Q. flat_map (λ e. flat_map (λ x. report W u e.1 x.1 (L // e.0) (Q // x.0)) (matched_members W u e.0 v)) es;
+  shown = λ u v L Q. result L Q (cond (is_object v) (Some (flat_map (λ e. map (λ x. x.0) (matched_members W u e.0 v)) es)) None) false []
+      (flat_map (λ e. map (λ x. tree W u e.1 x.1 (L // e.0) (Q // x.0)) (matched_members W u e.0 v)) es);
+}

@@ -26,9 +26,10 @@ use Rattle.olk_tree.specs.PropertyDependencies.{chosen_nodes}
 use Rattle.olk_tree.specs.OneOf.{one_of_report}
 use Rattle.olk_tree.specs.Additional.{Held, sides_of, patterns_in, required_text, required_place, lacks, has_neighbours, additional_means, additional_report, additional_first, additional_tree}
 use Rattle.olk_tree.specs.Firsts.{or_else, head_of, first_of}
-use Rattle.olk_tree.specs.Validators.{answers_of, validator_means, validator_report, validator_first, validator_tree, validator_formed}
-use Rattle.olk_tree.specs.Bodies.{body_means, body_report, body_first, body_tree, body_formed}
-use Rattle.olk_tree.specs.Formed.{is_paired, is_map_formed, names_beside, is_table_formed}
+use Rattle.olk_tree.specs.Validators.{answers_of, validator_means, validator_report, validator_first, validator_tree, validator_formed, validator_forms}
+use Rattle.olk_tree.specs.Bodies.{body_means, body_report, body_first, body_tree, body_formed, body_forms}
+use Rattle.olk_meaning.specs.Chosen.{Placed, few as few_names, many as many_names, object_form, form_of_size, fused_properties_form, patterns_form, restriction_form, dependencies_form, dependent_required_form, dependent_schemas_form, property_dependencies_form, all_of_form, any_of_form, one_of_form}
+use Rattle.olk_tree.specs.Formed.{is_paired, is_map_formed, size_of, names_beside, is_table_formed}
 use Rattle.olk_tree.specs.Answers.{Answers}
 use Rattle.olk_tree.specs.Places.{AnswersBy}
 use Rattle.olk_node.specs.Nodes.{node_step, answers}
@@ -410,6 +411,75 @@ module _ {K R : Type 0} (o : Kit K R) where
   ]) ks.items
   formed_layer n b = refl
 
+  -- ---- what stands there
+
+  abbrev stand_in : Node → List Placed
+  stand_in n = (answers o n).forms
+
+  abbrev placed_in : Answers → List Placed
+  placed_in a = a.forms
+
+  nodes_placed : (ns : List Node) → flat_map placed_in (map (answers o) ns) ≡ flat_map stand_in ns
+  nodes_placed ns = flat_map-map placed_in stand_in (answers o) (λ n. refl) ns
+
+  map_placed : (ks : List Name) (ns : List Node) → flat_map placed_in (nodes_in (zip ks (map (answers o) ns))) ≡ flat_map stand_in (nodes_in (zip ks ns))
+  map_placed ks ns = ap (λ es. flat_map placed_in (nodes_in es)) (zip-map (answers o) ks ns) ∙ ap (flat_map placed_in) (nodes_in-map (answers o) (zip ks ns)) ∙ nodes_placed (nodes_in (zip ks ns))
+
+  abbrev of_map : {N : Type 0} → (N → List Placed) → SmallMap N → List Placed
+  of_map f m = flat_map f (nodes_in (named m))
+
+  maps_placed : (m : SmallMap (SmallMap Node)) → flat_map (of_map placed_in) (nodes_in (named (maps_answered m))) ≡ flat_map (of_map stand_in) (nodes_in (named m))
+  maps_placed m =
+      ap (λ es. flat_map (of_map placed_in) (nodes_in es)) (zip-map map_answered m.names m.nodes.items)
+      ∙ ap (flat_map (of_map placed_in)) (nodes_in-map map_answered (named m))
+      ∙ flat_map-map (of_map placed_in) (of_map stand_in) map_answered (λ s. map_placed s.names s.nodes.items) (nodes_in (named m))
+
+  patterns_placed : (es : List (CompiledPattern R × Node)) → flat_map (λ e. placed_in e.1) (map entry_answers es) ≡ flat_map (λ e. stand_in e.1) es
+  patterns_placed es = flat_map-map (λ e. placed_in e.1) (λ e. stand_in e.1) entry_answers (λ e. refl) es
+
+  -- all that a validator holds
+  abbrev held_placed : {N : Type 0} → (N → List Placed) → Held R N → List Placed
+  held_placed f k = (k.location, restriction_form (is_some k.rest) (option_map size_of k.properties) (is_some k.patterns) (is_some k.required))
+      ∷ option_map_or (λ m. flat_map f (nodes_in (mapped m))) k.properties [] ++ flat_map (λ e. f e.1) (patterns_in k.patterns) ++ option_map_or f k.rest []
+
+  module _ (h : Held R Node) where
+    size_alike : option_map size_of (held_answered h).properties ≡ option_map size_of h.properties
+    size_alike = none_few_or_many h.properties (λ e. rw e refl) (λ m e. rw e refl) (λ m e. rw e refl)
+
+    declared_placed : option_map_or (λ m. flat_map placed_in (nodes_in (mapped m))) (held_answered h).properties [] ≡ option_map_or (λ m. flat_map stand_in (nodes_in (mapped m))) h.properties []
+    declared_placed = none_few_or_many h.properties (λ e. rw e refl) (λ m e. rw e (map_placed m.names m.nodes.items)) (λ m e. rw e (map_placed m.names m.nodes.items))
+
+    matched_placed : flat_map (λ e. placed_in e.1) (patterns_in (held_answered h).patterns) ≡ flat_map (λ e. stand_in e.1) (patterns_in h.patterns)
+    matched_placed = none_or_one h.patterns (λ e. rw e refl) (λ es e. rw e (patterns_placed es))
+
+    rest_placed : option_map_or placed_in (held_answered h).rest [] ≡ option_map_or stand_in h.rest []
+    rest_placed = none_or_one h.rest (λ e. rw e refl) (λ r e. rw e refl)
+
+    rest_is_alike : is_some (held_answered h).rest ≡ is_some h.rest
+    rest_is_alike = none_or_one h.rest (λ e. rw e refl) (λ r e. rw e refl)
+
+    all_placed : held_placed placed_in (held_answered h) ≡ held_placed stand_in h
+    all_placed = λ i. (h.location, restriction_form (rest_is_alike i) (size_alike i) (matches_alike h i) (is_some h.required)) ∷ declared_placed i ++ matched_placed i ++ rest_placed i
+
+  forms_layer : (n : OpenNode) (b : Body NodeKeyword) → (node_step o (opened n b)).forms ≡ body_forms (validator_forms o stand_in) n.location b
+  unfolding answers_of
+  forms_layer n (Keywords ks) = ap (λ l. (n.location, object_form) ∷ l) (flat_map-map (λ k. validator_forms o placed_in k) (λ k. validator_forms o stand_in k) _ (elim [
+    | keyword.SmallProperties k ↦ ap (λ l. (k.location, form_of_size few_names) ∷ l) (map_placed k.properties.names k.properties.nodes.items)
+    | keyword.BigProperties k ↦ ap (λ l. (k.location, form_of_size many_names) ∷ l) (map_placed k.properties.names k.properties.nodes.items)
+    | keyword.PropertiesWithRequired2 k ↦ ap (λ l. (k.value.location, fused_properties_form) ∷ l) (map_placed k.value.properties.names k.value.properties.nodes.items)
+    | keyword.AllOf k ↦ ap (λ l. (k.location, all_of_form) ∷ l) (nodes_placed k.schemas.items)
+    | keyword.AnyOf k ↦ ap (λ l. (k.location, any_of_form) ∷ l) (nodes_placed k.schemas.items)
+    | keyword.OneOf k ↦ ap (λ l. (k.location, one_of_form) ∷ l) (nodes_placed k.schemas.items)
+    | keyword.Dependencies k ↦ ap (λ l. (k.location, dependencies_form) ∷ l) (map_placed k.dependencies.names k.dependencies.nodes.items)
+    | keyword.DependentRequired k ↦ ap (λ l. (k.location, dependent_required_form) ∷ l) (map_placed k.dependencies.names k.dependencies.nodes.items)
+    | keyword.DependentSchemas k ↦ ap (λ l. (k.location, dependent_schemas_form) ∷ l) (map_placed k.dependencies.names k.dependencies.nodes.items)
+    | keyword.PropertyDependencies k ↦ ap (λ l. (k.location, property_dependencies_form) ∷ l) (maps_placed k.dependencies)
+    | keyword.PatternProperties k ↦ ap (λ l. (k.location, patterns_form) ∷ l) (patterns_placed k.patterns.items)
+    | keyword.AdditionalProperties k ↦ ap (held_placed placed_in) (is_answered n ks k) ∙ all_placed (held k)
+    | _ ↦ refl
+  ]) ks.items)
+  forms_layer n b = refl
+
   is_step : (n : Node) → answers o n ≡ node_step o (map-SchemaNode K R Node Answers (answers o) (inside n))
   unfolding answers
   is_step n = fold_out-SchemaNode K R Answers (node_step o) n
@@ -435,6 +505,9 @@ module _ {K R : Type 0} (o : Kit K R) where
   pub node_formed : (n : Node) → (answers o n).formed ≡ body_formed (validator_formed o is_formed) (inside n).body
   node_formed n = ap (λ a. a.formed) (is_step n) ∙ formed_layer (inside n) (inside n).body
 
+  pub node_forms : (n : Node) → (answers o n).forms ≡ body_forms (validator_forms o stand_in) (inside n).location (inside n).body
+  node_forms n = ap (λ a. a.forms) (is_step n) ∙ forms_layer (inside n) (inside n).body
+
   -- a node answers as what stands at its place
   pub node_answers : (n : Node) (P : Path) (b : Body NodeKeyword) → (inside n).location ≡ P
       → (inside n).body ≡ b → AnswersBy o (answers o) P b n
@@ -445,6 +518,7 @@ module _ {K R : Type 0} (o : Kit K R) where
     evaluation = node_shows n;
     place = node_location n;
     formed = node_formed n;
+    forms = node_forms n;
   }
 
 pub ruleset layers = (node_means, node_finds, node_first, node_shows, node_location)

@@ -1,3 +1,4 @@
 pub mod Layers
 pub mod Verdicts
 pub mod Reports
+pub mod Going

@@ -1,5 +1,5 @@
 -- Lists of names, each name once.
-use Rattle.std.specs.Prelude.{◌≡◌, ℕ, ◌+◌, ◌<◌, Bool, true, false, not, cond, ◌&&◌, ◌||◌, List, [], ◌∷◌, ◌++◌, length, drop, slice_index_or as get_or, Some, None, is_some, bytes_eq}
+use Rattle.std.specs.Prelude.{◌≡◌, ℕ, ◌+◌, ◌<◌, Bool, true, false, not, cond, ◌&&◌, ◌||◌, List, [], ◌∷◌, length, drop, slice_index_or as get_or, Some, None, is_some, bytes_eq}
 use Rattle.std.specs.List.{list_all, list_any}
 use Rattle.std.specs.Ordering.{nat_cmp}
 use Rattle.std.specs.Cmp.Lexicographic.{slice_cmp}
@@ -19,6 +19,7 @@ use Rattle.olk_spec.specs.Malformed.{name_list_refusals, unless_array, or_else_l
 use Rattle.std.proofs.Math.Bool.{not-not}
 use Rattle.olk_spec.proofs.Truth.{or_in_turn}
 use Rattle.olk_reports.specs.declared.error.BuildError.{BuildError}
+use Rattle.olk_meaning.proofs.Clean.{nothing_in}
 use Rattle.olk_read.specs.Lists.{name_list_faults}
 use Rattle.olk_read.specs.Refusing.{TellsOneOf}
 use Rattle.olk_read.proofs.Spending.{tells_left, tells_same}
@@ -115,12 +116,8 @@ array_where_right : (key : Name) (d : Data) (P : Path) → name_list_refusals ke
 array_where_right key (array ds) P e = refl
 array_where_right key _ P e = absurd (true≢false (sym (ap is_empty e)))
 
-both_empty : (xs ys : List Fault) → xs ++ ys ≡ [] → (xs ≡ []) × (ys ≡ [])
-both_empty [] ys e = (refl, e)
-both_empty (x ∷ xs) ys e = absurd (true≢false (sym (ap is_empty e)))
-
 pub name_lists_are_arrays : (P : Path) (es : List (Name × Data)) → name_list_faults P es ≡ [] → list_all (λ e. is_array e.1) es ≡ true
 name_lists_are_arrays P [] h = refl
 name_lists_are_arrays P (e ∷ es) h =
-    let p = both_empty (name_list_refusals e.0 e.1 P) (name_list_faults P es) h in
+    let p = nothing_in (name_list_refusals e.0 e.1 P) (name_list_faults P es) h in
     λ i. array_where_right e.0 e.1 P p.0 i && name_lists_are_arrays P es p.1 i

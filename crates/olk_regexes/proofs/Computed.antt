@@ -64,6 +64,11 @@ rows_read = record {
   a_hyphen_by_an_escape = refl;
   punctuation_in_a_class = refl;
   a_range_of_escapes = refl;
+  large_counts = refl;
+  no_look_ahead = refl;
+  a_look_ahead_at_the_start = refl;
+  alternatives_ahead = refl;
+  a_group_ahead = refl;
 }
 
 pub rows_refused : Rows_refused
@@ -105,4 +110,13 @@ rows_refused = record {
   a_negative_look_behind = refl;
   a_named_group = refl;
   flags = refl;
+  a_positive_look_ahead = refl;
+  a_look_ahead_anywhere = refl;
+  a_look_ahead_inside = refl;
+  a_look_ahead_in_a_group = refl;
+  two_look_aheads = refl;
+  a_look_ahead_beside_another = refl;
+  a_quantifier_of_a_look_ahead = refl;
+  an_open_look_ahead = refl;
+  a_look_behind_at_the_start = refl;
 }

@@ -23,7 +23,7 @@ or-right false b e = e
 or-left : (a b : Bool) → a ≡ true → (a || b) ≡ true
 or-left a b e = ap (λ x. x || b) e
 
-and-from : (a b : Bool) → a ≡ true → b ≡ true → (a && b) ≡ true
+pub and-from : (a b : Bool) → a ≡ true → b ≡ true → (a && b) ≡ true
 and-from a b ea eb = ap (λ x. x && b) ea ∙ eb
 
 no_text-to : (w : Text) → no_text w ≡ true → w ≡ []

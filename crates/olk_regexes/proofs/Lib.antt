@@ -1,9 +1,11 @@
+pub mod Beginning
 pub mod Splits
 pub mod Places
 pub mod Parts
 pub mod Found
 pub mod Dead
 pub mod Equal
+pub mod Meeting
 pub mod Members
 pub mod Reading
 pub mod Large

@@ -5,10 +5,10 @@ use lib.Dec.{leb}
 use Rattle.olk_regexes.specs.Language.{Text}
 use Rattle.olk_regexes.specs.Escapes.{Read, next}
 
--- A number's digits. Further ones are passed over once it is large: no count is as large.
+-- A number's digits. All numbers from 1,000,000 on are read as that: no count is as large.
 abbrev pub number_from : ℕ → Text → ℕ × Text
 number_from n [] = (n, [])
-number_from n (c ∷ w) = if is_ascii_digit c then number_from (if leb 100000 n then n else n * 10 + (c - 48)) w else (n, c ∷ w)
+number_from n (c ∷ w) = if is_ascii_digit c then number_from (if leb 100000 n then 1000000 else n * 10 + (c - 48)) w else (n, c ∷ w)
 
 -- a number, of which at least one digit is there
 abbrev pub number : Text → Read ℕ

@@ -10,6 +10,7 @@ pub mod Live
 pub mod Marks
 pub mod Places
 pub mod Rows
+pub mod Rules
 pub mod Says
 pub mod Search
 pub mod Seen

@@ -31,3 +31,7 @@ MatchesAt (star p) before w rest = (us : List Text) × (AllAt (MatchesAt p) befo
 -- The expression matches somewhere in the text.
 abbrev pub FindsAt : Expr → Text → Type 0
 FindsAt p w = (before : Text) × (u : Text) × (rest : Text) × (MatchesAt p before u rest) × (w ≡ before ++ (u ++ rest))
+
+-- The expression matches at the start of the text.
+abbrev pub BeginsAt : Expr → Text → Type 0
+BeginsAt p w = (u : Text) × (rest : Text) × (MatchesAt p [] u rest) × (w ≡ u ++ rest)

@@ -2,8 +2,9 @@
 use Rattle.std.specs.Prelude.{◌≡◌, true, false, [], ◌∷◌, Some, None, codes}
 use Rattle.olk_regexes.specs.Language.{blank, one, seq, alt, star}
 use Rattle.olk_regexes.specs.Sets.{range, digits, no_digits, words, no_words, spaces, no_spaces, line_ends}
+use Rattle.olk_regexes.specs.Counts.{counts}
 use Rattle.olk_regexes.specs.Escapes.{char}
-use Rattle.olk_regexes.specs.Syntax.{start, finish, of_item, parse}
+use Rattle.olk_regexes.specs.Syntax.{start, finish, of_item, parse, rule}
 
 pub record Rows_read : Type 0 where
   pub nothing : parse (codes "") ≡ Some blank
@@ -64,6 +65,11 @@ pub record Rows_read : Type 0 where
   pub a_hyphen_by_an_escape : parse (codes "[a\\-c]") ≡ Some (one false (range 97 97 ∷ range 45 45 ∷ range 99 99 ∷ []))
   pub punctuation_in_a_class : parse (codes "[.*^$(|]") ≡ Some (one false (range 46 46 ∷ range 42 42 ∷ range 94 94 ∷ range 36 36 ∷ range 40 40 ∷ range 124 124 ∷ []))
   pub a_range_of_escapes : parse (codes "[\\x61-\\u{63}]") ≡ Some (one false (range 97 99 ∷ []))
+  pub large_counts : counts (codes "{9000000,10000000}") ≡ Some ((1000000, Some 1000000), [])
+  pub no_look_ahead : rule (codes "a") ≡ Some (of_item (char 97), None)
+  pub a_look_ahead_at_the_start : rule (codes "^(?!a)b") ≡ Some (seq start (of_item (char 98)), Some (seq start (of_item (char 97))))
+  pub alternatives_ahead : rule (codes "^(?!a$|b)c$") ≡ Some (seq start (seq (of_item (char 99)) finish), Some (seq start (alt (seq (of_item (char 97)) finish) (of_item (char 98)))))
+  pub a_group_ahead : rule (codes "^(?!(a)*)") ≡ Some (seq start blank, Some (seq start (star (of_item (char 97)))))
 
 -- What is not of the syntax, and what of it is not read: assertions but `^` and `$`, references, properties and names.
 pub record Rows_refused : Type 0 where
@@ -103,3 +109,12 @@ pub record Rows_refused : Type 0 where
   pub a_negative_look_behind : parse (codes "(?<!a)") ≡ None
   pub a_named_group : parse (codes "(?<a>b)") ≡ None
   pub flags : parse (codes "(?i:a)") ≡ None
+  pub a_positive_look_ahead : rule (codes "^(?=a)b") ≡ None
+  pub a_look_ahead_anywhere : rule (codes "(?!a)b") ≡ None
+  pub a_look_ahead_inside : rule (codes "^a(?!b)") ≡ None
+  pub a_look_ahead_in_a_group : rule (codes "(^(?!a)b)") ≡ None
+  pub two_look_aheads : rule (codes "^(?!a)(?!b)c") ≡ None
+  pub a_look_ahead_beside_another : rule (codes "^(?!a)b|c") ≡ None
+  pub a_quantifier_of_a_look_ahead : rule (codes "^(?!a)*") ≡ None
+  pub an_open_look_ahead : rule (codes "^(?!a") ≡ None
+  pub a_look_behind_at_the_start : rule (codes "^(?<!a)b") ≡ None

@@ -1,11 +1,12 @@
 -- How a pattern is read: the regular part of the syntax of ECMA-262, with its flag u.
-use Rattle.std.specs.Prelude.{ℕ, zero, suc, ◌-◌, ◌==◌, Bool, true, false, ◌||◌, not, [], ◌∷◌, Option, Some, None, if◌then◌else◌, codes}
+use Rattle.std.specs.Prelude.{ℕ, zero, suc, ◌-◌, ◌==◌, Bool, true, false, ◌||◌, ◌&&◌, not, [], ◌∷◌, Option, Some, None, if◌then◌else◌, codes}
 use Rattle.std.specs.List.{list_any}
 use Rattle.olk_regexes.specs.Language.{Text, Expr, blank, one, seq, alt, star}
 use Rattle.olk_regexes.specs.Sets.{range, line_ends}
 use Rattle.olk_regexes.specs.Escapes.{Read, next, Item, char, set, escape}
 use Rattle.olk_regexes.specs.Classes.{class}
 use Rattle.olk_regexes.specs.Counts.{Counts, counts}
+use Rattle.olk_regexes.specs.Rules.{Rule}
 
 -- `p` so many times, and then `q`
 abbrev pub times_then : ℕ → Expr → Expr → Expr
@@ -104,7 +105,7 @@ abbrev mutual
   atom (suc n) c w = if c == 40 then in_group (group w) (λ v. next (choice n v) closed) else simple c w
 
 -- what was read, if it is the whole text
-abbrev pub whole : Read Expr → Option Expr
+abbrev pub whole : {A : Type 0} → Read A → Option A
 whole None = None
 whole (Some (p, [])) = Some p
 whole (Some (p, c ∷ w)) = None
@@ -113,6 +114,35 @@ whole (Some (p, c ∷ w)) = None
 unfoldable pub steps : ℕ
 steps = 2048
 
--- the expression of a pattern; none where it is not of the syntax
+-- the expression of a pattern without look-ahead; none where it is not of the syntax
 abbrev pub parse : Text → Option Expr
 parse w = whole (choice steps w)
+
+-- what is behind `^(?!`, if the text begins so
+abbrev pub look_ahead : Text → Option Text
+look_ahead [] = None
+look_ahead (a ∷ []) = None
+look_ahead (a ∷ b ∷ []) = None
+look_ahead (a ∷ b ∷ c ∷ []) = None
+look_ahead (a ∷ b ∷ c ∷ d ∷ w) = if ((a == 94) && (b == 40)) && ((c == 63) && (d == 33)) then Some w else None
+
+-- a sequence at the text's start, and `q`, which is refused there
+abbrev pub wanted : Expr → Text → Read Rule
+wanted q w = next (sequence steps w) (λ p v. Some ((seq start p, Some (seq start q)), v))
+
+-- a look-ahead, behind its opening, and the sequence behind it
+abbrev pub unless : Text → Read Rule
+unless w = next (next (choice steps w) closed) wanted
+
+abbrev pub plain : Option Expr → Option Rule
+plain None = None
+plain (Some p) = Some (p, None)
+
+abbrev pub rule_from : Text → Option Text → Option Rule
+rule_from w None = plain (parse w)
+rule_from w (Some v) = whole (unless v)
+
+-- What a pattern asks for; none where it is not of the syntax. A negative look-ahead is read behind a `^` at the pattern's
+-- start, where no alternative stands beside it: then it asks that no text of it begins the text.
+abbrev pub rule : Text → Option Rule
+rule w = rule_from w (look_ahead w)

@@ -1,9 +1,11 @@
 -- What a pattern that was read stands for.
-use Rattle.std.specs.Prelude.{Option, Some, None}
+use Rattle.std.specs.Prelude.{Option, Some, None, option_map}
 use Rattle.std.specs.Borrow.{Bor}
 use Rattle.olk_regexes.specs.Language.{Text, Expr, blank, one, seq, alt}
 use Rattle.olk_regexes.specs.Escapes.{Read}
+use Rattle.olk_regexes.specs.Rules as rules
 use Rattle.olk_regexes.specs.Syntax.{repeated}
+use Rattle.olk_regexes.specs.declared.rule.Rule.{Rule}
 use Rattle.olk_regexes.specs.declared.tree.Tree.{Tree, Blank, One, Then', Or', Repeat'}
 
 abbrev pub expr_of : Tree → Expr
@@ -16,3 +18,10 @@ expr_of (Repeat' _ p k) = repeated (expr_of p) k
 abbrev pub seen_tree : Option (Tree × Bor Text) → Read Expr
 seen_tree None = None
 seen_tree (Some p) = Some (expr_of p.0, p.1.now)
+
+abbrev pub rule_of : Rule → rules.Rule
+rule_of r = (expr_of r.wanted, option_map expr_of r.refused)
+
+abbrev pub seen_rule : Option (Rule × Bor Text) → Read rules.Rule
+seen_rule None = None
+seen_rule (Some p) = Some (rule_of p.0, p.1.now)

@@ -3,6 +3,9 @@ ghost use Rattle.std.specs.Prelude.{◌≡◌, ◌≤◌};
 ghost use Rattle.olk_regexes.specs.Counts.{number_from, number, closing, counts_most, counts_end, lazy, counts};
 ghost use Rattle.olk_regexes.specs.Seen.{seen_pair, seen_number, seen_counts};
 
+// What a number is read as that is as large or larger.
+const LARGE: u32 = 1_000_000;
+
 // The digits of a number that began with `from`, and what is behind them.
 fn digits(from: u32, text: &[char]) -> (u32, &[char])
     requires { from ≤ 1000000 }
@@ -14,9 +17,11 @@ fn digits(from: u32, text: &[char]) -> (u32, &[char])
         if !c.is_ascii_digit() {
             break;
         }
-        if n < 100000 {
-            n = n * 10 + (*c as u32 - 48);
-        }
+        n = if n < 100000 {
+            n * 10 + (*c as u32 - 48)
+        } else {
+            LARGE
+        };
         rest = behind;
     }
     (n, rest)

@@ -44,7 +44,12 @@ fn ranges(alloc: Global, negated: bool, ranges: &[Range]) -> Result<Tree, AllocE
     Ok(Tree::One(Class { negated, ranges }))
 }
 
-fn one(alloc: Global, c: u32) -> Result<Tree, AllocError>
+/// The character, or what stands for `^` or `$`.
+///
+/// # Errors
+///
+/// There is no memory.
+pub fn one(alloc: Global, c: u32) -> Result<Tree, AllocError>
     ensures { IfOk result (λ t. expr_of t ≡ of_item (char c)) }
 {
     ranges(alloc, false, &[Range { low: c, high: c }])
@@ -88,8 +93,8 @@ fn read_simple(alloc: Global, c: char, text: &[char]) -> Result<Option<(Tree, &[
     }
 }
 
-// A part that a group's end follows.
-fn closed(part: Tree, text: &[char]) -> Option<(Tree, &[char])>
+/// A part that a group's end follows, and what is behind that.
+pub fn closed(part: Tree, text: &[char]) -> Option<(Tree, &[char])>
     ensures { seen_tree result ≡ closed (expr_of part) text.now }
 {
     match text {
@@ -98,7 +103,12 @@ fn closed(part: Tree, text: &[char]) -> Option<(Tree, &[char])>
     }
 }
 
-fn then(alloc: Global, first: Tree, second: Tree) -> Result<Tree, AllocError>
+/// The first part, and then the second.
+///
+/// # Errors
+///
+/// There is no memory.
+pub fn then(alloc: Global, first: Tree, second: Tree) -> Result<Tree, AllocError>
     ensures { IfOk result (λ t. expr_of t ≡ seq (expr_of first) (expr_of second)) }
 {
     Ok(Tree::Then {
@@ -184,8 +194,14 @@ fn read_alternatives(
     }
 }
 
+/// The sequence at the start of the text, and what is behind it; none where it is not of the
+/// syntax, or would take more steps.
+///
+/// # Errors
+///
+/// There is no memory.
 #[cycle(reader)]
-fn read_sequence(
+pub fn read_sequence(
     alloc: Global,
     steps: u32,
     text: &[char],

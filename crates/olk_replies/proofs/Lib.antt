@@ -1,1 +1,1 @@
-mod Telling
+pub mod Telling

@@ -1,5 +1,6 @@
 -- What a validator answers is what is told.
-use Rattle.std.proofs.Common.{◌≡◌, true, false, Result, Ok, Err, IfErr, OnOk, List, [], ◌∷◌, map, sym, ap, ◌∙◌, subst}
+use Rattle.std.specs.Prelude.{⊤}
+use Rattle.std.proofs.Common.{◌≡◌, Bool, true, false, Result, Ok, Err, IfErr, OnOk, List, [], ◌∷◌, map, sym, ap, ◌∙◌, subst}
 use Rattle.std.specs.List.{AllByRecursion}
 use Rattle.std.proofs.lemmas.List.Elements.{All-from_recursion}
 use Rattle.std.proofs.lemmas.List.Sorted.{IsPermutation-trans}
@@ -17,13 +18,13 @@ use Rattle.olk_reports.specs.Errors.{fault_of}
 use Rattle.olk_reports.specs.declared.error.ValidationError.{ValidationError}
 use Rattle.olk_reports.specs.declared.error.ValidateError.{ValidateError}
 use Rattle.olk_reports.specs.declared.error.ValidateError.TheVariants.{Invalid, Memory}
-use Rattle.olk_errors.specs.Found.{Appends, IfInvalid, IsRefusal}
+use Rattle.olk_errors.specs.Found.{Appends, IfInvalid, IsLikeOneOf, IsRefusal}
 use Rattle.olk_answers.specs.Evaluated.{IsPromised}
 use Rattle.olk_answers.specs.Texts.{json_text}
 use Rattle.olk_answers.specs.Told.{told, errors_data, TellsFound, TellsSorted, PrintNoFraction}
 use Rattle.olk_answers.proofs.Fractions.{IsPlain, PrintsNone, by_recursion}
 use Rattle.olk_answers.proofs.Plain.{same_faults_print_none, cut_fault_prints_none, tree_prints_none, errors_promised}
-use Rattle.olk_replies.specs.Replies.{Asked, has_fraction, accepted, TellsFirst, TellsFirstBy, TellsErrors, TellsEvaluation}
+use Rattle.olk_replies.specs.Replies.{Asked, has_fraction, accepted, TellsOneBy, TellsFirst, TellsSome, TellsErrors, TellsEvaluation}
 
 promised_by_recursion : (es : List (Path × Path × Described)) → Each IsPromised es → AllByRecursion IsPromised es
 promised_by_recursion [] h = tt
@@ -37,14 +38,22 @@ module _ (W : World) (q : Asked) (plain : has_fraction q ≡ false) where
   instance_plain = (neither _ _ plain).1
 
   -- what `validate` gives is the first error
-  pub found_is_first : (found : Result (Unit {0}) ValidateError) (answer : Text) → OnOk found (accepted W q ≡ true)
-      → IfErr found (λ e. IfInvalid e (IsRefusal W q.unfinished q.schema q.instance [] [])) → TellsFound found answer → TellsFirst W q answer
-  found_is_first (Ok done) answer ok invalid tells = subst (λ b. TellsFirstBy b W q answer) (sym ok) tells
-  found_is_first (Err (Memory m)) answer ok invalid tells = absurd tells
-  found_is_first (Err (Invalid e)) answer ok invalid tells =
+  pub found_is_first : (faults : List Fault) (found : Result (Unit {0}) ValidateError) (answer : Text) → OnOk found (accepted W q ≡ true)
+      → IfErr found (λ e. IfInvalid e (IsRefusal W q.unfinished q.schema q.instance [] [])) → IfErr found (λ e. IfInvalid e (IsLikeOneOf faults)) → TellsFound found answer → TellsFirst W q faults answer
+  found_is_first faults (Ok done) answer ok invalid first tells = subst (λ b. TellsOneBy b W q (IsLikeOneOf faults) answer) (sym ok) tells
+  found_is_first faults (Err (Memory m)) answer ok invalid first tells = absurd tells
+  found_is_first faults (Err (Invalid e)) answer ok invalid first tells =
       let o = invalid.of_report in
       let none = cut_fault_prints_none W q.unfinished q.schema q.instance schema_plain instance_plain [] [] o.list o.report o.whole o.among in
-      subst (λ b. TellsFirstBy b W q answer) (sym invalid.verdict) (fault_of e, o, tells (subst PrintsNone (sym o.told) none))
+      subst (λ b. TellsOneBy b W q (IsLikeOneOf faults) answer) (sym invalid.verdict) (fault_of e, o, first, tells (subst PrintsNone (sym o.told) none))
+
+  -- the first error is one of some report
+  pub first_is_some : (faults : List Fault) (answer : Text) → TellsFirst W q faults answer → TellsSome W q answer
+  first_is_some faults answer = by (accepted W q)
+    where
+      by : (b : Bool) → TellsOneBy b W q (IsLikeOneOf faults) answer → TellsOneBy b W q (λ f. ⊤) answer
+      by true h = h
+      by false h = (h.0, h.1, tt, h.3)
 
   -- what `collect_errors` appends to no error are the errors
   pub added_are_errors : (errors : List ValidationError) (answer : Text) → Appends [] errors (report W q.unfinished q.schema q.instance [] [])

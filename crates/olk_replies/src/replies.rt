@@ -2,7 +2,7 @@
 ghost use Rattle.std.specs.Prelude.{◌≡◌, false, IfOk};
 ghost use Rattle.serde_json.specs.View.{view};
 ghost use Rattle.olk_base.specs.Kit.{kit, world};
-ghost use Rattle.olk_validator.specs.Validators.{IsValidatorOf};
+ghost use Rattle.olk_validator.specs.Validators.{IsValidatorOf, first_faults};
 ghost use Rattle.olk_answers.specs.Texts.{json_text};
 ghost use Rattle.olk_answers.specs.Told.{verdict};
 ghost use Rattle.olk_replies.specs.Replies.{has_fraction, accepted, TellsFirst, TellsErrors, TellsEvaluation};
@@ -43,7 +43,7 @@ pub fn tell_verdict<K: Leaf, R: RegexEngine>(
     verdict_text(alloc, validator.is_valid(question.instance, &mut ctx))
 }
 
-/// Tells the first error of the instance, or that there is none.
+/// Tells the error of the first step that refuses the instance, or that there is none.
 ///
 /// # Errors
 ///
@@ -56,7 +56,9 @@ pub fn tell_first<K: Leaf, R: RegexEngine>(
     requires stands { IsValidatorOf (kit K.Leaf R.RegexEngine) validator.now
         (view question.now.schema.now) }
     ensures { IfOk result (λ answer. has_fraction (seen question.now) ≡ false
-        → TellsFirst (world K.Leaf R.RegexEngine) (seen question.now) answer.items) }
+        → TellsFirst (world K.Leaf R.RegexEngine) (seen question.now) (first_faults
+        (kit K.Leaf R.RegexEngine) validator.now question.now.unfinished
+        (view question.now.instance.now)) answer.items) }
 {
     let mut ctx = ValidationContext::new(question.unfinished);
     let found = validator.validate(alloc, question.instance, &mut ctx);

@@ -10,7 +10,7 @@ use Rattle.olk_spec.specs.Meaning.{accepts, asks, report, tree}
 use Rattle.olk_spec.specs.Tree.{Tree}
 use Rattle.olk_spec.proofs.Order.{∼_append}
 use Rattle.olk_base.specs.Kit.{Kit}
-use Rattle.olk_tree.specs.Questions.{Question, every}
+use Rattle.olk_tree.specs.Questions.{Question, every, of_asked}
 use Rattle.olk_tree.specs.Sides.{AnswersAs}
 
 pub more_within : (a b c d e : ℕ) → a ≤ b → c ≤ d → e ≡ b + d → a + c ≤ e
@@ -43,7 +43,7 @@ module _ {K R N : Type 0} (o : Kit K R) (m : N → Data → Question) (r : N →
     all_accept (n ∷ ns) (s ∷ ss) h = λ i. h.0.verdict u v i && all_accept ns ss h.1 i
     all_accept _ _ h = absurd h
 
-    pub all_ask : (ns : List N) (ss : List (Data × Path)) → AnswerAs ns ss → (every (λ n. m n v) ns).asks u ≤ sum_by (λ s. asks o.world u s.0 v) ss
+    pub all_ask : (ns : List N) (ss : List (Data × Path)) → AnswerAs ns ss → (every (λ n. m n v) ns).asks of_asked u ≤ sum_by (λ s. asks o.world u s.0 v) ss
     all_ask [] [] h = omega arith
     all_ask (n ∷ ns) (s ∷ ss) h = more_within _ _ _ _ _ (h.0.asks_within u v) (all_ask ns ss h.1) (sum_by-cons (λ z. asks o.world u z.0 v) s ss)
     all_ask _ _ h = absurd h

@@ -225,7 +225,7 @@ module _ {K R N : Type 0} {o : Kit K R} {m : _} {r : _} {t : _} {S : Sides R N} 
       abbrev pub asked_schemas : List (Data × Path)
       asked_schemas = declared_schemas ++ other_schemas
 
-      -- zip what is declared
+      -- beside what is declared
       pub others_answer : AnswerAs o m r t (others_asked o.answers S u n) other_schemas
       others_answer = answer_append o m r t _ matching_schemas _ rest_schemas nodes_matching_answer rest_answers
 

@@ -25,3 +25,4 @@ pub mod RestrictedAsks
 pub mod RestrictedNames
 pub mod RestrictionMeans
 pub mod Formed
+mod First_rows

@@ -9,15 +9,15 @@ use Rattle.olk_spec.specs.Malformed.{has_repeat}
 use Rattle.olk_spec.specs.Schemas.{listed, at}
 use Rattle.olk_spec.proofs.Walks.{Distinct, Distinct-from, at_lookup}
 use Rattle.olk_base.specs.declared.pattern.CompiledPattern.TheVariants.{Exact}
-use Rattle.olk_tree.specs.Questions.{Question, always, conditional, said_to, every}
+use Rattle.olk_tree.specs.Questions.{Question, always, conditional, said_to, every, of_asked, of_unfinished}
 use Rattle.olk_tree.specs.PatternProperties.{matched_mean}
 use Rattle.olk_tree.proofs.Questions.{alike, every-flat_map}
 
 module _ (q : Data → Question) where
   -- what a test that costs nothing decides
   if_passed : (b : Bool) (x : Data) → every q (cond b (x ∷ []) []) ≡ conditional (said_to false (cond b matched unmatched)) (q x) (always true)
-  if_passed true x = alike (λ u. and-true _) (λ u. omega arith)
-  if_passed false x = alike (λ u. refl) (λ u. omega arith)
+  if_passed true x = alike (λ u. and-true _) (elim [ of_asked ↦ λ u. omega arith | of_unfinished ↦ λ u. omega arith ])
+  if_passed false x = alike (λ u. refl) (elim [ of_asked ↦ λ u. omega arith | of_unfinished ↦ λ u. omega arith ])
 
   found : (o : Option Data) → option_to_list o ≡ flat_map (λ x. x ∷ []) (option_to_list o)
   found None = refl

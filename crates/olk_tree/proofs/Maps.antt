@@ -162,7 +162,7 @@ module _ {X Y : Type 0} (t : X → Data → Path → Tree) (s : Y → Data → P
 -- ---- the nodes of patterns
 
 module _ {R X Y : Type 0} (answers : R → Name → Says) (h : Y → X) where
-  -- a pattern zip what stands for its node
+  -- a pattern beside what stands for its node
   abbrev pub beside_pattern : CompiledPattern R × Y → CompiledPattern R × X
   beside_pattern e = (e.0, h e.1)
 

@@ -2,20 +2,20 @@
 use Rattle.std.proofs.Common.{◌≡◌, Bool, true, List, [], ◌∷◌, ◌++◌, refl, sym, ap, ◌∙◌, arith}
 use Rattle.std.specs.List.{flat_map}
 use Rattle.std.proofs.Math.Bool.{and_assoc, and-true}
-use Rattle.olk_tree.specs.Questions.{Question, always, both, every}
+use Rattle.olk_tree.specs.Questions.{Tally, Question, always, both, every}
 
 -- two questions are one if they answer alike
-pub alike : {m n : Question} → ((u : Bool) → m.accepts u ≡ n.accepts u) → ((u : Bool) → m.asks u ≡ n.asks u) → m ≡ n
-alike p q = λ i. record { accepts = λ u. p u i; asks = λ u. q u i }
+pub alike : {m n : Question} → ((u : Bool) → m.accepts u ≡ n.accepts u) → ((k : Tally) (u : Bool) → m.asks k u ≡ n.asks k u) → m ≡ n
+alike p q = λ i. record { accepts = λ u. p u i; asks = λ k u. q k u i }
 
 pub both_first : (m : Question) → both (always true) m ≡ m
-both_first m = alike (λ u. refl) (λ u. omega arith)
+both_first m = alike (λ u. refl) (λ k u. omega arith)
 
 pub both_last : (m : Question) → both m (always true) ≡ m
-both_last m = alike (λ u. and-true _) (λ u. omega arith)
+both_last m = alike (λ u. and-true _) (λ k u. omega arith)
 
 pub both_around : (m n p : Question) → both (both m n) p ≡ both m (both n p)
-both_around m n p = alike (λ u. and_assoc (m.accepts u) (n.accepts u) (p.accepts u)) (λ u. omega arith)
+both_around m n p = alike (λ u. and_assoc (m.accepts u) (n.accepts u) (p.accepts u)) (λ k u. omega arith)
 
 module _ {X : Type 0} where
   pub every-nothing : (xs : List X) → every (λ x. always true) xs ≡ always true

@@ -15,7 +15,7 @@ use Rattle.olk_spec.proofs.Order.{∼_append, ∼_same, ∼_flat_map_any}
 use Rattle.olk_base.specs.Kit.{Kit}
 use Rattle.olk_meaning.specs.AdditionalProperties.{matching_accept, rest_accepts, matching_report, rest_report, others_report, patterns_asked, matching_asks, rest_asks}
 use Rattle.olk_meaning.proofs.Exchanged.{sum_of_both}
-use Rattle.olk_tree.specs.Questions.{Question, every}
+use Rattle.olk_tree.specs.Questions.{Question, every, of_asked}
 use Rattle.olk_tree.specs.Additional.{Sides, at_name, is_unexpected, others_mean, named_means, named_report, others_report as others_found}
 use Rattle.olk_tree.specs.AdditionalAgreement.{others_accepted}
 use Rattle.olk_tree.specs.Sides.{AnswersAs, EntriesAnswer, SidesStand}
@@ -34,7 +34,7 @@ module _ {K R N : Type 0} (o : Kit K R) (m : N → Data → Question) (r : N →
     values_accept [] = refl
     values_accept (v ∷ vs) = λ i. h.verdict u v i && values_accept vs i
 
-    values_ask : (vs : List Data) → (every (m n) vs).asks u ≤ sum_by (asks o.world u s) vs
+    values_ask : (vs : List Data) → (every (m n) vs).asks of_asked u ≤ sum_by (asks o.world u s) vs
     values_ask [] = omega arith
     values_ask (v ∷ vs) = more_within _ _ _ _ _ (h.asks_within u v) (values_ask vs) (sum_by-cons (asks o.world u s) v vs)
 
@@ -47,7 +47,7 @@ module _ {K R N : Type 0} (o : Kit K R) (m : N → Data → Question) (r : N →
     declared_accept k _ _ h = absurd h
 
     declared_ask : (k : ℕ) (ns : List N) (fs : Rows) → EntriesAnswer o m r t ns fs L
-        → (every (λ e. every (m e.1.1) (at e.0 v)) (zip (map (λ e. e.0) fs) (enumerate_from k ns))).asks u ≤ sum_by (λ e. sum_by (asks o.world u e.1) (at e.0 v)) fs
+        → (every (λ e. every (m e.1.1) (at e.0 v)) (zip (map (λ e. e.0) fs) (enumerate_from k ns))).asks of_asked u ≤ sum_by (λ e. sum_by (asks o.world u e.1) (at e.0 v)) fs
     declared_ask k [] [] h = omega arith
     declared_ask k (n ∷ ns) (e ∷ fs) h =
         more_within _ _ _ _ _ (values_ask n e.1 (L // e.0) h.0 u (at e.0 v)) (declared_ask (k + 1) ns fs h.1) (sum_by-cons (λ (e : Name × Data). sum_by (asks o.world u e.1) (at e.0 v)) e fs)
@@ -111,7 +111,7 @@ module _ {K R N : Type 0} {o : Kit K R} {m : _} {r : _} {t : _} {S : Sides R N} 
   abbrev patterns_ask_it : Name × Data → ℕ
   patterns_ask_it x = matching_asks o.world u fs es x + patterns_asked o.world fs es x.0
 
-  others_ask : (x : Name × Data) → (others_mean o.answers o.costs m S x.0 x.1).asks u ≤ patterns_ask_it x + rest_asks o.world u fs es d x
+  others_ask : (x : Name × Data) → (others_mean o.answers o.costs m S x.0 x.1).asks of_asked u ≤ patterns_ask_it x + rest_asks o.world u fs es d x
   others_ask x =
       let whole = patterns_ask o.answers o.costs S x.0 u (at_name S x.0) m x.1 (is_some (at_name S x.0)) 0 S.patterns in
       let nodes = all_ask o m r t u x.1 _ _ (others_answer h x.0 u) in
@@ -121,15 +121,15 @@ module _ {K R N : Type 0} {o : Kit K R} {m : _} {r : _} {t : _} {S : Sides R N} 
       omega (arith, whole, nodes, parts, rest, matchers)
 
   -- it asks at most what the declared schemas ask, and what the patterns and the rest ask of each member
-  pub named_asks : (v : Data) → (named_means o.answers o.costs m S v).asks u ≤ sum_by (λ e. sum_by (asks o.world u e.1) (at e.0 v)) fs + sum_by
+  pub named_asks : (v : Data) → (named_means o.answers o.costs m S v).asks of_asked u ≤ sum_by (λ e. sum_by (asks o.world u e.1) (at e.0 v)) fs + sum_by
       patterns_ask_it (members v) + sum_by (rest_asks o.world u fs es d) (members v)
   named_asks v =
-      let same = ap (λ l. (every (λ e. every (m e.1.1) (at e.0 v)) l).asks u) h.placed_zip in
+      let same = ap (λ l. (every (λ e. every (m e.1.1) (at e.0 v)) l).asks of_asked u) h.placed_zip in
       let declared = declared_ask o m r t (P // codes "properties") u v 0 h.nodes fs h.declared in
       let others = along (members v) in
       let parts = sum_of_both patterns_ask_it (rest_asks o.world u fs es d) (members v) in
       omega (arith, same, declared, others, parts)
     where
-      along : (xs : Rows) → (every (λ x. others_mean o.answers o.costs m S x.0 x.1) xs).asks u ≤ sum_by (λ x. patterns_ask_it x + rest_asks o.world u fs es d x) xs
+      along : (xs : Rows) → (every (λ x. others_mean o.answers o.costs m S x.0 x.1) xs).asks of_asked u ≤ sum_by (λ x. patterns_ask_it x + rest_asks o.world u fs es d x) xs
       along [] = omega arith
       along (x ∷ xs) = more_within _ _ _ _ _ (others_ask x) (along xs) (sum_by-cons (λ x. patterns_ask_it x + rest_asks o.world u fs es d x) x xs)

@@ -23,7 +23,7 @@ use Rattle.olk_meaning.specs.Members.{member_accepts, member_asks, member_report
 use Rattle.olk_meaning.specs.Plans.{plan_of, head, claims}
 use Rattle.olk_meaning.proofs.Restriction.{claims_accept, claims_accept_each, claims_find, claims_find_each, claims_ask, claims_ask_each}
 use Rattle.olk_meaning.proofs.RestrictionShown.{additional_shows}
-use Rattle.olk_tree.specs.Questions.{Question}
+use Rattle.olk_tree.specs.Questions.{Question, of_asked}
 use Rattle.olk_tree.specs.Additional.{Sides, repeats, means_in_turn, named_means, report_in_turn, named_report, additional_tree, sides_of, has_neighbours, required_text, required_place, lacks}
 use Rattle.olk_tree.specs.Validators.{answers_of, validator_means, validator_report, validator_tree}
 use Rattle.olk_tree.specs.Holdings.{held}
@@ -86,11 +86,11 @@ module _ {K R N : Type 0} (o : Kit K R) (m : N → Data → Question) (r : N →
         by false q = (λ i. restricted_accepts h.sides u v i && is_empty (missing (h.requires i) v)) ∙ sym (claims_accept_each o.world ms d distinct there restricted u v h.declared_once q)
 
     -- it asks at most what these ask
-    pub restriction_asks : (u : Bool) (v : Data) → (validator_means o m (keyword.AdditionalProperties k) v).asks u ≤ sum_by (λ x. member_asks o.world ms x (keyword_named o.world x.0) u v) claimed
+    pub restriction_asks : (u : Bool) (v : Data) → (validator_means o m (keyword.AdditionalProperties k) v).asks of_asked u ≤ sum_by (λ x. member_asks o.world ms x (keyword_named o.world x.0) u v) claimed
     unfolding answers_of
     restriction_asks u v = by (repeats v) refl
       where
-        by : (b : Bool) → repeats v ≡ b → (cond b (named_means o.answers o.costs m (sides_of (held k)) v) (means_in_turn o.answers o.costs m (sides_of (held k)) v)).asks u + 0 ≤ sum_by
+        by : (b : Bool) → repeats v ≡ b → (cond b (named_means o.answers o.costs m (sides_of (held k)) v) (means_in_turn o.answers o.costs m (sides_of (held k)) v)).asks of_asked u + 0 ≤ sum_by
             (λ x. member_asks o.world ms x (keyword_named o.world x.0) u v) claimed
         by true q =
             let within = named_asks h.sides u v in

@@ -1,6 +1,6 @@
 -- `additionalProperties`, with what it takes over: what its validator answers.
-use Rattle.std.specs.Prelude.{⊤, [], None, Bool, true, false, ◌&&◌, ◌++◌, map, is_some}
-use Rattle.std.specs.List.{list_all}
+use Rattle.std.specs.Prelude.{⊤, [], ◌∷◌, None, Bool, true, false, ◌&&◌, ◌++◌, map, is_some, option_map}
+use Rattle.std.specs.List.{list_all, flat_map}
 use Rattle.std.proofs.Common.{refl}
 use Rattle.std.specs.Option.{option_map_or}
 use Rattle.olk_spec.specs.Names.{Name, is_empty}
@@ -9,9 +9,10 @@ use Rattle.olk_spec.specs.Tree.{node, no_tree}
 use Rattle.olk_spec.specs.Accepts.{missing}
 use Rattle.olk_tree.specs.Additional.{Held, sides_of, patterns_in, has_neighbours, required_text, required_place, lacks, additional_means, additional_report, additional_first, additional_tree}
 use Rattle.olk_tree.specs.AdditionalAgreement.{additional_agrees, additional_first_agrees}
+use Rattle.olk_meaning.specs.Chosen.{restriction_form}
 use Rattle.olk_tree.specs.Answers.{Answers, AnswersOver, answered}
 use Rattle.olk_tree.specs.Firsts.{or_else}
-use Rattle.olk_tree.specs.Formed.{is_map_formed, names_beside, is_table_formed}
+use Rattle.olk_tree.specs.Formed.{is_map_formed, size_of, names_beside, is_table_formed}
 use Rattle.olk_tree.specs.Maps.{mapped, nodes_in}
 use Rattle.olk_tree.specs.Questions.{always, both}
 use Rattle.olk_tree.specs.Shown.{missing_trees}
@@ -31,6 +32,8 @@ module _ {R N : Type 0} (answers : R → Name → Says) (costs : R → Bool) whe
         && option_map_or (is_table_formed answers (names_beside k.properties) (map (λ e. e.0) (patterns_in k.patterns))) k.table true
         && list_all (λ e. f e.1) (patterns_in k.patterns)
         && option_map_or f k.rest true;
+    forms = λ f. (k.location, restriction_form (is_some k.rest) (option_map size_of k.properties) (is_some k.patterns) (is_some k.required))
+        ∷ option_map_or (λ m. flat_map f (nodes_in (mapped m))) k.properties [] ++ flat_map (λ e. f e.1) (patterns_in k.patterns) ++ option_map_or f k.rest [];
   }
 
 -- where no patterns stand, so that none is asked
@@ -48,6 +51,7 @@ no_answers n = record {
   tree = λ u v Q. node [] Q true None [] no_tree;
   location = [];
   formed = true;
+  forms = [];
 }
 
 abbrev pub false_answers : Held ⊤ ⊤ → Answers

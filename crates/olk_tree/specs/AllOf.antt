@@ -1,7 +1,8 @@
 -- `allOf`: what its validators answer.
 use Rattle.std.specs.Prelude.{not, ◌&&◌, [], ◌∷◌}
-use Rattle.std.specs.List.{list_all}
+use Rattle.std.specs.List.{list_all, flat_map}
 use Rattle.olk_spec.specs.Tree.{plain}
+use Rattle.olk_meaning.specs.Chosen.{all_of_form, single_all_of_form}
 use Rattle.olk_tree.specs.Answers.{AnswersOver}
 use Rattle.olk_tree.specs.Each.{each_answers}
 use Rattle.olk_tree.specs.Formed.{is_one}
@@ -11,7 +12,7 @@ use Rattle.olk_tree.specs.declared.all_of.SingleValueAllOf.{SingleValueAllOf}
 
 module _ {N : Type 0} where
   abbrev pub all_of_answers : AllOf N → AnswersOver N
-  all_of_answers k = each_answers (λ v. k.schemas.items) k.location (λ f. not (is_one k.schemas.items) && list_all f k.schemas.items)
+  all_of_answers k = each_answers (λ v. k.schemas.items) k.location (λ f. not (is_one k.schemas.items) && list_all f k.schemas.items) (λ f. (k.location, all_of_form) ∷ flat_map f k.schemas.items)
 
   abbrev pub single_all_of_answers : SingleValueAllOf N → AnswersOver N
   single_all_of_answers k = record {
@@ -23,4 +24,5 @@ module _ {N : Type 0} where
     tree = λ m t u v Q. plain k.location Q (branch_trees (λ n. t n u) v Q (k.node ∷ []));
     location = k.location;
     formed = λ f. f k.node;
+    forms = λ f. (k.location, single_all_of_form) ∷ f k.node;
   }

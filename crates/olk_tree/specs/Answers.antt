@@ -4,9 +4,10 @@ use Rattle.serde_json.specs.Data.{Data}
 use Rattle.olk_spec.specs.Names.{Path, is_empty}
 use Rattle.olk_spec.specs.Faults.{Fault}
 use Rattle.olk_spec.specs.Tree.{Tree}
+use Rattle.olk_meaning.specs.Chosen.{Placed}
 use Rattle.olk_tree.specs.Questions.{Question}
 
--- whether it accepts a value, the faults that it finds, the tree that it shows, and whether all that it holds has its form
+-- whether it accepts a value, the faults that it finds, the tree that it shows, whether all that it holds has its form, and which validators stand there and inside
 pub record Answers : Type 0 where
   pub means : Data → Question
   pub report : Bool → Data → Path → List Fault
@@ -19,6 +20,7 @@ pub record Answers : Type 0 where
   pub tree : Bool → Data → Path → Tree
   pub location : Path
   pub formed : Bool
+  pub forms : List Placed
 
 -- what nodes mean, find and show
 abbrev pub Meanings : Type 0 → Type 0
@@ -44,6 +46,7 @@ pub record AnswersOver (N : Type 0) : Type 0 where
   pub tree : Meanings N → Showings N → Bool → Data → Path → Tree
   pub location : Path
   pub formed : (N → Bool) → Bool
+  pub forms : (N → List Placed) → List Placed
 
 -- it holds no nodes
 abbrev pub alone : {N : Type 0} → Answers → AnswersOver N
@@ -56,6 +59,7 @@ alone a = record {
   tree = λ m t. a.tree;
   location = a.location;
   formed = λ f. a.formed;
+  forms = λ f. a.forms;
 }
 
 -- over nodes that have these answers
@@ -69,4 +73,5 @@ answered a w = record {
   tree = w.tree (λ n. (a n).means) (λ n. (a n).tree);
   location = w.location;
   formed = w.formed (λ n. (a n).formed);
+  forms = w.forms (λ n. (a n).forms);
 }

@@ -1,7 +1,8 @@
 -- `anyOf`: what its validators answer.
 use Rattle.std.specs.Prelude.{not, ◌&&◌, [], ◌∷◌, map}
-use Rattle.std.specs.List.{list_all}
+use Rattle.std.specs.List.{list_all, flat_map}
 use Rattle.olk_spec.specs.Faults.{AnyOf as any_of, context}
+use Rattle.olk_meaning.specs.Chosen.{any_of_form, single_any_of_form}
 use Rattle.olk_tree.specs.Answers.{AnswersOver}
 use Rattle.olk_tree.specs.Formed.{is_one}
 use Rattle.olk_tree.specs.OwnFaults.{own_fault_answers}
@@ -17,6 +18,7 @@ module _ {N : Type 0} where
     kind = λ r u v Q. any_of (context (map (λ n. r n u v Q) k.schemas.items));
     tree = λ m t u v Q. any_of_tree (λ n. t n u) v Q (λ n. (m n v).accepts u) k.location k.schemas.items;
     formed = λ f. not (is_one k.schemas.items) && list_all f k.schemas.items;
+    forms = λ f. (k.location, any_of_form) ∷ flat_map f k.schemas.items;
   })
 
   abbrev pub single_any_of_answers : SingleAnyOf N → AnswersOver N
@@ -25,4 +27,5 @@ module _ {N : Type 0} where
     kind = λ r u v Q. any_of (context (r k.node u v Q ∷ []));
     tree = λ m t u v Q. any_of_tree (λ n. t n u) v Q (λ n. (m n v).accepts u) k.location (k.node ∷ []);
     formed = λ f. f k.node;
+    forms = λ f. (k.location, single_any_of_form) ∷ f k.node;
   })

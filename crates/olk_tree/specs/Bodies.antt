@@ -6,6 +6,7 @@ use Rattle.serde_json.specs.Data.{Data}
 use Rattle.olk_spec.specs.Names.{Path, is_empty}
 use Rattle.olk_spec.specs.Faults.{Fault, fault, FalseSchema}
 use Rattle.olk_spec.specs.Tree.{Tree, plain, erring}
+use Rattle.olk_meaning.specs.Chosen.{Placed, true_form, false_form, object_form, names_form}
 use Rattle.olk_tree.specs.Answers.{Answers}
 use Rattle.olk_tree.specs.Emptiness.{each_agrees, first_of_agrees}
 use Rattle.olk_tree.specs.Firsts.{first_of}
@@ -49,6 +50,13 @@ body_formed f False = true
 body_formed f (Keywords ks) = list_all f ks.items
 body_formed f (RequiredNames k) = true
 
+-- what stands there: itself, and what its keywords have
+abbrev pub body_forms : {W : Type 0} → (W → List Placed) → Path → Body W → List Placed
+body_forms f P True = (P, true_form) ∷ []
+body_forms f P False = (P, false_form) ∷ []
+body_forms f P (Keywords ks) = (P, object_form) ∷ flat_map f ks.items
+body_forms f P (RequiredNames k) = (P, names_form) ∷ []
+
 module _ {W : Type 0} (q : W → Data → Question) (f : W → Data → Path → List Fault) (u : Bool) (h : (k : W) (v : Data) (Q : Path) → is_empty (f k v Q) ≡ (q k v).accepts u) (P : Path) where
   pub body_agrees : (b : Body W) (v : Data) (Q : Path) → is_empty (body_report f P b v Q) ≡ (body_means q b v).accepts u
   body_agrees True v Q = refl
@@ -73,4 +81,5 @@ body_answers f P b = record {
   tree = λ u. body_tree (λ k. (f k).tree u) P b;
   location = P;
   formed = body_formed (λ k. (f k).formed) b;
+  forms = body_forms (λ k. (f k).forms) P b;
 }

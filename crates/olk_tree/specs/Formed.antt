@@ -6,6 +6,7 @@ use Rattle.std.specs.Cmp.Lexicographic.{pointwise}
 use Rattle.olk_spec.specs.Names.{Name, is_empty}
 use Rattle.olk_spec.specs.World.{Says, matched, unmatched, unfinished}
 use Rattle.olk_spec.specs.declared.TheConstants.{HASHMAP_THRESHOLD}
+use Rattle.olk_meaning.specs.Chosen.{Size, few, many}
 use Rattle.olk_base.specs.Compiled.{pattern_answers}
 use Rattle.olk_base.specs.declared.pattern.CompiledPattern.{CompiledPattern}
 use Rattle.std.specs.declared.alloc.Global.{Global}
@@ -27,6 +28,11 @@ is_paired ks xs = length ks == length xs.items
 abbrev pub is_map_formed : {N : Type 0} → PropertiesMap N → Bool
 is_map_formed (Small m) = nat_lt (length m.names) HASHMAP_THRESHOLD && is_paired m.names m.nodes
 is_map_formed (Big m) = not (nat_lt (length m.names) HASHMAP_THRESHOLD) && is_paired m.names m.nodes
+
+-- a small map is for few names, and a big one for many
+abbrev pub size_of : {N : Type 0} → PropertiesMap N → Size
+size_of (Small m) = few
+size_of (Big m) = many
 
 -- the names that are declared, if any are
 abbrev pub names_beside : {N : Type 0} → Option (PropertiesMap N) → List Name

@@ -1,8 +1,9 @@
 -- `if`, `then` and `else`: what their validators answer.
-use Rattle.std.specs.Prelude.{◌≡◌, Bool, true, false, cond, ◌&&◌, List, [], ◌∷◌}
+use Rattle.std.specs.Prelude.{◌≡◌, Bool, true, false, cond, ◌&&◌, List, [], ◌∷◌, ◌++◌}
 use Rattle.std.proofs.Common.{refl}
 use Rattle.olk_spec.specs.Names.{is_empty}
 use Rattle.olk_spec.specs.Faults.{Fault}
+use Rattle.olk_meaning.specs.Chosen.{if_then_form, if_else_form, if_then_else_form}
 use Rattle.olk_tree.specs.Answers.{AnswersOver}
 use Rattle.olk_tree.specs.Questions.{always, conditional}
 use Rattle.olk_tree.specs.Shown.{if_tree}
@@ -25,6 +26,7 @@ module _ {N : Type 0} where
     tree = λ m t u v Q. if_tree (λ n. t n u) v Q ((m k.schema v).accepts u) k.location k.schema (k.then_schema ∷ []) [];
     location = k.location;
     formed = λ f. f k.schema && f k.then_schema;
+    forms = λ f. (k.location, if_then_form) ∷ f k.schema ++ f k.then_schema;
   }
 
   abbrev pub if_else_answers : IfElse N → AnswersOver N
@@ -37,6 +39,7 @@ module _ {N : Type 0} where
     tree = λ m t u v Q. if_tree (λ n. t n u) v Q ((m k.schema v).accepts u) k.location k.schema [] (k.else_schema ∷ []);
     location = k.location;
     formed = λ f. f k.schema && f k.else_schema;
+    forms = λ f. (k.location, if_else_form) ∷ f k.schema ++ f k.else_schema;
   }
 
   abbrev pub if_then_else_answers : IfThenElse N → AnswersOver N
@@ -49,4 +52,5 @@ module _ {N : Type 0} where
     tree = λ m t u v Q. if_tree (λ n. t n u) v Q ((m k.schema v).accepts u) k.location k.schema (k.then_schema ∷ []) (k.else_schema ∷ []);
     location = k.location;
     formed = λ f. f k.schema && f k.then_schema && f k.else_schema;
+    forms = λ f. (k.location, if_then_else_form) ∷ f k.schema ++ f k.then_schema ++ f k.else_schema;
   }

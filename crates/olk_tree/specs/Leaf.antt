@@ -1,10 +1,11 @@
 -- A leaf: what it answers.
-use Rattle.std.specs.Prelude.{true, map}
+use Rattle.std.specs.Prelude.{true, map, [], ◌∷◌}
 use Rattle.olk_spec.specs.Names.{Path, is_empty}
 use Rattle.olk_spec.specs.Faults.{fault, Leaf}
 use Rattle.olk_spec.specs.Tree.{leaf_node, described}
 use Rattle.olk_spec.proofs.Verdicts.{is_empty-map}
 use Rattle.olk_base.specs.Kit.{Kit}
+use Rattle.olk_meaning.specs.Chosen.{leaf_form}
 use Rattle.olk_tree.specs.Answers.{Answers}
 use Rattle.olk_tree.specs.Questions.{always}
 
@@ -18,4 +19,5 @@ leaf_answers o P l = record {
   tree = λ u v Q. leaf_node P Q (described (map (λ t. fault (Leaf (o.keyword_of l) t) v Q P) (o.finds l v)));
   location = P;
   formed = true;
+  forms = (P, leaf_form) ∷ [];
 }

@@ -33,3 +33,4 @@ pub mod Sorted
 pub mod Tables
 pub mod Validators
 pub mod Visited
+pub mod First_rows

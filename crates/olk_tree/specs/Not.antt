@@ -1,11 +1,12 @@
 -- `not`: what its validator answers.
-use Rattle.std.specs.Prelude.{◌≡◌, Bool, List}
+use Rattle.std.specs.Prelude.{◌≡◌, Bool, List, ◌∷◌}
 use Rattle.serde_json.specs.Data.{Data}
 use Rattle.serde_json.specs.View.{view}
 use Rattle.olk_spec.specs.Names.{Path, is_empty}
 use Rattle.olk_spec.specs.Faults.{Fault, Not as not_allowed}
 use Rattle.olk_spec.specs.Reports.{fault_if}
 use Rattle.olk_spec.specs.Tree.{erring}
+use Rattle.olk_meaning.specs.Chosen.{not_form}
 use Rattle.olk_tree.specs.Answers.{AnswersOver, Meanings}
 use Rattle.olk_tree.specs.OwnFaults.{fault_if_agrees}
 use Rattle.olk_tree.specs.Questions.{opposite}
@@ -29,4 +30,5 @@ module _ {N : Type 0} (k : Not N) where
     tree = λ m t u v Q. erring k.location Q (not_report m u v Q);
     location = k.location;
     formed = λ f. f k.node;
+    forms = λ f. (k.location, not_form) ∷ f k.node;
   }

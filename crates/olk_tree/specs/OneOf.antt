@@ -1,12 +1,13 @@
 -- `oneOf`: what its validators answer.
 use Rattle.std.specs.Prelude.{◌≡◌, ℕ, zero, suc, ◌==◌, nat_lt, Bool, true, false, not, ◌&&◌, List, [], ◌∷◌, ◌++◌, map}
-use Rattle.std.specs.List.{list_all}
+use Rattle.std.specs.List.{list_all, flat_map}
 use Rattle.std.proofs.Common.{refl, sym, true≢false, arith}
 use Rattle.std.proofs.lemmas.Bool.Decides.{nat_tests}
 use Rattle.serde_json.specs.Data.{Data}
 use Rattle.olk_spec.specs.Names.{Path, is_empty}
 use Rattle.olk_spec.specs.Faults.{Fault, OneOfNotValid, OneOfMultipleValid, Context, context}
 use Rattle.olk_spec.specs.Reports.{fault_if}
+use Rattle.olk_meaning.specs.Chosen.{one_of_form, single_one_of_form}
 use Rattle.olk_tree.specs.Answers.{AnswersOver}
 use Rattle.olk_tree.specs.Formed.{is_one}
 use Rattle.olk_tree.specs.OwnFaults.{own_fault_answers}
@@ -41,6 +42,7 @@ module _ {N : Type 0} where
     tree = λ m t u v Q. one_of_tree (λ n. t n u) v Q (λ n. (m n v).accepts u) k.location k.schemas.items;
     location = k.location;
     formed = λ f. not (is_one k.schemas.items) && list_all f k.schemas.items;
+    forms = λ f. (k.location, one_of_form) ∷ flat_map f k.schemas.items;
   }
 
   abbrev pub single_one_of_answers : SingleOneOf N → AnswersOver N
@@ -49,4 +51,5 @@ module _ {N : Type 0} where
     kind = λ r u v Q. OneOfNotValid (context (r k.node u v Q ∷ []));
     tree = λ m t u v Q. one_of_tree (λ n. t n u) v Q (λ n. (m n v).accepts u) k.location (k.node ∷ []);
     formed = λ f. f k.node;
+    forms = λ f. (k.location, single_one_of_form) ∷ f k.node;
   })

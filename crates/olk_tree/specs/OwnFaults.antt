@@ -7,6 +7,7 @@ use Rattle.olk_spec.specs.Names.{Path, is_empty}
 use Rattle.olk_spec.specs.Faults.{Fault, Kind}
 use Rattle.olk_spec.specs.Reports.{fault_if}
 use Rattle.olk_spec.specs.Tree.{Tree}
+use Rattle.olk_meaning.specs.Chosen.{Placed}
 use Rattle.olk_spec.proofs.Verdicts.{none_if}
 use Rattle.olk_tree.specs.Answers.{AnswersOver, Meanings, Findings, Showings}
 use Rattle.olk_tree.specs.Questions.{Question}
@@ -22,12 +23,13 @@ module _ (b : Bool) (k : Kind) (v : Data) (P Q : Path) where
   pub unless_agrees : is_empty (unless b k v P Q) ≡ b
   unless_agrees = sym (none_if (not b) k v P Q) ∙ not-not b
 
--- what it means, the kind of its fault, what it shows, and whether it has its form
+-- what it means, the kind of its fault, what it shows, whether it has its form, and which validators stand there
 pub record OwnFault (N : Type 0) : Type 0 where
   pub means : Meanings N → Data → Question
   pub kind : Findings N → Bool → Data → Path → Kind
   pub tree : Meanings N → Showings N → Bool → Data → Path → Tree
   pub formed : (N → Bool) → Bool
+  pub forms : (N → List Placed) → List Placed
 
 abbrev pub own_fault_answers : {N : Type 0} → Path → OwnFault N → AnswersOver N
 own_fault_answers P w = record {
@@ -39,4 +41,5 @@ own_fault_answers P w = record {
   tree = w.tree;
   location = P;
   formed = w.formed;
+  forms = w.forms;
 }

@@ -9,6 +9,7 @@ use Rattle.olk_spec.specs.Faults.{Fault}
 use Rattle.olk_spec.specs.Schemas.{members}
 use Rattle.olk_spec.proofs.Walks.{and_middle}
 use Rattle.olk_base.specs.declared.pattern.CompiledPattern.{CompiledPattern}
+use Rattle.olk_meaning.specs.Chosen.{patterns_form, single_pattern_form}
 use Rattle.olk_tree.specs.Answers.{AnswersOver, Meanings, Findings, Agree}
 use Rattle.olk_tree.specs.Emptiness.{each_agrees, both_agree, or_else_agrees, first_of_agrees}
 use Rattle.olk_tree.specs.Firsts.{first_of}
@@ -112,6 +113,7 @@ module _ {R N : Type 0} (answers : R → Name → Says) (costs : R → Bool) whe
     tree = λ m t u v Q. patterns_tree (λ n. t n u) v Q answers u k.location k.patterns.items;
     location = k.location;
     formed = λ f. not (is_one k.patterns.items) && list_all (λ e. f e.1) k.patterns.items;
+    forms = λ f. (k.location, patterns_form) ∷ flat_map (λ e. f e.1) k.patterns.items;
   }
 
   abbrev pub single_pattern_properties_answers : SingleValuePatternProperties R N → AnswersOver N
@@ -124,4 +126,5 @@ module _ {R N : Type 0} (answers : R → Name → Says) (costs : R → Bool) whe
     tree = λ m t u v Q. patterns_tree (λ n. t n u) v Q answers u k.location ((k.regex, k.node) ∷ []);
     location = k.location;
     formed = λ f. f k.node;
+    forms = λ f. (k.location, single_pattern_form) ∷ f k.node;
   }

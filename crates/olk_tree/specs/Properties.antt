@@ -1,5 +1,5 @@
 -- `properties`, alone and with two names that are required: what its validators answer.
-use Rattle.std.specs.Prelude.{◌≡◌, Bool, not, ◌&&◌, List, [], ◌++◌, bytes_eq, string_bytes}
+use Rattle.std.specs.Prelude.{◌≡◌, Bool, not, ◌&&◌, List, [], ◌∷◌, ◌++◌, bytes_eq, string_bytes}
 use Rattle.std.specs.List.{flat_map, list_all}
 use Rattle.serde_json.specs.Data.{Data}
 use Rattle.olk_spec.specs.Names.{Name, Path, ◌//◌, is_empty}
@@ -8,10 +8,11 @@ use Rattle.olk_spec.specs.Schemas.{at}
 use Rattle.olk_spec.specs.Accepts.{missing}
 use Rattle.olk_spec.specs.Reports.{required_faults}
 use Rattle.olk_spec.proofs.Tree_verdicts.{none_missing}
+use Rattle.olk_meaning.specs.Chosen.{form_of_size, fused_properties_form}
 use Rattle.olk_tree.specs.Answers.{AnswersOver, Meanings, Findings, Agree}
 use Rattle.olk_tree.specs.Emptiness.{each_agrees, both_agree, or_else_agrees, head_agrees, first_of_agrees}
 use Rattle.olk_tree.specs.Firsts.{or_else, first_of, head_of}
-use Rattle.olk_tree.specs.Formed.{is_map_formed}
+use Rattle.olk_tree.specs.Formed.{is_map_formed, size_of}
 use Rattle.olk_tree.specs.Maps.{named, nodes_in, mapped, two_texts}
 use Rattle.olk_tree.specs.Questions.{Question, always, both, every}
 use Rattle.olk_tree.specs.Shown.{properties_tree, missing_trees}
@@ -51,6 +52,7 @@ module _ {N : Type 0} where
     tree = λ m t u v Q. properties_tree (λ n. t n u) v Q P (mapped declared) [];
     location = P;
     formed = λ f. is_map_formed declared && list_all f (nodes_in (mapped declared));
+    forms = λ f. (P, form_of_size (size_of declared)) ∷ flat_map f (nodes_in (mapped declared));
   }
 
   abbrev pub small_properties_answers : SmallProperties N → AnswersOver N
@@ -73,4 +75,5 @@ module _ {N : Type 0} where
     tree = λ m t u v Q. properties_tree (λ n. t n u) v Q k.location (named k.properties) (missing_trees (two_texts k.first k.second) v k.required_location Q);
     location = k.location;
     formed = λ f. is_map_formed (Small k.properties) && not (bytes_eq (string_bytes k.first) (string_bytes k.second)) && list_all f (nodes_in (named k.properties));
+    forms = λ f. (k.location, fused_properties_form) ∷ flat_map f (nodes_in (named k.properties));
   }

@@ -1,5 +1,5 @@
 -- `propertyNames`: what its validators answer.
-use Rattle.std.specs.Prelude.{◌≡◌, Bool, true, List, map}
+use Rattle.std.specs.Prelude.{◌≡◌, Bool, true, List, [], ◌∷◌, map}
 use Rattle.std.specs.List.{flat_map}
 use Rattle.std.proofs.Common.{◌∙◌}
 use Rattle.serde_json.specs.Data.{Data, string}
@@ -9,6 +9,7 @@ use Rattle.olk_spec.specs.Schemas.{members}
 use Rattle.olk_spec.specs.Reports.{wrapped}
 use Rattle.olk_spec.specs.Tree.{plain, erring}
 use Rattle.olk_spec.proofs.Verdicts.{is_empty-map}
+use Rattle.olk_meaning.specs.Chosen.{property_names_form, no_names_form}
 use Rattle.olk_tree.specs.Answers.{Answers, AnswersOver, Meanings, Findings, Agree}
 use Rattle.olk_tree.specs.Emptiness.{each_agrees, first_of_agrees}
 use Rattle.olk_tree.specs.Firsts.{first_of}
@@ -47,6 +48,7 @@ property_names_answers k = record {
   tree = λ m t u v Q. plain k.location Q (name_trees (λ n. t n u) v Q k.node);
   location = k.location;
   formed = λ f. f k.node;
+  forms = λ f. (k.location, property_names_form) ∷ f k.node;
 }
 
 abbrev pub property_names_false_answers : PropertyNamesFalse → Answers
@@ -59,4 +61,5 @@ property_names_false_answers k = record {
   tree = λ u v Q. erring k.location Q (unless (is_empty (members v)) FalseSchema v k.location Q);
   location = k.location;
   formed = true;
+  forms = (k.location, no_names_form) ∷ [];
 }

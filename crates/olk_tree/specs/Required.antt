@@ -1,10 +1,11 @@
 -- `required`: what its validator answers.
-use Rattle.std.specs.Prelude.{true}
+use Rattle.std.specs.Prelude.{true, [], ◌∷◌}
 use Rattle.olk_spec.specs.Names.{is_empty}
 use Rattle.olk_spec.specs.Accepts.{missing}
 use Rattle.olk_spec.specs.Reports.{required_faults}
 use Rattle.olk_spec.specs.Tree.{erring}
 use Rattle.olk_spec.proofs.Tree_verdicts.{none_missing}
+use Rattle.olk_meaning.specs.Chosen.{required_form}
 use Rattle.olk_tree.specs.Answers.{Answers}
 use Rattle.olk_tree.specs.Emptiness.{head_agrees}
 use Rattle.olk_tree.specs.Firsts.{head_of}
@@ -22,4 +23,5 @@ required_answers k = record {
   tree = λ u v Q. erring k.location Q (required_faults (texts_of k.required.items) v k.location Q);
   location = k.location;
   formed = true;
+  forms = (k.location, required_form) ∷ [];
 }

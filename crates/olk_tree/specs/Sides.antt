@@ -1,4 +1,4 @@
--- What the nodes and the patterns zip `additionalProperties` stand for.
+-- What the nodes and the patterns beside `additionalProperties` stand for.
 use Rattle.std.specs.Prelude.{◌≡◌, ◌≤◌, ⊤, ℕ, Bool, true, false, List, [], ◌∷◌, map, codes, Option, Some, None, is_some, slice_get}
 use Rattle.serde_json.specs.Data.{Data, Members}
 use Rattle.olk_spec.specs.Names.{Name, Text, Path, ◌//◌}
@@ -12,7 +12,7 @@ use Rattle.olk_base.specs.Kit.{Kit}
 use Rattle.olk_base.specs.Compiled.{pattern_answers, pattern_costs}
 use Rattle.olk_base.specs.declared.pattern.CompiledPattern.{CompiledPattern}
 use Rattle.olk_meaning.specs.AdditionalProperties.{declared_beside, patterns_beside, required_beside, declares_beside, matches_beside}
-use Rattle.olk_tree.specs.Questions.{Question}
+use Rattle.olk_tree.specs.Questions.{Question, of_asked}
 use Rattle.olk_tree.specs.Additional.{Held, Sides, placed, sides_of, required_text, required_place}
 use Rattle.std.specs.List.{zip}
 
@@ -21,7 +21,7 @@ module _ {K R N : Type 0} (o : Kit K R) (m : N → Data → Question) (r : N →
   -- a node answers as the schema S at the place P
   pub record AnswersAs (n : N) (S : Data) (P : Path) : Type 0 where
     pub verdict : (u : Bool) (v : Data) → (m n v).accepts u ≡ accepts o.world u S v
-    pub asks_within : (u : Bool) (v : Data) → (m n v).asks u ≤ asks o.world u S v
+    pub asks_within : (u : Bool) (v : Data) → (m n v).asks of_asked u ≤ asks o.world u S v
     pub faults : (u : Bool) (v : Data) (Q : Path) → r n u v Q ∼ report o.world u S v P Q
     pub shows : (u : Bool) (v : Data) (Q : Path) → t n u v Q ≡ tree o.world u S v P Q
 

@@ -4,6 +4,7 @@ use Rattle.serde_json.specs.Data.{Data}
 use Rattle.olk_spec.specs.Names.{Path}
 use Rattle.olk_spec.specs.Faults.{Fault}
 use Rattle.olk_spec.specs.Tree.{Tree}
+use Rattle.olk_meaning.specs.Chosen.{Placed}
 use Rattle.olk_base.specs.Kit.{Kit}
 use Rattle.olk_tree.specs.AdditionalProperties.{additional_properties_answers}
 use Rattle.olk_tree.specs.AllOf.{all_of_answers, single_all_of_answers}
@@ -65,3 +66,6 @@ module _ {K R N : Type 0} (o : Kit K R) where
 
   abbrev pub validator_formed : (N → Bool) → KeywordOver K R N → Bool
   validator_formed f k = (answers_of k).formed f
+
+  abbrev pub validator_forms : (N → List Placed) → KeywordOver K R N → List Placed
+  validator_forms f k = (answers_of k).forms f

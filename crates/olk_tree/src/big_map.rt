@@ -3,6 +3,7 @@ ghost use Rattle.std.specs.Prelude.{◌≡◌};
 ghost use Rattle.olk_tree.specs.Maps.{named_of_many};
 
 use crate::entries::Entries;
+use crate::map_ref::MapRef;
 use crate::names::SortedNames;
 use crate::validators_map::PropertiesValidatorsMap;
 
@@ -15,6 +16,14 @@ pub struct BigMap<N> {
 }
 
 impl<N> BigMap<N> {
+    /// The map, lent.
+    #[inline(always)]
+    pub fn as_map(&self) -> MapRef<'_, N>
+        ensures { result ≡ named_of_many self.now }
+    {
+        MapRef::of(&self.names, &self.nodes)
+    }
+
     /// The names, each with what stands at it.
     #[inline(always)]
     pub fn entries(&self) -> Entries<'_, N>

@@ -7,6 +7,7 @@ ghost use Rattle.olk_tree.specs.Visited.{left_of, members_declared, names_met};
 
 use crate::declared::DeclaredMembers;
 use crate::entries::Entries;
+use crate::map_ref::MapRef;
 use crate::names::SortedNames;
 use crate::validators_map::PropertiesValidatorsMap;
 use serde_json::{Map, Value};
@@ -20,6 +21,14 @@ pub struct SmallMap<N> {
 }
 
 impl<N> SmallMap<N> {
+    /// The map, lent.
+    #[inline(always)]
+    pub fn as_map(&self) -> MapRef<'_, N>
+        ensures { result ≡ named self.now }
+    {
+        MapRef::of(&self.names, &self.nodes)
+    }
+
     /// The names, each with what stands at it.
     #[inline(always)]
     pub fn entries(&self) -> Entries<'_, N>

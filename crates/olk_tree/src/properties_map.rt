@@ -5,6 +5,7 @@ ghost use Rattle.olk_tree.specs.Maps.{mapped};
 use crate::big_map::BigMap;
 use crate::entries::Entries;
 use crate::map::SmallMap;
+use crate::map_ref::MapRef;
 use crate::validators_map::PropertiesValidatorsMap;
 
 /// A map of few names, or of many.
@@ -17,6 +18,17 @@ pub enum PropertiesMap<N> {
 }
 
 impl<N> PropertiesMap<N> {
+    /// The map, lent.
+    #[inline(always)]
+    pub fn as_map(&self) -> MapRef<'_, N>
+        ensures { result ≡ mapped self.now }
+    {
+        match self {
+            PropertiesMap::Small(map) => map.as_map(),
+            PropertiesMap::Big(map) => map.as_map(),
+        }
+    }
+
     /// The names, each with what stands at it.
     #[inline(always)]
     pub fn entries(&self) -> Entries<'_, N>

@@ -1,1 +1,2 @@
 pub mod Validators
+pub mod OneVerdict

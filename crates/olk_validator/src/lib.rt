@@ -40,7 +40,7 @@ pub use olk_reports::{
     EvaluationNode, EvaluationResult, ValidateError, ValidationError, ValidationErrorKind,
 };
 pub use olk_spec::HASHMAP_THRESHOLD;
-pub use validate::Validate;
+pub use validate::{Validate, Verdicts, verdicts_of};
 pub use validator::Validator;
 pub use validators::{
     AdditionalPropertiesFalseValidator, AdditionalPropertiesNotEmptyFalseValidator,
@@ -75,6 +75,6 @@ pub use olk_tree::property_names::{
     PropertyNames, PropertyNamesFalse as PropertyNamesBooleanValidator,
 };
 pub use olk_tree::{
-    BigMap, Body, BuiltNode, Entries, KeywordOver, Means, PropertiesValidatorsMap, Reports,
+    BigMap, Body, BuiltNode, Entries, KeywordOver, MapRef, Means, PropertiesValidatorsMap, Reports,
     RequiredValidator, SmallMap, SortedName, SortedNames, pattern_table, properties_map,
 };

@@ -1,5 +1,5 @@
 //! A schema that is ready to be asked.
-ghost use Rattle.std.specs.Prelude.{◌≡◌, ◌≤◌, ◌<◌, ◌-◌, ◌^◌, [], true, false, nat_eq, length, IfOk, IfErr, OnOk, OnErr};
+ghost use Rattle.std.specs.Prelude.{◌≡◌, ◌≤◌, ◌<◌, ◌-◌, ◌^◌, min, [], true, false, nat_eq, length, IfOk, IfErr, OnOk, OnErr};
 ghost use Rattle.serde_json.specs.Data.{Data};
 ghost use Rattle.serde_json.specs.View.{view};
 ghost use Rattle.olk_spec.specs.Meaning.{accepts, report, asks, IsTree};
@@ -9,10 +9,11 @@ ghost use Rattle.olk_spec.specs.Malformed.{malformations};
 ghost use Rattle.olk_spec.specs.Costs.{cost};
 ghost use Rattle.olk_base.specs.Count.{raised};
 ghost use Rattle.olk_base.specs.Kit.{kit, world};
-ghost use Rattle.olk_check.specs.Asks.{OnlyAsks};
+ghost use Rattle.olk_check.specs.Asks.{OnlyAsks, IsCertain};
 ghost use Rattle.olk_read.specs.Refusing.{TellsOneOf, Spends, SpendsWithin};
-ghost use Rattle.olk_errors.specs.Found.{Appends, IfInvalid, IsLikeOneOf, IsRefusal};
-ghost use Rattle.olk_validator.specs.Validators.{IsValidatorOf, first_faults};
+ghost use Rattle.olk_errors.specs.Found.{Appends, IfInvalid, IfTold, IsLikeOneOf, IsRefusal};
+ghost use Rattle.olk_validator.specs.Validators.{IsValidatorOf, first_faults, left_unfinished, validators_in};
+ghost use Rattle.olk_meaning.specs.Chosen.{validators};
 
 use olk_base::{Leaf, MakeLeaf, MakeRegex, Meter, Node, RegexEngine, ValidationContext};
 use olk_build::{Context, compile};
@@ -42,8 +43,9 @@ pub struct Validator<K, R> {
 impl<K: Leaf, R: RegexEngine> Validator<K, R> {
     /// Builds the validator of a schema, with the leaves and the matchers that the makers give.
     ///
-    /// The meter rises by what the schema costs, each subschema being compiled once, or by a part
-    /// of it where nothing is built.
+    /// Each keyword has the validator that its value and its neighbours choose, at each place that
+    /// is read. The meter rises by what the schema costs, each subschema being compiled once, or by
+    /// a part of it where nothing is built.
     ///
     /// # Errors
     ///
@@ -59,6 +61,8 @@ impl<K: Leaf, R: RegexEngine> Validator<K, R> {
     ) -> Result<Validator<K, R>, BuildError<'s>>
         ensures stands { IfOk result
             (λ v. IsValidatorOf (kit K.Leaf R.RegexEngine) v (view schema.now)) }
+        ensures validators { IfOk result (λ v. validators_in (kit K.Leaf R.RegexEngine) v
+            ≡ validators (world K.Leaf R.RegexEngine) (view schema.now) []) }
         ensures clean { OnOk result
             (malformations (world K.Leaf R.RegexEngine) (view schema.now) ≡ []) }
         ensures refused { IfErr result (TellsOneOf
@@ -78,9 +82,10 @@ impl<K: Leaf, R: RegexEngine> Validator<K, R> {
     /// context's answer for matches that are left unfinished.
     ///
     /// Takes no memory. The context keeps its answer. Of the counts, those of matchers that were
-    /// asked and of matches that were left unfinished rise, each by at most what the schema asks;
-    /// where the second does not, and is below `u64::MAX`, the schema accepts with either answer or
-    /// with neither.
+    /// asked and of matches that were left unfinished rise: the first by at most what the schema
+    /// asks, the second by at most those of these that the matcher leaves unfinished. Where the
+    /// second does not rise, and is below `u64::MAX`, the schema accepts with either answer or with
+    /// neither.
     pub fn is_valid(&self, instance: &Value, ctx: &mut ValidationContext) -> bool
         ensures context { OnlyAsks ctx.old ctx.new }
         ensures verdict { (S : Data) → IsValidatorOf (kit K.Leaf R.RegexEngine) self.now S
@@ -91,7 +96,9 @@ impl<K: Leaf, R: RegexEngine> Validator<K, R> {
             (asks (world K.Leaf R.RegexEngine) ctx.old.answer S (view instance.now)) }
         ensures unfinished_to { (S : Data) → IsValidatorOf (kit K.Leaf R.RegexEngine) self.now S
             → ctx.new.meter.unfinished ≤ raised ctx.old.meter.unfinished
-            (asks (world K.Leaf R.RegexEngine) ctx.old.answer S (view instance.now)) }
+            (min (asks (world K.Leaf R.RegexEngine) ctx.old.answer S (view instance.now))
+            (left_unfinished (kit K.Leaf R.RegexEngine) self.now ctx.old.answer
+            (view instance.now))) }
         ensures certain { (S : Data) → IsValidatorOf (kit K.Leaf R.RegexEngine) self.now S
             → ctx.new.meter.unfinished ≡ ctx.old.meter.unfinished
             → ctx.old.meter.unfinished < 2 ^ 64 - 1
@@ -105,7 +112,8 @@ impl<K: Leaf, R: RegexEngine> Validator<K, R> {
     /// 2020-12 Core, 4.3.2 and 10), with the context's answer for matches that are left unfinished.
     ///
     /// An accepted instance takes no memory. The context keeps its answer; of the counts only those
-    /// of matchers that were asked and of matches that were left unfinished rise.
+    /// of matchers that were asked and of matches that were left unfinished rise. Where the second
+    /// does not, and is below `u64::MAX`, either answer gives this verdict.
     ///
     /// # Errors
     ///
@@ -127,6 +135,9 @@ impl<K: Leaf, R: RegexEngine> Validator<K, R> {
             (IsRefusal (world K.Leaf R.RegexEngine) ctx.old.answer S (view instance.now) [] [])) }
         ensures first { IfErr result (λ e. IfInvalid e (IsLikeOneOf (first_faults
             (kit K.Leaf R.RegexEngine) self.now ctx.old.answer (view instance.now)))) }
+        ensures certain { (S : Data) → IsValidatorOf (kit K.Leaf R.RegexEngine) self.now S
+            → IfTold result (IsCertain ctx.old ctx.new
+            (λ u. accepts (world K.Leaf R.RegexEngine) u S (view instance.now))) }
     {
         let node = Node::Value(instance);
         let mut path = InstancePath::new(alloc);
@@ -139,6 +150,7 @@ impl<K: Leaf, R: RegexEngine> Validator<K, R> {
     ///
     /// The path of a member is written for an error alone. The context keeps its answer; of the
     /// counts only those of matchers that were asked and of matches that were left unfinished rise.
+    /// Where the second does not, and is below `u64::MAX`, either answer gives this verdict.
     ///
     /// # Errors
     ///
@@ -158,6 +170,9 @@ impl<K: Leaf, R: RegexEngine> Validator<K, R> {
             → OnOk result (nat_eq (length errors.new.items) (length errors.old.items)
             ≡ accepts (world K.Leaf R.RegexEngine) ctx.old.answer S (view instance.now)) }
         ensures memory { OnErr result (errors.new.items ≡ errors.old.items) }
+        ensures certain { (S : Data) → IsValidatorOf (kit K.Leaf R.RegexEngine) self.now S
+            → OnOk result (IsCertain ctx.old ctx.new
+            (λ u. accepts (world K.Leaf R.RegexEngine) u S (view instance.now))) }
     {
         let instance = Node::Value(instance);
         let mut path = InstancePath::new(alloc);
@@ -170,7 +185,8 @@ impl<K: Leaf, R: RegexEngine> Validator<K, R> {
     /// unfinished.
     ///
     /// The context keeps its answer; of the counts only those of matchers that were asked and of
-    /// matches that were left unfinished rise.
+    /// matches that were left unfinished rise. Where the second does not, and is below `u64::MAX`,
+    /// either answer gives this verdict.
     ///
     /// # Errors
     ///
@@ -190,6 +206,10 @@ impl<K: Leaf, R: RegexEngine> Validator<K, R> {
             (λ e. (S : Data) → IsValidatorOf (kit K.Leaf R.RegexEngine) self.now S
             → valid_tree (evaluated e)
             ≡ accepts (world K.Leaf R.RegexEngine) ctx.old.answer S (view instance.now)) }
+        ensures certain { IfOk result
+            (λ e. (S : Data) → IsValidatorOf (kit K.Leaf R.RegexEngine) self.now S
+            → IsCertain ctx.old ctx.new
+            (λ u. accepts (world K.Leaf R.RegexEngine) u S (view instance.now))) }
     {
         let node = Node::Value(instance);
         let mut path = InstancePath::new(alloc);

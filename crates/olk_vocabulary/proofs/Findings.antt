@@ -19,6 +19,8 @@ use Rattle.olk_vocabulary.proofs.Lists.{kind_texts, some_kind}
 pub finds_text : (l : VocabularyLeaf) (v : Data) → is_empty (leaf_finds l v) ≡ false → leaf_finds l v ≡ leaf_text l v ∷ []
 finds_text (leaf.Types ks) v h = unless_text _ _ h ∙ ap (λ ts. kinds_text v ts ∷ []) (kind_texts ks.items)
 finds_text (leaf.Enum c) v h = unless_text _ _ h ∙ ap (λ ds. (shown v ++ codes " is not one of " ++ candidates ds) ∷ []) (items_list-view c.values.items)
+finds_text (leaf.UniqueItems true) v h = unless_text _ _ h
+finds_text (leaf.UniqueItems false) v h = absurd (true≢false h)
 finds_text _ v h = unless_text _ _ h
 
 pub none_more : (texts found : List Text) → is_empty found ≡ true → texts ≡ texts ++ found

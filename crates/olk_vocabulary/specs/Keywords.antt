@@ -3,7 +3,7 @@ use Rattle.std.specs.Prelude.{ℕ, Bool, true, false, ◌&&◌, ◌==◌, cond, 
 use Rattle.std.specs.List.{list_any, list_all}
 use Rattle.std.specs.Option.{option_map_or}
 use Rattle.serde_json.specs.Data.{Num, Data, Items, number, string, array, unsigned}
-use Rattle.serde_json.specs.Find.{as_number, as_str, as_array, as_object}
+use Rattle.serde_json.specs.Find.{as_bool, as_number, as_str, as_array, as_object}
 use Rattle.serde_json.specs.Written.{compact_text}
 use Rattle.olk_spec.specs.Names.{Text, Name}
 use Rattle.olk_spec.specs.Malformed.{items_list}
@@ -13,6 +13,7 @@ use Rattle.olk_spec.specs.Bench as bench
 use Rattle.olk_vocabulary.specs.Numbers.{exact, is_below, is_at_most, is_integral, is_multiple_of}
 use Rattle.olk_vocabulary.specs.Patterns.{takes_pattern, pattern_faults}
 use Rattle.olk_vocabulary.specs.Same.{same_value}
+use Rattle.olk_vocabulary.specs.Unique.{unique_faults}
 use Rattle.olk_vocabulary.specs.declared.keyword.Bound.{Bound}
 use Rattle.olk_vocabulary.specs.declared.keyword.Bound.TheVariants as bound
 use Rattle.olk_vocabulary.specs.declared.keyword.Limit.{Limit}
@@ -42,6 +43,7 @@ keyword_name keyword.MultipleOf = codes "multipleOf"
 keyword_name (keyword.Bound b) = bound_name b
 keyword_name (keyword.Limit l) = limit_name l
 keyword_name keyword.Pattern = codes "pattern"
+keyword_name keyword.UniqueItems = codes "uniqueItems"
 
 abbrev pub keyword_named : Name → Option Keyword
 keyword_named n =
@@ -60,6 +62,7 @@ keyword_named n =
     else if bytes_eq n (codes "minProperties") then Some (keyword.Limit limit.MinProperties)
     else if bytes_eq n (codes "maxProperties") then Some (keyword.Limit limit.MaxProperties)
     else if bytes_eq n (codes "pattern") then Some keyword.Pattern
+    else if bytes_eq n (codes "uniqueItems") then Some keyword.UniqueItems
     else None
 
 -- ---- what a keyword takes
@@ -84,6 +87,7 @@ takes keyword.MultipleOf x = is_natural_from 1 x
 takes (keyword.Bound b) x = is_some (as_number x)
 takes (keyword.Limit l) x = is_natural_from 0 x
 takes keyword.Pattern x = takes_pattern x
+takes keyword.UniqueItems x = is_some (as_bool x)
 
 -- ---- 6.1.1: `type`
 
@@ -233,3 +237,4 @@ finds keyword.MultipleOf x v = multiple_faults x v
 finds (keyword.Bound b) x v = bound_faults b x v
 finds (keyword.Limit l) x v = limit_faults l x v
 finds keyword.Pattern x v = pattern_faults x v
+finds keyword.UniqueItems x v = unique_faults x v

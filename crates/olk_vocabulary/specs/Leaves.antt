@@ -1,6 +1,6 @@
 -- The leaves of the vocabulary as keywords with their values, and their texts.
 use Rattle.std.specs.Prelude.{◌≡◌, ◌++◌, true, false, List, Option, MatchOption, codes, map, string_bytes}
-use Rattle.serde_json.specs.Data.{unsigned, Data, number, string, array}
+use Rattle.serde_json.specs.Data.{unsigned, Data, boolean, number, string, array}
 use Rattle.serde_json.specs.View.{view, items_view}
 use Rattle.serde_json.specs.Written.{compact_text}
 use Rattle.olk_spec.specs.Names.{Text, Name}
@@ -10,6 +10,7 @@ use Rattle.olk_bench.specs.Leaves.{kind_name}
 use Rattle.olk_bench.specs.declared.leaf.ValueKind.{ValueKind}
 use Rattle.olk_vocabulary.specs.Numbers.{num_of}
 use Rattle.olk_vocabulary.specs.Patterns.{pattern_text}
+use Rattle.olk_vocabulary.specs.Unique.{unique_text}
 use Rattle.olk_vocabulary.specs.Keywords.{keyword_name, takes, finds, kinds_text, candidates, multiple_text, bound_text, limit_text}
 use Rattle.olk_vocabulary.specs.declared.keyword.Keyword.{Keyword}
 use Rattle.olk_vocabulary.specs.declared.keyword.Keyword.TheVariants as keyword
@@ -30,6 +31,7 @@ leaf_keyword (leaf.MultipleOf d) = keyword.MultipleOf
 leaf_keyword (leaf.Bound b n) = keyword.Bound b
 leaf_keyword (leaf.Limit l n) = keyword.Limit l
 leaf_keyword (leaf.Pattern p) = keyword.Pattern
+leaf_keyword (leaf.UniqueItems b) = keyword.UniqueItems
 
 abbrev pub leaf_value : VocabularyLeaf → Data
 leaf_value (leaf.Type k) = kind_value k
@@ -40,6 +42,7 @@ leaf_value (leaf.MultipleOf d) = number (unsigned d.value)
 leaf_value (leaf.Bound b n) = number (num_of n)
 leaf_value (leaf.Limit l n) = number (unsigned n)
 leaf_value (leaf.Pattern p) = string (string_bytes p.text)
+leaf_value (leaf.UniqueItems b) = boolean b
 
 abbrev pub leaf_name : VocabularyLeaf → Name
 leaf_name l = keyword_name (leaf_keyword l)
@@ -58,6 +61,7 @@ leaf_text (leaf.MultipleOf d) v = multiple_text v d.value
 leaf_text (leaf.Bound b n) v = bound_text b (num_of n) v
 leaf_text (leaf.Limit l n) v = limit_text l n v
 leaf_text (leaf.Pattern p) v = pattern_text (string_bytes p.text) v
+leaf_text (leaf.UniqueItems b) v = unique_text v
 
 -- ---- what is made of a keyword and a value
 

@@ -1,7 +1,10 @@
+pub mod Blocks
 pub mod Candidates
 pub mod Keywords
 pub mod Leaves
 pub mod Numbers
+pub mod Order
 pub mod Patterns
 pub mod Same
+pub mod Unique
 pub mod Vocabulary

@@ -7,24 +7,23 @@ use Rattle.serde_json.specs.Find.{as_str}
 use Rattle.serde_json.specs.Written.{compact_text}
 use Rattle.olk_spec.specs.Names.{Text}
 use Rattle.olk_spec.specs.Bench.{shown, unless}
-use Rattle.olk_regexes.specs.Language.{Expr, framed}
-use Rattle.olk_regexes.specs.Marks.{matches}
-use Rattle.olk_regexes.specs.Says.{builds, expr_of_pattern}
-use Rattle.olk_regexes.specs.Search.{finds}
+use Rattle.olk_regexes.specs.Language.{framed}
+use Rattle.olk_regexes.specs.Rules.{Rule, meets}
+use Rattle.olk_regexes.specs.Says.{builds, rule_of_pattern}
 
 -- a text that is a regular expression, and not too large
 abbrev pub takes_pattern : Data → Bool
 takes_pattern (string p) = builds p
 takes_pattern x = false
 
--- whether a part of the text is of the expression's language, with `^` true at the text's start and `$` at its end
-abbrev pub is_found : Option Expr → Text → Bool
+-- whether the text has what the rule wants, and not what it refuses, with `^` true at its start and `$` at its end
+abbrev pub is_found : Option Rule → Text → Bool
 is_found None s = false
-is_found (Some p) s = finds (matches p) (framed (chars s))
+is_found (Some r) s = meets r (framed (chars s))
 
 -- what is no text passes
 abbrev pub has_found : Text → Data → Bool
-has_found p v = option_map_or (λ s. is_found (expr_of_pattern p) s) (as_str v) true
+has_found p v = option_map_or (λ s. is_found (rule_of_pattern p) s) (as_str v) true
 
 abbrev pub pattern_text : Text → Data → Text
 pattern_text p v = shown v ++ codes " does not match " ++ compact_text (string p)

@@ -5,9 +5,9 @@ use Rattle.serde_json.specs.Data.{Data}
 use Rattle.olk_spec.specs.Names.{Text, Name, is_among}
 use Rattle.olk_vocabulary.specs.Keywords.{keyword_named, takes, finds}
 
--- the standard's other assertions, but for those that the library refuses (Core 10.3.1; Validation 6.4.3 to 6.4.5): no value fits them
+-- the standard's other assertions, but for those that the library refuses (Core 10.3.1; Validation 6.4.4, 6.4.5): no value fits them
 abbrev pub unread_names : List Name
-unread_names = codes "prefixItems" ∷ codes "items" ∷ codes "contains" ∷ codes "minContains" ∷ codes "maxContains" ∷ codes "uniqueItems" ∷ []
+unread_names = codes "prefixItems" ∷ codes "items" ∷ codes "contains" ∷ codes "minContains" ∷ codes "maxContains" ∷ []
 
 abbrev pub is_unread : Name → Bool
 is_unread k = is_among k unread_names

@@ -49,6 +49,8 @@ pub enum Keyword {
     Limit(Limit),
     /// `pattern`: what a text is to match.
     Pattern,
+    /// `uniqueItems`: whether no two items of a list may be the same.
+    UniqueItems,
 }
 
 impl Keyword {
@@ -72,6 +74,7 @@ impl Keyword {
             "minProperties" => Some(Keyword::Limit(Limit::MinProperties)),
             "maxProperties" => Some(Keyword::Limit(Limit::MaxProperties)),
             "pattern" => Some(Keyword::Pattern),
+            "uniqueItems" => Some(Keyword::UniqueItems),
             _ => None,
         }
     }
@@ -96,6 +99,7 @@ impl Keyword {
             Keyword::Limit(Limit::MinProperties) => "minProperties",
             Keyword::Limit(Limit::MaxProperties) => "maxProperties",
             Keyword::Pattern => "pattern",
+            Keyword::UniqueItems => "uniqueItems",
         }
     }
 }

@@ -17,8 +17,9 @@ use crate::numbers::JsonNumber;
 use crate::text_pattern::TextPattern;
 use crate::texts::{
     bound_text, candidates_text, constant_text, kind_text, kinds_text, limit_text, multiple_text,
-    pattern_text,
+    pattern_text, unique_text,
 };
+use crate::unique::has_unique_items;
 use olk_base::{Leaf, Node};
 use olk_bench::{Divisor, ValueKind};
 use serde_json::Value;
@@ -43,6 +44,8 @@ pub enum VocabularyLeaf {
     Limit(Limit, u64),
     /// `pattern`: what a text is to match.
     Pattern(TextPattern),
+    /// `uniqueItems`: whether no two items of a list may be the same.
+    UniqueItems(bool),
 }
 
 impl Leaf for VocabularyLeaf {
@@ -96,6 +99,7 @@ impl VocabularyLeaf {
             VocabularyLeaf::Bound(bound, _) => Keyword::Bound(*bound),
             VocabularyLeaf::Limit(limit, _) => Keyword::Limit(*limit),
             VocabularyLeaf::Pattern(_) => Keyword::Pattern,
+            VocabularyLeaf::UniqueItems(_) => Keyword::UniqueItems,
         }
     }
 
@@ -113,6 +117,7 @@ impl VocabularyLeaf {
             VocabularyLeaf::Bound(bound, number) => is_within(*bound, *number, node),
             VocabularyLeaf::Limit(limit, number) => is_allowed(*limit, *number, node),
             VocabularyLeaf::Pattern(pattern) => pattern.has_found(node),
+            VocabularyLeaf::UniqueItems(wanted) => !*wanted || has_unique_items(node),
         }
     }
 
@@ -129,6 +134,7 @@ impl VocabularyLeaf {
             VocabularyLeaf::Bound(bound, number) => bound_text(alloc, node, *bound, *number),
             VocabularyLeaf::Limit(limit, number) => limit_text(alloc, node, *limit, *number),
             VocabularyLeaf::Pattern(pattern) => pattern_text(alloc, node, pattern.text()),
+            VocabularyLeaf::UniqueItems(_) => unique_text(alloc, node),
         }
     }
 }

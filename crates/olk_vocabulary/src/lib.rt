@@ -12,9 +12,11 @@ mod leaf;
 mod lengths;
 mod maker;
 mod numbers;
+mod order;
 mod ranked;
 mod text_pattern;
 mod texts;
+mod unique;
 
 pub use candidates::Candidates;
 pub use keyword::{Bound, Keyword, Limit};

@@ -20,7 +20,7 @@ use std::alloc::{AllocError, Global};
 /// (6.1 to 6.5).
 ///
 /// The others that assert something are refused with every value: `prefixItems`, `items`,
-/// `contains`, `minContains`, `maxContains` and `uniqueItems`.
+/// `contains`, `minContains` and `maxContains`.
 #[derive(Drop)]
 pub struct Vocabulary;
 
@@ -55,7 +55,7 @@ pub fn is_unread(name: &str) -> bool
 {
     matches!(
         name,
-        "prefixItems" | "items" | "contains" | "minContains" | "maxContains" | "uniqueItems"
+        "prefixItems" | "items" | "contains" | "minContains" | "maxContains"
     )
 }
 
@@ -74,6 +74,7 @@ fn leaf_of(
         Keyword::Bound(bound) => Ok(bound_leaf(bound, value)),
         Keyword::Limit(limit) => Ok(limit_leaf(limit, value)),
         Keyword::Pattern => pattern_leaf(alloc, value),
+        Keyword::UniqueItems => Ok(unique_leaf(value)),
     }
 }
 
@@ -143,6 +144,13 @@ fn limit_leaf(limit: Limit, value: &Value) -> Option<VocabularyLeaf>
 {
     let number = value.as_u64()?;
     Some(VocabularyLeaf::Limit(limit, number))
+}
+
+fn unique_leaf(value: &Value) -> Option<VocabularyLeaf>
+    ensures { IsMade Keyword.UniqueItems (view value.now) result }
+{
+    let wanted = value.as_bool()?;
+    Some(VocabularyLeaf::UniqueItems(wanted))
 }
 
 fn pattern_leaf(alloc: Global, value: &Value) -> Result<Option<VocabularyLeaf>, AllocError>

@@ -2,8 +2,8 @@
 ghost use Rattle.std.specs.Prelude.{◌≡◌, true, false, Some, IfOk, MatchOption, string_bytes};
 ghost use Rattle.olk_base.specs.Nodes.{data_of};
 ghost use Rattle.olk_spec.specs.Names.{Text};
-ghost use Rattle.olk_regexes.specs.Built.{expr_of_engine};
-ghost use Rattle.olk_regexes.specs.Says.{builds, expr_of_pattern};
+ghost use Rattle.olk_regexes.specs.Built.{rule_of_engine};
+ghost use Rattle.olk_regexes.specs.Says.{builds, rule_of_pattern};
 ghost use Rattle.olk_vocabulary.specs.Patterns.{is_found, has_found};
 
 use crate::lengths::text_of;
@@ -16,8 +16,8 @@ use std::alloc::{AllocError, Global};
 pub struct TextPattern {
     text: String,
     engine: Pattern,
-    ghost answers: { (s : Text) → is_found (expr_of_pattern (string_bytes text)) s
-        ≡ is_found (Some (expr_of_engine engine)) s },
+    ghost answers: { (s : Text) → is_found (rule_of_pattern (string_bytes text)) s
+        ≡ is_found (Some (rule_of_engine engine)) s },
 }
 
 impl TextPattern {

@@ -9,6 +9,7 @@ ghost use Rattle.olk_vocabulary.specs.Keywords.{bound_words, limit_words, one_th
 ghost use Rattle.olk_vocabulary.specs.Leaves.{kind_value};
 ghost use Rattle.olk_vocabulary.specs.Numbers.{num_of};
 ghost use Rattle.olk_vocabulary.specs.Patterns.{pattern_text};
+ghost use Rattle.olk_vocabulary.specs.Unique.{unique_text};
 
 use crate::keyword::{Bound, Limit};
 use crate::numbers::JsonNumber;
@@ -204,6 +205,12 @@ pub(crate) fn pattern_text(
     let shown = shown_text(alloc, Node::Name(pattern))?;
     text.push_str(shown.as_str())?;
     Ok(text)
+}
+
+pub(crate) fn unique_text(alloc: Global, node: Node<'_>) -> Result<String, AllocError>
+    ensures { IfOk result (λ s. string_bytes s ≡ unique_text (data_of node.entry)) }
+{
+    text_of(alloc, node, " has non-unique elements")
 }
 
 pub(crate) fn candidates_text(

@@ -167,7 +167,9 @@ pattern | "^🐲*$" | "🐉" | "🐉" does not match "^🐲*$"
 pattern | "^.$" | "𝄞" | -
 pattern | "[\"]" | "'" | "'" does not match "[\"]"
 pattern | "" | "" | -
-pattern | "^(?!a)" | "b" | refused
+pattern | "^(?!a)" | "b" | -
+pattern | "^(?!a)" | "ab" | "ab" does not match "^(?!a)"
+pattern | "b(?!a)" | "b" | refused
 pattern | "^a(" | "a" | refused
 pattern | "\\a" | "a" | refused
 pattern | 5 | "5" | refused
@@ -177,7 +179,39 @@ items | true | [] | refused
 contains | true | [] | refused
 minContains | 0 | [] | refused
 maxContains | 1 | [] | refused
-uniqueItems | false | [] | refused"#;
+uniqueItems | true | [] | -
+uniqueItems | true | [1,2] | -
+uniqueItems | true | [1,1] | [1,1] has non-unique elements
+uniqueItems | true | [1,2,1] | [1,2,1] has non-unique elements
+uniqueItems | true | [1.0,1.0,1] | value has non-unique elements
+uniqueItems | true | [1,1.0] | value has non-unique elements
+uniqueItems | true | [0,-0.0] | value has non-unique elements
+uniqueItems | true | [9007199254740993,9007199254740992.0] | -
+uniqueItems | true | ["foo","bar","foo"] | ["foo","bar","foo"] has non-unique elements
+uniqueItems | true | ["foo","bar","baz"] | -
+uniqueItems | true | [{"foo":"bar"},{"foo":"baz"}] | -
+uniqueItems | true | [{"foo":"bar"},{"foo":"bar"}] | [{"foo":"bar"},{"foo":"bar"}] has non-unique elements
+uniqueItems | true | [{"a":1,"b":2},{"b":2,"a":1}] | [{"a":1,"b":2},{"a":1,"b":2}] has non-unique elements
+uniqueItems | true | [{"a":1,"b":2},{"a":2,"b":1}] | -
+uniqueItems | true | [{"foo":{"bar":{"baz":true}}},{"foo":{"bar":{"baz":false}}}] | -
+uniqueItems | true | [[["foo"],1],[["foo"],1]] | [[["foo"],1],[["foo"],1]] has non-unique elements
+uniqueItems | true | [["foo"],["bar"],["foo","bar"]] | -
+uniqueItems | true | [1,true] | -
+uniqueItems | true | [0,false] | -
+uniqueItems | true | [[1],[true]] | -
+uniqueItems | true | [{"a":0},{"a":false}] | -
+uniqueItems | true | ["1",1] | -
+uniqueItems | true | [[],{}] | -
+uniqueItems | true | [{},[1],true,null,1,"{}"] | -
+uniqueItems | true | [{},[1],true,null,{},1] | [{},[1],true,null,{},1] has non-unique elements
+uniqueItems | true | [null,null] | [null,null] has non-unique elements
+uniqueItems | true | [false,true,false] | [false,true,false] has non-unique elements
+uniqueItems | true | {"a":1,"b":1} | -
+uniqueItems | true | "aa" | -
+uniqueItems | false | [1,1] | -
+uniqueItems | 1 | [] | refused
+uniqueItems | null | [] | refused
+uniqueItems | [true] | [] | refused"#;
 
 #[test]
 fn keywords_accept_or_tell(rt: HostRuntime) -> Result<(), Fail> {

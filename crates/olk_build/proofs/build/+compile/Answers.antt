@@ -2,7 +2,7 @@ use borrow.Author.Count.{falls}
 use Rattle.std.proofs.lemmas.Result.{IfOk-weaker}
 use Rattle.olk_build.proofs.Places.{no_object_no_members, no_array_no_items, none_are_built, itself_is_built}
 use Rattle.olk_read.specs.declared.shape.ReadPlaces.TheVariants.{Nothing, Entries, SchemaEntries, InnerEntries, Branches}
-use Rattle.std.proofs.Common.{arith, rules, true, false, inl, inr, ◌++◌, [], ◌∷◌, map, refl, sym, ap, subst, ◌≡◌, ◌∙◌}
+use Rattle.std.proofs.Common.{arith, rules, true, false, inl, inr, ◌++◌, [], ◌∷◌, map, refl, sym, ap, subst, ◌≡◌, ◌∙◌, Some, None}
 use Rattle.olk_meaning.specs.Conditions.{known}
 use Rattle.std.proofs.lemmas.List.{append-nil, append_assoc}
 use Rattle.serde_json.specs.View.{view, members_view}
@@ -21,10 +21,9 @@ use Rattle.olk_meaning.proofs.Objects.{no_schema_is}
 use Rattle.olk_build.proofs.Parts.{refuses_part_own, refuses_part_inside, part_is_built}
 use Rattle.serde_json.proofs.value.Value.TheLaws.{the_size}
 use Rattle.olk_build.proofs.Sizes.{size_among}
-use Rattle.std.proofs.Common.{Some, None}
 use Rattle.olk_meaning.specs.Plans.{planned}
 use Rattle.olk_make.specs.Standing.{is_taken}
-use Rattle.olk_build.proofs.Found.{member_lookup}
+use Rattle.olk_meaning.proofs.MemberLookups.{member_lookup}
 use Rattle.olk_build.proofs.Neighbouring.{neighbour_refused, no_neighbour, neighbour_built, first_beside_refused, second_beside_refused}
 use Rattle.olk_build.proofs.Taken.{takes_nothing, both_taken, taking_memory}
 use Rattle.olk_build.proofs.Keywords.{no_keywords_so_far, keywords_memory, object_is_built, next_found, next_taken, next_refused, one_more}
@@ -103,16 +102,16 @@ compile_inner_entries-returns-in_err-inner-clause-refused g t c =
     exit_with _ _ _ c.from_residual-in_err-inner.ensures.1 (inner_refused c.loop-name.invariant.so_far (listed_alike c.in-Some.ensures.steps)
     (below _ c.in_ok-location.ensures c.as_str.ensures.value) c.in_err-inner.ensures.refused)
 
-pub compile_inner_entries-returns-in_err-append_all-clause-refused : goal.compile_inner_entries-returns-in_err-append_all-clause-refused
-compile_inner_entries-returns-in_err-append_all-clause-refused g t c =
-    exit _ _ _ c.from_residual-in_err-append_all.ensures.1 (more_inner_memory c.loop-name.invariant.so_far (listed_alike c.in-Some.ensures.steps)
+pub compile_inner_entries-returns-in_err-append-clause-refused : goal.compile_inner_entries-returns-in_err-append-clause-refused
+compile_inner_entries-returns-in_err-append-clause-refused g t c =
+    exit _ _ _ c.from_residual-in_err-append.ensures.1 (more_inner_memory c.loop-name.invariant.so_far (listed_alike c.in-Some.ensures.steps)
     (below _ c.in_ok-location.ensures c.as_str.ensures.value) c.in_ok-inner.ensures.built)
 
 pub compile_inner_entries-loop-name-preserved : goal.compile_inner_entries-loop-name-preserved
 compile_inner_entries-loop-name-preserved g t c =
     record {
       so_far = one_more_inner c.loop-name.invariant.so_far (listed_alike c.in-Some.ensures.steps)
-          (below _ c.in_ok-location.ensures c.as_str.ensures.value) c.in_ok-inner.ensures.built c.in_ok-append_all.ensures;
+          (below _ c.in_ok-location.ensures c.as_str.ensures.value) c.in_ok-inner.ensures.built c.in_ok-append.ensures.items;
       next = tt;
       ends = tt;
     }
@@ -274,7 +273,7 @@ compile_neighbour-returns-in_err-location-in-Some-clause-refused g t c =
 
 pub compile_neighbour-returns-in_err-part-in-Some-clause-refused : goal.compile_neighbour-returns-in_err-part-in-Some-clause-refused
 compile_neighbour-returns-in_err-part-in-Some-clause-refused g t c =
-    exit_with _ _ _ c.from_residual-in_err-part-in-Some.ensures.1 (neighbour_refused (kit g.L.Leaf.Leaf g.M.Engine.RegexEngine) (members_view c.args.members.now.entries) c.args.place.now c.of-neighbours.ensures (sym (member_lookup (Some c.in-Some.value) c.args.name.now c.args.members.now.entries c.in-Some.ensures.value)) c.in_ok-location-in-Some.ensures c.in_err-part-in-Some.ensures.refused)
+    exit_with _ _ _ c.from_residual-in_err-part-in-Some.ensures.1 (neighbour_refused (kit g.L.Leaf.Leaf g.M.Engine.RegexEngine) (members_view c.args.members.now.entries) c.args.place.now c.args.name.now c.of-neighbours.ensures (sym (member_lookup (Some c.in-Some.value) c.args.name.now c.args.members.now.entries c.in-Some.ensures.value)) c.in_ok-location-in-Some.ensures c.in_err-part-in-Some.ensures.refused)
 
 pub compile_neighbour-returns-in_ok-part-in-Some-clause-built : goal.compile_neighbour-returns-in_ok-part-in-Some-clause-built
 compile_neighbour-returns-in_ok-part-in-Some-clause-built g t c =

@@ -14,5 +14,5 @@ returns-in-Some g c =
     subst (λ v. AsksOne c.args.ctx.now c.declared_accept.new.ctx (both (declared_mean g.N.Means.means c.args.properties.now (option_copied c.args.rest) v) (always true)) c.declared_accept.result)
     (object_is (g.A.Asked.stands_for c.args.asked) (members_view c.in-Some.members.now.entries) c.in-Some.ensures)
     (subst (λ q. AsksOne c.args.ctx.now c.declared_accept.new.ctx q c.declared_accept.result)
-    ((λ i. names_mean g.N.Means.means (c.entries.ensures i) (option_copied c.args.rest) v) ∙ names_alone g.N.Means.means c.args.properties.now (option_copied c.args.rest) v c.law_of_names.ensures)
+    ((λ i. names_mean g.N.Means.means (c.as_map.ensures i) (option_copied c.args.rest) v) ∙ names_alone g.N.Means.means c.args.properties.now (option_copied c.args.rest) v c.law_of_names.ensures)
     c.declared_accept.ensures)

@@ -17,6 +17,6 @@ returns-in-Some g c =
     (always (is_empty (missing (string_bytes c.args.required.now ∷ []) v)))) c.declared_accept_with.result)
     (object_is (g.A.Asked.stands_for c.args.asked) (members_view c.in-Some.members.now.entries) c.in-Some.ensures)
     (subst (λ q. AsksOne c.args.ctx.now c.declared_accept_with.new.ctx q c.declared_accept_with.result)
-    ((λ i. both (names_mean g.N.Means.means (c.entries.ensures i) None v) (always (is_empty (missing (c.as_str.ensures.value i ∷ []) v))))
+    ((λ i. both (names_mean g.N.Means.means (c.as_map.ensures i) None v) (always (is_empty (missing (c.as_str.ensures.value i ∷ []) v))))
     ∙ (λ i. both (names_declared g.N.Means.means c.args.properties.now None v c.law_of_names.ensures i) (always (is_empty (missing (string_bytes c.args.required.now ∷ []) v)))))
     c.declared_accept_with.ensures)

@@ -8,10 +8,10 @@ pub returns-in-SmallProperties : goal.returns-in-SmallProperties
 unfolding answers_of
 returns-in-SmallProperties g c v =
     ap (λ k. validator_means (kit g.K.Leaf g.R.RegexEngine) g.N.Means.means k v) c.in-SmallProperties.is
-    ∙ ap (λ es. properties_mean g.N.Means.means es v) (sym c.entries.ensures)
+    ∙ ap (λ es. properties_mean g.N.Means.means es v) (sym c.as_map.ensures)
 
 pub returns-in-BigProperties : goal.returns-in-BigProperties
 unfolding answers_of
 returns-in-BigProperties g c v =
     ap (λ k. validator_means (kit g.K.Leaf g.R.RegexEngine) g.N.Means.means k v) c.in-BigProperties.is
-    ∙ ap (λ es. properties_mean g.N.Means.means es v) (sym c.entries-in-BigProperties.ensures)
+    ∙ ap (λ es. properties_mean g.N.Means.means es v) (sym c.as_map-in-BigProperties.ensures)

@@ -11,7 +11,8 @@ use Rattle.olk_check.proofs.properties.all_accepted_with.Goals as goal
 pub returns-then-len : goal.returns-then-len
 returns-then-len g c =
     let declared = c.args.properties in
-    rw (← means_of_members (members_view c.args.members.now.entries) g.N.Means.means declared (walks_agree declared c.args.members.now.entries c.len-2.ensures.ordered c.len.ensures.ordered)) c.each_member_accepted_with.ensures
+    rw (← means_of_members (members_view c.args.members.now.entries) g.N.Means.means declared (walks_agree declared c.args.members.now.entries c.len-2.ensures.ordered c.len.ensures.ordered))
+    (rw (← c.entries.ensures) c.each_member_accepted_with.ensures)
 
 pub returns-then-is_present : goal.returns-then-is_present
 returns-then-is_present g c = both_where c.each_name_accepted.ensures (sym (one_met c.args.name.now c.is_present.ensures) ∙ c.if-is_present.true)

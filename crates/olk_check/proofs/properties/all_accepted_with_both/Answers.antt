@@ -6,4 +6,5 @@ use Rattle.olk_check.proofs.properties.all_accepted_with_both.Goals as goal
 pub returns-then-len : goal.returns-then-len
 returns-then-len g c =
     let declared = c.args.properties in
-    rw (← means_of_members (members_view c.args.members.now.entries) g.N.Means.means declared (walks_agree declared c.args.members.now.entries c.len-2.ensures.ordered c.len.ensures.ordered)) c.each_member_accepted_with_both.ensures
+    rw (← means_of_members (members_view c.args.members.now.entries) g.N.Means.means declared (walks_agree declared c.args.members.now.entries c.len-2.ensures.ordered c.len.ensures.ordered))
+    (rw (← c.entries.ensures) c.each_member_accepted_with_both.ensures)

@@ -9,7 +9,7 @@ use Rattle.olk_check.proofs.properties.each_name_accepted.Goals as goal
 
 pub returns-then-not-accepted_if_present : goal.returns-then-not-accepted_if_present
 returns-then-not-accepted_if_present g c =
-    asks_as (ap (every (λ e. every (g.N.Means.means e.1) (at e.0 (object_of c.args.members.now.entries)))) (ap each_left c.into_iter-name-iterator.ensures.into_iter_gives ∙ c.iter-name-items.ensures))
+    asks_as (ap (every (λ e. every (g.N.Means.means e.1) (at e.0 (object_of c.args.members.now.entries)))) (ap each_left c.into_iter-name-iterator.ensures.into_iter_gives ∙ c.iter-name-items.ensures ∙ c.entries.ensures))
     (all_stop c.loop-name.invariant c.in-Some.ensures.steps
     (rw (← c.member.ensures) c.if-not-accepted_if_present.ensures))
 
@@ -20,5 +20,5 @@ loop-name-preserved g c =
 
 pub returns : goal.returns
 returns g c =
-    asks_as (ap (every (λ e. every (g.N.Means.means e.1) (at e.0 (object_of c.args.members.now.entries)))) (ap each_left c.into_iter-name-iterator.ensures.into_iter_gives ∙ c.iter-name-items.ensures))
+    asks_as (ap (every (λ e. every (g.N.Means.means e.1) (at e.0 (object_of c.args.members.now.entries)))) (ap each_left c.into_iter-name-iterator.ensures.into_iter_gives ∙ c.iter-name-items.ensures ∙ c.entries.ensures))
     (all_end c.loop-name.invariant c.in-None.ensures.steps)

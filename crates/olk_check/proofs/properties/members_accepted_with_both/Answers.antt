@@ -12,4 +12,4 @@ pub returns : goal.returns
 returns g c =
     let v = object_of c.args.members.now.entries in
     answered_one c.one_if.ensures (asks_as (λ i. both (always (is_empty (missing (c.as_str-first.ensures.value i ∷ c.as_str-second.ensures.value i ∷ []) v)))
-    (properties_mean g.N.Means.means (c.entries.ensures i) v)) c.all_accepted_with_both.ensures)
+    (properties_mean g.N.Means.means (c.as_map.ensures i) v)) c.all_accepted_with_both.ensures)

@@ -5,7 +5,7 @@ use Rattle.olk_spec.proofs.Maps.{is_some-map}
 use Rattle.olk_paths.specs.Trails.{path_at}
 use Rattle.olk_tree.proofs.Lists.{next_at, past_end}
 use Rattle.olk_tree.specs.Additional.{sides_seen}
-use Rattle.olk_errors.proofs.Additional.{asked_member, named_turn, pattern_turn, spoken_expected, rest_unexpected, spoken_end, rest_end}
+use Rattle.olk_errors.proofs.Additional.{asked_member, named_turn, pattern_turn, spoken_expected, rest_unexpected, spoken_end, rest_end, pattern_left}
 use Rattle.olk_errors.proofs.Sinks.{walks_left}
 use Rattle.olk_errors.proofs.additional_properties.walk_asked.Goals as goal
 
@@ -24,7 +24,7 @@ loop-index-preserved g c = pattern_turn _ c.loop-index.invariant (next_at refl c
 
 pub returns-in_err-is_match-clause-walk : goal.returns-in_err-is_match-clause-walk
 returns-in_err-is_match-clause-walk g c = walks_left c.from_residual-in_err-is_match.ensures.0
-    (pattern_turn _ c.loop-index.invariant (next_at refl c.entry-item.is c.loop-index-test.true) c.known-known.ensures refl
+    (pattern_left _ c.loop-index.invariant (next_at refl c.entry-item.is c.loop-index-test.true) c.known-known.ensures
     c.in_err-is_match.ensures.walk)
 
 pub returns-then-spoken : goal.returns-then-spoken
@@ -34,6 +34,6 @@ returns-then-spoken g c = let none = past_end {xs = c.args.sides.patterns.now} {
 pub returns : goal.returns
 returns g c = let none = past_end {xs = c.args.sides.patterns.now} {i = c.loop-index.index} refl (omega arith) in
     record {
-      unexpected = IfOk-weaker c.walk_rest.result _ _ (λ b is. rest_unexpected _ c.loop-index.invariant none c.if-spoken.false is) c.walk_rest.ensures.unexpected;
+      unexpected = IfOk-weaker c.walk_rest.result _ _ (λ b is. rest_unexpected _ c.loop-index.invariant none c.walk_rest.ensures.walk.only c.if-spoken.false is) c.walk_rest.ensures.unexpected;
       walk = rest_end _ c.loop-index.invariant none c.if-spoken.false c.walk_rest.ensures.walk;
     }

@@ -8,5 +8,5 @@ use Rattle.olk_errors.proofs.additional_properties.walk_sides.Goals as goal
 
 pub returns-in-None : goal.returns-in-None
 returns-in-None g c = walks_past (only_same c.args.ctx.now)
-    (other_unasked g.R.RegexEngine.answers g.R.RegexEngine.costs g.N.Means.means g.N.Reports.first g.N.Reports.report (sides_seen c.args.sides) (subject_data c.args.node)
-    c.args.location.now (path_at c.args.trail.now) c.args.ctx.now.answer c.in-None.ensures)
+    (λ u so. other_unasked g.R.RegexEngine.answers g.R.RegexEngine.costs g.N.Means.means g.N.Reports.first g.N.Reports.report (sides_seen c.args.sides) (subject_data c.args.node)
+    c.args.location.now (path_at c.args.trail.now) u c.in-None.ensures)

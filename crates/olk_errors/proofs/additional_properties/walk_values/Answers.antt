@@ -10,7 +10,7 @@ use Rattle.olk_errors.proofs.additional_properties.walk_values.Goals as goal
 
 pub returns-in_default : goal.returns-in_default
 returns-in_default g c = walks_past (only_same c.args.ctx.now)
-    (values_unasked g.N.Means.means g.N.Reports.first g.N.Reports.report c.args.ctx.now.answer c.args.subschema.now (subject_data c.args.node) (path_at c.args.trail.now) c.in_default.ensures)
+    (λ u so. values_unasked g.N.Means.means g.N.Reports.first g.N.Reports.report u c.args.subschema.now (subject_data c.args.node) (path_at c.args.trail.now) c.in_default.ensures)
 
 pub loop-name-init : goal.loop-name-init
 loop-name-init g c = walking_from (sym (members_of_walk (subject_data c.args.node) c.in-Some.ensures c.into_iter-name-iterator.ensures.into_iter_gives.0))

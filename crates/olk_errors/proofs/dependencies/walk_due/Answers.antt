@@ -12,13 +12,13 @@ pub loop-dependency-preserved : goal.loop-dependency-preserved
 loop-dependency-preserved g c = walking_turn c.loop-dependency.invariant c.in-Some.ensures.steps c.in_ok-walk.ensures
 
 pub returns-in_err-walk : goal.returns-in_err-walk
-returns-in_err-walk g c = walks_same (due_of_walk g.N.Means.means g.N.Reports.first g.N.Reports.report c.args.ctx.now.answer _ _
+returns-in_err-walk g c = walks_same (λ u so. due_of_walk g.N.Means.means g.N.Reports.first g.N.Reports.report u _ _
     (members_view c.args.members.now.entries) c.requires (named c.args.dependencies.now) c.into_iter-dependency-iterator.ensures.into_iter_gives
     c.declared_members-dependency-items.ensures.by_names)
     (walks_left c.from_residual.ensures.0 (walking_turn c.loop-dependency.invariant c.in-Some.ensures.steps c.in_err-walk.ensures))
 
 pub returns : goal.returns
-returns g c = walks_same (due_of_walk g.N.Means.means g.N.Reports.first g.N.Reports.report c.args.ctx.now.answer _ _
+returns g c = walks_same (λ u so. due_of_walk g.N.Means.means g.N.Reports.first g.N.Reports.report u _ _
     (members_view c.args.members.now.entries) c.requires (named c.args.dependencies.now) c.into_iter-dependency-iterator.ensures.into_iter_gives
     c.declared_members-dependency-items.ensures.by_names)
     (walking_end c.loop-dependency.invariant c.in-None.ensures.steps)

@@ -99,4 +99,4 @@ returns-in-AdditionalProperties g c = rw c.in-AdditionalProperties.is c.walk-in-
 
 pub returns-in-Leaf : goal.returns-in-Leaf
 unfolding answers_of
-returns-in-Leaf g c = rw c.in-Leaf.is (walks_alone (only_same c.args.ctx.now) c.report_texts.ensures)
+returns-in-Leaf g c = rw c.in-Leaf.is (walks_alone (only_same c.args.ctx.now) (λ u. c.report_texts.ensures))

@@ -17,20 +17,20 @@ pub loop-name-preserved : goal.loop-name-preserved
 loop-name-preserved g c = walking_turn c.loop-name.invariant (name_next c.in-Some.ensures.steps c.as_str.ensures.value) c.in_ok-walk_matching.ensures
 
 pub returns-in_err-walk_matching : goal.returns-in_err-walk_matching
-returns-in_err-walk_matching g c = walks_by (ends_first (of_patterns g.R.RegexEngine.answers g.R.RegexEngine.costs g.N.Means.means g.N.Reports.first g.N.Reports.report
-    c.args.ctx.now.answer
+returns-in_err-walk_matching g c = walks_by (λ u so. ends_first (of_patterns g.R.RegexEngine.answers g.R.RegexEngine.costs g.N.Means.means g.N.Reports.first g.N.Reports.report
+    u
     c.args.patterns.now.items (object_of c.args.members.now.entries) (path_at c.args.trail.now)) c.requires
-    (patterns_pass g.R.RegexEngine.answers g.R.RegexEngine.costs g.N.Means.means g.N.Reports.first g.N.Reports.report c.args.ctx.now.answer _
+    (patterns_pass g.R.RegexEngine.answers g.R.RegexEngine.costs g.N.Means.means g.N.Reports.first g.N.Reports.report u _
     c.args.patterns.now.items (members_view c.args.members.now.entries))
-    (patterns_err g.R.RegexEngine.answers g.R.RegexEngine.costs g.N.Means.means g.N.Reports.first g.N.Reports.report c.args.ctx.now.answer _
+    (patterns_err g.R.RegexEngine.answers g.R.RegexEngine.costs g.N.Means.means g.N.Reports.first g.N.Reports.report u _
     c.args.patterns.now.items (members_view c.args.members.now.entries)))
     (walks_left c.from_residual.ensures.0 (walking_turn c.loop-name.invariant (name_next c.in-Some.ensures.steps c.as_str.ensures.value) c.in_err-walk_matching.ensures))
 
 pub returns : goal.returns
-returns g c = walks_by (ends_first (of_patterns g.R.RegexEngine.answers g.R.RegexEngine.costs g.N.Means.means g.N.Reports.first g.N.Reports.report c.args.ctx.now.answer
+returns g c = walks_by (λ u so. ends_first (of_patterns g.R.RegexEngine.answers g.R.RegexEngine.costs g.N.Means.means g.N.Reports.first g.N.Reports.report u
     c.args.patterns.now.items (object_of c.args.members.now.entries) (path_at c.args.trail.now)) c.requires
-    (patterns_pass g.R.RegexEngine.answers g.R.RegexEngine.costs g.N.Means.means g.N.Reports.first g.N.Reports.report c.args.ctx.now.answer _
+    (patterns_pass g.R.RegexEngine.answers g.R.RegexEngine.costs g.N.Means.means g.N.Reports.first g.N.Reports.report u _
     c.args.patterns.now.items (members_view c.args.members.now.entries))
-    (patterns_err g.R.RegexEngine.answers g.R.RegexEngine.costs g.N.Means.means g.N.Reports.first g.N.Reports.report c.args.ctx.now.answer _
+    (patterns_err g.R.RegexEngine.answers g.R.RegexEngine.costs g.N.Means.means g.N.Reports.first g.N.Reports.report u _
     c.args.patterns.now.items (members_view c.args.members.now.entries)))
     (walking_end c.loop-name.invariant (no_name_next c.in-None.ensures.steps.0))

@@ -14,11 +14,11 @@ pub loop-name-preserved : goal.loop-name-preserved
 loop-name-preserved g c = walking_turn c.loop-name.invariant (name_next c.in-Some.ensures.steps c.as_str.ensures.value) c.in_ok-walk_if_matched.ensures
 
 pub returns-in_err-walk_if_matched : goal.returns-in_err-walk_if_matched
-returns-in_err-walk_if_matched g c = walks_same (matched_of_walk g.R.RegexEngine.answers g.R.RegexEngine.costs g.N.Means.means g.N.Reports.first g.N.Reports.report
-    c.args.ctx.now.answer _ c.args.pattern.now c.args.subschema.now (members_view c.args.members.now.entries))
+returns-in_err-walk_if_matched g c = walks_same (λ u so. matched_of_walk g.R.RegexEngine.answers g.R.RegexEngine.costs g.N.Means.means g.N.Reports.first g.N.Reports.report
+    u _ c.args.pattern.now c.args.subschema.now (members_view c.args.members.now.entries))
     (walks_left c.from_residual.ensures.0 (walking_turn c.loop-name.invariant (name_next c.in-Some.ensures.steps c.as_str.ensures.value) c.in_err-walk_if_matched.ensures))
 
 pub returns : goal.returns
-returns g c = walks_same (matched_of_walk g.R.RegexEngine.answers g.R.RegexEngine.costs g.N.Means.means g.N.Reports.first g.N.Reports.report c.args.ctx.now.answer _
+returns g c = walks_same (λ u so. matched_of_walk g.R.RegexEngine.answers g.R.RegexEngine.costs g.N.Means.means g.N.Reports.first g.N.Reports.report u _
     c.args.pattern.now c.args.subschema.now (members_view c.args.members.now.entries))
     (walking_end c.loop-name.invariant (no_name_next c.in-None.ensures.steps.0))

@@ -13,12 +13,12 @@ loop-name-preserved g c = walking_turn c.loop-name.invariant c.in-Some.ensures.s
 
 pub returns-in_err-walk_below : goal.returns-in_err-walk_below
 returns-in_err-walk_below g c =
-    let whole = outcome_of_walk g.N.Means.means g.N.Reports.first g.N.Reports.report c.args.ctx.now.answer c.args.properties (path_at c.args.trail.now)
-    (members_view c.args.members.now.entries) c.into_iter-name-iterator.ensures.into_iter_gives c.of-name-items.ensures.by_names in
-    walks_same whole (walks_left c.from_residual.ensures.0 (walking_turn c.loop-name.invariant c.in-Some.ensures.steps c.in_err-walk_below.ensures))
+    walks_same (λ u so. outcome_of_walk g.N.Means.means g.N.Reports.first g.N.Reports.report u c.args.properties (path_at c.args.trail.now)
+    (members_view c.args.members.now.entries) c.into_iter-name-iterator.ensures.into_iter_gives c.of-name-items.ensures.by_names)
+    (walks_left c.from_residual.ensures.0 (walking_turn c.loop-name.invariant c.in-Some.ensures.steps c.in_err-walk_below.ensures))
 
 pub returns : goal.returns
 returns g c =
-    let whole = outcome_of_walk g.N.Means.means g.N.Reports.first g.N.Reports.report c.args.ctx.now.answer c.args.properties (path_at c.args.trail.now)
-    (members_view c.args.members.now.entries) c.into_iter-name-iterator.ensures.into_iter_gives c.of-name-items.ensures.by_names in
-    walks_same whole (walking_end c.loop-name.invariant c.in-None.ensures.steps)
+    walks_same (λ u so. outcome_of_walk g.N.Means.means g.N.Reports.first g.N.Reports.report u c.args.properties (path_at c.args.trail.now)
+    (members_view c.args.members.now.entries) c.into_iter-name-iterator.ensures.into_iter_gives c.of-name-items.ensures.by_names)
+    (walking_end c.loop-name.invariant c.in-None.ensures.steps)

@@ -6,6 +6,6 @@ use Rattle.olk_errors.proofs.Sinks.{walks_same}
 use Rattle.olk_errors.proofs.properties.walk_members.Goals as goal
 
 pub returns-then-len : goal.returns-then-len
-returns-then-len g c = walks_same (outcome_of_members g.N.Means.means g.N.Reports.first g.N.Reports.report c.args.ctx.now.answer c.args.properties (path_at c.args.trail.now)
+returns-then-len g c = walks_same (λ u so. outcome_of_members g.N.Means.means g.N.Reports.first g.N.Reports.report u c.args.properties (path_at c.args.trail.now)
     (members_view c.args.members.now.entries) (walks_agree c.args.properties c.args.members.now.entries c.len-2.ensures.ordered c.len.ensures.ordered))
     c.walk_each_member.ensures

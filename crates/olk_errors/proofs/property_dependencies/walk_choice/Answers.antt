@@ -5,5 +5,5 @@ use Rattle.olk_errors.proofs.Due.{past_none}
 use Rattle.olk_errors.proofs.property_dependencies.walk_choice.Goals as goal
 
 pub returns-in-None : goal.returns-in-None
-returns-in-None g c = past_none g.N.Means.means g.N.Reports.first g.N.Reports.report c.args.ctx.now.answer _ _ (only_same c.args.ctx.now)
-    (sym (sym (ap (λ o. option_to_list (option_copied o)) c.in-None.is) ∙ c.chosen_by.ensures))
+returns-in-None g c = past_none g.N.Means.means g.N.Reports.first g.N.Reports.report _ _ (only_same c.args.ctx.now)
+    (λ u so. sym (sym (ap (λ o. option_to_list (option_copied o)) c.in-None.is) ∙ c.chosen_by.ensures))

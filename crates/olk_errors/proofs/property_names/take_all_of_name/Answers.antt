@@ -30,7 +30,7 @@ loop-error-preserved g c =
 
 pub returns-in_err-take_wrapped : goal.returns-in_err-take_wrapped
 returns-in_err-take_wrapped g c = record {
-  ends = ends_left c.from_residual-in_err-take_wrapped.ensures.0
+  ends = λ u so. ends_left c.from_residual-in_err-take_wrapped.ensures.0
       (telling_stopped c.loop-error.invariant.told c.in-Some.ensures.steps.0 c.in_err-take_wrapped.ensures);
   only = c.errors_of.ensures.context;
 }
@@ -41,10 +41,10 @@ returns g c =
     (sym c.loop-error.invariant.left ∙ c.in-None.ensures.steps.0) in
     let all : into_iter_items c.into_iter-error-iterator.result ≡ c.in_ok-errors.errors.items = search rules in
     record {
-      ends = telling_like c.loop-error.invariant.told
+      ends = λ u so. telling_like c.loop-error.invariant.told
           (subst (λ l. map (λ e. wrapped (subject_data c.args.object) (path_at c.args.trail.now) (fault_of e)) l
           ∼ map (wrapped (subject_data c.args.object) (path_at c.args.trail.now))
-          (g.N.Reports.report c.args.subschema.now c.args.ctx.now.answer (string (string_bytes c.args.name.now)) (path_at c.args.trail.now))) (sym all)
-          (names_told (subject_data c.args.object) (path_at c.args.trail.now) (rw c.as_str-name.ensures.value at c.in_ok-errors.ensures.errors))) none;
+          (g.N.Reports.report c.args.subschema.now u (string (string_bytes c.args.name.now)) (path_at c.args.trail.now))) (sym all)
+          (names_told (subject_data c.args.object) (path_at c.args.trail.now) (rw c.as_str-name.ensures.value at (c.in_ok-errors.ensures.errors u so)))) none;
       only = c.errors_of.ensures.context;
     }

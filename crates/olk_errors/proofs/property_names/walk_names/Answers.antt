@@ -14,11 +14,11 @@ pub loop-name-preserved : goal.loop-name-preserved
 loop-name-preserved g c = walking_turn c.loop-name.invariant (name_next c.in-Some.ensures.steps refl) c.in_ok-walk_name.ensures
 
 pub returns-in_err-walk_name : goal.returns-in_err-walk_name
-returns-in_err-walk_name g c = walks_same (names_of_walk _ _ g.N.Means.means g.N.Reports.first g.N.Reports.report
-    c.args.ctx.now.answer c.args.subschema.now (members_view c.args.members.now.entries) c.requires)
+returns-in_err-walk_name g c = walks_same (λ u so. names_of_walk _ _ g.N.Means.means g.N.Reports.first g.N.Reports.report
+    u c.args.subschema.now (members_view c.args.members.now.entries) c.requires)
     (walks_left c.from_residual.ensures.0 (walking_turn c.loop-name.invariant (name_next c.in-Some.ensures.steps refl) c.in_err-walk_name.ensures))
 
 pub returns : goal.returns
-returns g c = walks_same (names_of_walk _ _ g.N.Means.means g.N.Reports.first g.N.Reports.report
-    c.args.ctx.now.answer c.args.subschema.now (members_view c.args.members.now.entries) c.requires)
+returns g c = walks_same (λ u so. names_of_walk _ _ g.N.Means.means g.N.Reports.first g.N.Reports.report
+    u c.args.subschema.now (members_view c.args.members.now.entries) c.requires)
     (walking_end c.loop-name.invariant (no_name_next c.in-None.ensures.steps.0))

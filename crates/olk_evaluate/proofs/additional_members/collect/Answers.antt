@@ -21,14 +21,14 @@ loop-name-init g c = leaves_all (ap (λ es. listed (members_view es)) c.into_ite
 
 pub loop-name-preserved : goal.loop-name-preserved
 loop-name-preserved g c = leaves_rest c.loop-name.invariant (name_next c.in-Some.ensures.steps c.as_str-name.ensures.value)
-    (λ _. collects_both (subst (λ d. CollectsMore (member_found g.R.RegexEngine.answers g.N.Show.tree g.N.Means.means c.loop-name.ctx.validation.answer c.loop-name.ctx.path (sides_seen c.args.sides) c.args.shows_matches d c.as_str-name.result.now
+    (λ u so _. collects_both (subst (λ d. CollectsMore (member_found g.R.RegexEngine.answers g.N.Show.tree g.N.Means.means u c.loop-name.ctx.path (sides_seen c.args.sides) c.args.shows_matches d c.as_str-name.result.now
     (view c.in-Some.value.now)) c.loop-name.collected c.collect_member.new.collected (shown_of c.loop-name.outcome) (shown_of c.collect_member.new.outcome)) c.declared_from-next.ensures
-    c.in_ok-collect_member.ensures.shown)) c.collect_member.ensures.kept
+    (c.in_ok-collect_member.ensures.shown u so))) c.collect_member.ensures.kept
 
 pub returns : goal.returns
 returns g c =
-    let found = leaves_none c.loop-name.invariant (no_name_next c.in-None.ensures.steps.0) (collects_nothing c.loop-name.collected (shown_of c.loop-name.outcome)) in
     record {
-      shown = collects_all c.new.ensures.items c.new-2.ensures.items found (shows_from c.reserve_children.ensures found.shown);
+      shown = λ u so. let found = leaves_none c.loop-name.invariant (no_name_next c.in-None.ensures.steps.0) so (collects_nothing c.loop-name.collected (shown_of c.loop-name.outcome)) in
+          collects_all c.new.ensures.items c.new-2.ensures.items found (shows_from c.reserve_children.ensures found.shown);
       kept = c.loop-name.invariant.kept;
     }

@@ -3,14 +3,14 @@ use Rattle.serde_json.specs.View.{view}
 use Rattle.olk_reports.specs.Evaluations.{shown_of}
 use Rattle.olk_check.proofs.Asked.{only_same}
 use Rattle.olk_evaluate.specs.Wanted.{ShowsMore, wanted}
-use Rattle.olk_evaluate.proofs.Shows.{shows_err, shows_by}
+use Rattle.olk_evaluate.proofs.Shows.{shows_err, shows_of}
 use Rattle.olk_evaluate.proofs.properties.add_child_below.Goals as goal
 
 pub returns-in_err-mark : goal.returns-in_err-mark
 returns-in_err-mark g c = shows_err c.from_residual.ensures.0 (record { path = c.in_err-mark.ensures.refused; only = only_same c.args.ctx.now.validation })
 
 pub returns : goal.returns
-returns g c = shows_by c.add_child-added.ensures.shown
+returns g c = shows_of c.add_child-added.ensures.shown
     (record { path = search rules; only = c.add_child-added.ensures.kept.only })
-    (λ _ more. subst (λ Q. ShowsMore (wanted g.N.Show.tree g.N.Means.means c.args.ctx.now.validation.answer c.args.subschema.now (view c.args.member.1.now) Q ∷ [])
+    (λ u so _ more. subst (λ Q. ShowsMore (wanted g.N.Show.tree g.N.Means.means u c.args.subschema.now (view c.args.member.1.now) Q ∷ [])
     (shown_of c.args.outcome.now) (shown_of c.add_child-added.new.outcome)) c.in_ok-mark.ensures.path more)

@@ -14,16 +14,16 @@ pub loop-name-init : goal.loop-name-init
 loop-name-init g c = leaves_all refl
 
 pub loop-name-preserved : goal.loop-name-preserved
-loop-name-preserved g c = leaves_rest c.loop-name.invariant c.in-Some.ensures.steps (λ _. meets_both c.in_ok-show_member.ensures.shown) c.show_member.ensures.kept
+loop-name-preserved g c = leaves_rest c.loop-name.invariant c.in-Some.ensures.steps (λ u so _. meets_both (c.in_ok-show_member.ensures.shown u so)) c.show_member.ensures.kept
 
 pub returns-in_err-show_member : goal.returns-in_err-show_member
 returns-in_err-show_member g c = shows_err c.from_residual-in_err-show_member.ensures.0 (kept_then c.loop-name.invariant.kept c.show_member.ensures.kept)
 
 pub returns : goal.returns
 returns g c = record {
-  shown = all_met g.N.Show.tree g.N.Means.means c.args.ctx.now.validation.answer c.args.ctx.now.path
+  shown = λ u so. all_met g.N.Show.tree g.N.Means.means u c.args.ctx.now.path
       (ap left_of c.into_iter-name-iterator.ensures.into_iter_gives ∙ c.of-name-items.ensures.by_members)
       (means_of_walk (members_view c.args.members.now.entries) c.args.properties c.into_iter-name-iterator.ensures.into_iter_gives c.of-name-items.ensures.by_names g.N.Means.means)
-      c.requires c.in_ok-make_room.ensures (leaves_none c.loop-name.invariant c.in-None.ensures.steps (meets_nothing (shown_of c.loop-name.outcome)));
+      c.requires c.in_ok-make_room.ensures (leaves_none c.loop-name.invariant c.in-None.ensures.steps so (meets_nothing (shown_of c.loop-name.outcome)));
   kept = c.loop-name.invariant.kept;
 }

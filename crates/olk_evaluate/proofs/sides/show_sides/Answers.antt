@@ -22,18 +22,18 @@ returns g c =
     let found = c.in_ok-collected.collected in
     let ctx = c.args.ctx.now in
     let entries = c.in-Some.members.now.entries in
-    let collects = subst (λ shows. Collects (members_found g.R.RegexEngine.answers g.N.Show.tree g.N.Means.means ctx.validation.answer ctx.path (sides_seen c.args.sides) shows (listed (members_view entries))) found
-    (shown_of c.args.outcome.now) (shown_of c.collect.new.outcome)) c.shows_matches.ensures c.in_ok-collected.ensures.shown in
     let places = subst (λ Q. ShowsMore (places_wanted c.args.beside (names_of found.matched.items) (subject_data c.args.node) (object (members_view entries)) Q)
     (shown_of c.collect.new.outcome) (shown_of c.add_places.new.outcome)) c.collect.ensures.kept.path c.in_ok-add_places.ensures in
-    shows_by c.complete.ensures c.collect.ensures.kept (λ _ completes.
-    beside_shown g.R.RegexEngine.answers g.N.Show.tree g.N.Means.means ctx.validation.answer ctx.path (sides_seen c.args.sides) c.args.beside g.R.RegexEngine.costs (members_view entries) found
-    collects c.requires.expects c.requires.nothing (subject_data c.args.node) c.in-Some.ensures places completes c.law_of_names.ensures)
+    shows_by c.complete.ensures c.collect.ensures.kept (λ u so _ completes.
+    beside_shown g.R.RegexEngine.answers g.N.Show.tree g.N.Means.means u ctx.path (sides_seen c.args.sides) c.args.beside g.R.RegexEngine.costs (members_view entries) found
+    (subst (λ shows. Collects (members_found g.R.RegexEngine.answers g.N.Show.tree g.N.Means.means u ctx.path (sides_seen c.args.sides) shows (listed (members_view entries))) found
+    (shown_of c.args.outcome.now) (shown_of c.collect.new.outcome)) c.shows_matches.ensures (c.in_ok-collected.ensures.shown u so))
+    c.requires.expects c.requires.nothing (subject_data c.args.node) c.in-Some.ensures places completes c.law_of_names.ensures)
 
 pub returns-in_default : goal.returns-in_default
 returns-in_default g c = record {
-  shown = λ P. other_shown g.R.RegexEngine.answers (sides_seen c.args.sides) c.args.ctx.now.validation.answer P (place_of_patterns c.args.beside) c.args.ctx.now.path
+  shown = λ u so P. other_shown g.R.RegexEngine.answers (sides_seen c.args.sides) u P (place_of_patterns c.args.beside) c.args.ctx.now.path
       (required_text (required_of c.args.beside)) (required_place (required_of c.args.beside)) (subject_data c.args.node) c.in_default.ensures c.requires.nothing
-      (has_properties c.args.beside) (has_patterns c.args.beside) (λ n. g.N.Show.tree n c.args.ctx.now.validation.answer) g.R.RegexEngine.costs g.N.Means.means;
+      (has_properties c.args.beside) (has_patterns c.args.beside) (λ n. g.N.Show.tree n u) g.R.RegexEngine.costs g.N.Means.means;
   kept = kept_same;
 }

@@ -15,5 +15,5 @@ returns-in_err-instance_path g c = shows_err c.from_residual-in_err-instance_pat
 
 pub returns : goal.returns
 returns g c = shows_by c.add_child.ensures.added c.show.ensures.kept
-    (λ _ added. shows_one (shown_there (shown_of c.show.new.outcome) c.location.ensures c.show.ensures.kept.path c.in_ok-show.ensures.shown)
+    (λ u so _ added. shows_one (shown_there (shown_of c.show.new.outcome) c.location.ensures c.show.ensures.kept.path (c.in_ok-show.ensures.shown u so))
     (put_at c.location.result.now c.show.new.outcome c.args.outcome.now c.at.ensures (c.in_ok-instance_path.ensures ∙ c.as_str.ensures) added))

@@ -13,14 +13,14 @@ loop-schema-init g c = leaves_all refl
 
 pub loop-schema-preserved : goal.loop-schema-preserved
 loop-schema-preserved g c = leaves_rest c.loop-schema.invariant (next_at c.deref-schema-items.ensures.value c.schema-item.is c.loop-schema-test.true)
-    (λ _. shows_both c.in_ok-add_child.ensures.shown) c.add_child.ensures.kept
+    (λ u so _. shows_both (c.in_ok-add_child.ensures.shown u so)) c.add_child.ensures.kept
 
 pub returns-in_err-add_child : goal.returns-in_err-add_child
 returns-in_err-add_child g c = shows_err c.from_residual-in_err-add_child.ensures.0 (kept_then c.loop-schema.invariant.kept c.add_child.ensures.kept)
 
 pub returns : goal.returns
 returns g c = record {
-  shown = shows_from c.reserve_children.ensures
-      (leaves_none c.loop-schema.invariant (past_end c.deref-schema-items.ensures.value c.loop-schema-test.false) (shows_none (shown_of c.loop-schema.outcome)));
+  shown = λ u so. shows_from c.reserve_children.ensures
+      (leaves_none c.loop-schema.invariant (past_end c.deref-schema-items.ensures.value c.loop-schema-test.false) so (shows_none (shown_of c.loop-schema.outcome)));
   kept = c.loop-schema.invariant.kept;
 }

@@ -6,4 +6,4 @@ pub returns-in_err-reserve_children : goal.returns-in_err-reserve_children
 returns-in_err-reserve_children g c = shows_err c.from_residual.ensures.0 kept_same
 
 pub returns : goal.returns
-returns g c = shows_weaker c.add_child.ensures (λ _. shows_from c.reserve_children.ensures)
+returns g c = shows_weaker c.add_child.ensures (λ u so _. shows_from c.reserve_children.ensures)

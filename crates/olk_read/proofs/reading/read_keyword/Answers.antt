@@ -60,154 +60,103 @@ returns-in-Refused g c =
     let h = rw c.in-Refused.is at c.keyword_for.ensures in
     record { built = tt; refused = refuses_name (world g.L.Leaf.Leaf g.M.Engine.RegexEngine) c.args.name.now (view c.args.value.now) c.args.location.now h.0 h.1 (rw (kind_of_unsupported c.args.name) at c.refuse.ensures) }
 
-pub returns-in-PropertyNames : goal.returns-in-PropertyNames
-returns-in-PropertyNames g c = record {
-  built =
-      rw c.shape_of_names.ensures
-      (names_are_read _ _ (rw c.in-PropertyNames.is at c.keyword_for.ensures));
-  refused = tt;
-}
+pub returns-in-PropertyNames-clause-built : goal.returns-in-PropertyNames-clause-built
+returns-in-PropertyNames-clause-built g c =
+    rw c.shape_of_names.ensures
+    (names_are_read _ _ (rw c.in-PropertyNames.is at c.keyword_for.ensures))
 
-pub returns-in_ok-keys-in-DependentRequired : goal.returns-in_ok-keys-in-DependentRequired
-returns-in_ok-keys-in-DependentRequired g c = record {
-  built =
-      is_read _ for.DependentRequired (rw c.in-DependentRequired.is at c.keyword_for.ensures) refl (
-        refl,
-        c.in_ok-keys-in-DependentRequired.ensures.object,
-        c.in_ok-keys-in-DependentRequired.ensures.keys,
-        name_lists_are_arrays c.args.location.now
-            (members (view c.args.value.now)) c.in_ok-keys-in-DependentRequired.ensures.right,
-        c.in_ok-keys-in-DependentRequired.ensures.names,
-      ) tt
-      (λ i. object_is_right (view c.args.value.now) c.args.location.now c.in_ok-keys-in-DependentRequired.ensures.object i ++ c.in_ok-keys-in-DependentRequired.ensures.right i) refl;
-  refused = tt;
-}
+pub returns-in_ok-keys-in-DependentRequired-clause-built : goal.returns-in_ok-keys-in-DependentRequired-clause-built
+returns-in_ok-keys-in-DependentRequired-clause-built g c =
+    is_read _ for.DependentRequired (rw c.in-DependentRequired.is at c.keyword_for.ensures) refl (
+      refl,
+      c.in_ok-keys-in-DependentRequired.ensures.object,
+      c.in_ok-keys-in-DependentRequired.ensures.keys,
+      name_lists_are_arrays c.args.location.now
+          (members (view c.args.value.now)) c.in_ok-keys-in-DependentRequired.ensures.right,
+      c.in_ok-keys-in-DependentRequired.ensures.names,
+    ) tt
+    (λ i. object_is_right (view c.args.value.now) c.args.location.now c.in_ok-keys-in-DependentRequired.ensures.object i ++ c.in_ok-keys-in-DependentRequired.ensures.right i) refl
 
-pub returns-in_ok-keys-in-Dependencies : goal.returns-in_ok-keys-in-Dependencies
-returns-in_ok-keys-in-Dependencies g c = record {
-  built =
-      is_read _ for.Dependencies (rw c.in-Dependencies.is at c.keyword_for.ensures) refl
-      (refl, c.in_ok-keys-in-Dependencies.ensures.object, c.in_ok-keys-in-Dependencies.ensures.keys, c.in_ok-keys-in-Dependencies.ensures.lists) tt
-      (λ i. object_is_right (view c.args.value.now) c.args.location.now c.in_ok-keys-in-Dependencies.ensures.object i ++ c.in_ok-keys-in-Dependencies.ensures.texts i) refl;
-  refused = tt;
-}
+pub returns-in_ok-keys-in-Dependencies-clause-built : goal.returns-in_ok-keys-in-Dependencies-clause-built
+returns-in_ok-keys-in-Dependencies-clause-built g c =
+    is_read _ for.Dependencies (rw c.in-Dependencies.is at c.keyword_for.ensures) refl
+    (refl, c.in_ok-keys-in-Dependencies.ensures.object, c.in_ok-keys-in-Dependencies.ensures.keys, c.in_ok-keys-in-Dependencies.ensures.lists) tt
+    (λ i. object_is_right (view c.args.value.now) c.args.location.now c.in_ok-keys-in-Dependencies.ensures.object i ++ c.in_ok-keys-in-Dependencies.ensures.texts i) refl
 
-pub returns-in_ok-keys-in-PropertyDependencies : goal.returns-in_ok-keys-in-PropertyDependencies
-returns-in_ok-keys-in-PropertyDependencies g c = record {
-  built =
-      is_read _ for.PropertyDependencies (rw c.in-PropertyDependencies.is at c.keyword_for.ensures) refl
-      (refl, c.in_ok-keys-in-PropertyDependencies.ensures.object, c.in_ok-keys-in-PropertyDependencies.ensures.keys, c.in_ok-keys-in-PropertyDependencies.ensures.texts) tt
-      (λ i. object_is_right (view c.args.value.now) c.args.location.now c.in_ok-keys-in-PropertyDependencies.ensures.object i ++ c.in_ok-keys-in-PropertyDependencies.ensures.objects i) refl;
-  refused = tt;
-}
+pub returns-in_ok-keys-in-PropertyDependencies-clause-built : goal.returns-in_ok-keys-in-PropertyDependencies-clause-built
+returns-in_ok-keys-in-PropertyDependencies-clause-built g c =
+    is_read _ for.PropertyDependencies (rw c.in-PropertyDependencies.is at c.keyword_for.ensures) refl
+    (refl, c.in_ok-keys-in-PropertyDependencies.ensures.object, c.in_ok-keys-in-PropertyDependencies.ensures.keys, c.in_ok-keys-in-PropertyDependencies.ensures.texts) tt
+    (λ i. object_is_right (view c.args.value.now) c.args.location.now c.in_ok-keys-in-PropertyDependencies.ensures.object i ++ c.in_ok-keys-in-PropertyDependencies.ensures.objects i) refl
 
-pub returns-in-If : goal.returns-in-If
-returns-in-If g c = record {
-  built =
-      rw c.shape_beside.ensures
-      (conditional_is_read _ for.If shape.If _ (rw c.in-If.is at c.keyword_for.ensures) refl refl (λ e. e) refl refl refl);
-  refused = tt;
-}
+pub returns-in-If-clause-built : goal.returns-in-If-clause-built
+returns-in-If-clause-built g c =
+    rw c.shape_beside.ensures
+    (conditional_is_read _ for.If shape.If _ (rw c.in-If.is at c.keyword_for.ensures) refl refl (λ e. e) refl refl refl)
 
-pub returns-in-Then : goal.returns-in-Then
-returns-in-Then g c = record {
-  built =
-      rw c.shape_beside-in-Then.ensures
-      (conditional_is_read _ for.Then shape.Then _ (rw c.in-Then.is at c.keyword_for.ensures) refl refl (λ e. e) refl refl refl);
-  refused = tt;
-}
+pub returns-in-Then-clause-built : goal.returns-in-Then-clause-built
+returns-in-Then-clause-built g c =
+    rw c.shape_beside-in-Then.ensures
+    (conditional_is_read _ for.Then shape.Then _ (rw c.in-Then.is at c.keyword_for.ensures) refl refl (λ e. e) refl refl refl)
 
-pub returns-in-Else : goal.returns-in-Else
-returns-in-Else g c = record {
-  built =
-      rw c.shape_beside-in-Else.ensures
-      (conditional_is_read _ for.Else shape.Else _ (rw c.in-Else.is at c.keyword_for.ensures) refl refl (λ e. e) refl refl refl);
-  refused = tt;
-}
+pub returns-in-Else-clause-built : goal.returns-in-Else-clause-built
+returns-in-Else-clause-built g c =
+    rw c.shape_beside-in-Else.ensures
+    (conditional_is_read _ for.Else shape.Else _ (rw c.in-Else.is at c.keyword_for.ensures) refl refl (λ e. e) refl refl refl)
 
-pub returns-in_ok-read_other-in-Other : goal.returns-in_ok-read_other-in-Other
-returns-in_ok-read_other-in-Other g c = record {
-  built = c.in_ok-read_other-in-Other.ensures.built (known c.args.neighbours);
-  refused = tt;
-}
+pub returns-in_ok-read_other-in-Other-clause-built : goal.returns-in_ok-read_other-in-Other-clause-built
+returns-in_ok-read_other-in-Other-clause-built g c = c.in_ok-read_other-in-Other.ensures.built (known c.args.neighbours)
 
-pub returns-in_ok-names_of_object-in-Properties : goal.returns-in_ok-names_of_object-in-Properties
-returns-in_ok-names_of_object-in-Properties g c = record {
-  built =
-      is_read _ for.Properties (rw c.in-Properties.is at c.keyword_for.ensures) refl
-      (refl, c.in_ok-names_of_object-in-Properties.ensures.object, c.in_ok-names_of_object-in-Properties.ensures.names) tt
-      (object_is_right _ _ c.in_ok-names_of_object-in-Properties.ensures.object) refl;
-  refused = tt;
-}
+pub returns-in_ok-names_of_object-in-Properties-clause-built : goal.returns-in_ok-names_of_object-in-Properties-clause-built
+returns-in_ok-names_of_object-in-Properties-clause-built g c =
+    is_read _ for.Properties (rw c.in-Properties.is at c.keyword_for.ensures) refl
+    (refl, c.in_ok-names_of_object-in-Properties.ensures.object, c.in_ok-names_of_object-in-Properties.ensures.names) tt
+    (object_is_right _ _ c.in_ok-names_of_object-in-Properties.ensures.object) refl
 
-pub returns-in_ok-names_of_object-in-DependentSchemas : goal.returns-in_ok-names_of_object-in-DependentSchemas
-returns-in_ok-names_of_object-in-DependentSchemas g c = record {
-  built =
-      is_read _ for.DependentSchemas (rw c.in-DependentSchemas.is at c.keyword_for.ensures) refl
-      (refl, c.in_ok-names_of_object-in-DependentSchemas.ensures.object, c.in_ok-names_of_object-in-DependentSchemas.ensures.names) tt
-      (object_is_right _ _ c.in_ok-names_of_object-in-DependentSchemas.ensures.object) refl;
-  refused = tt;
-}
+pub returns-in_ok-names_of_object-in-DependentSchemas-clause-built : goal.returns-in_ok-names_of_object-in-DependentSchemas-clause-built
+returns-in_ok-names_of_object-in-DependentSchemas-clause-built g c =
+    is_read _ for.DependentSchemas (rw c.in-DependentSchemas.is at c.keyword_for.ensures) refl
+    (refl, c.in_ok-names_of_object-in-DependentSchemas.ensures.object, c.in_ok-names_of_object-in-DependentSchemas.ensures.names) tt
+    (object_is_right _ _ c.in_ok-names_of_object-in-DependentSchemas.ensures.object) refl
 
-pub returns-in_ok-texts_of_array-in-Required : goal.returns-in_ok-texts_of_array-in-Required
-returns-in_ok-texts_of_array-in-Required g c = record {
-  built =
-      is_read _ for.Required (rw c.in-Required.is at c.keyword_for.ensures) refl (
-        refl,
-        c.in_ok-texts_of_array-in-Required.ensures.array,
-        c.in_ok-texts_of_array-in-Required.ensures.names,
-      ) tt (λ i. array_is_right (view c.args.value.now) c.args.location.now c.in_ok-texts_of_array-in-Required.ensures.array i ++ c.in_ok-texts_of_array-in-Required.ensures.texts i) refl;
-  refused = tt;
-}
+pub returns-in_ok-texts_of_array-in-Required-clause-built : goal.returns-in_ok-texts_of_array-in-Required-clause-built
+returns-in_ok-texts_of_array-in-Required-clause-built g c =
+    is_read _ for.Required (rw c.in-Required.is at c.keyword_for.ensures) refl (
+      refl,
+      c.in_ok-texts_of_array-in-Required.ensures.array,
+      c.in_ok-texts_of_array-in-Required.ensures.names,
+    ) tt (λ i. array_is_right (view c.args.value.now) c.args.location.now c.in_ok-texts_of_array-in-Required.ensures.array i ++ c.in_ok-texts_of_array-in-Required.ensures.texts i) refl
 
-pub returns-in_ok-shape_of_branches-in-AllOf : goal.returns-in_ok-shape_of_branches-in-AllOf
-returns-in_ok-shape_of_branches-in-AllOf g c = record {
-  built =
-      rw c.in_ok-shape_of_branches-in-AllOf.ensures.same
-      (is_read _ for.AllOf (rw c.in-AllOf.is at c.keyword_for.ensures) refl
-      (refl, c.in_ok-shape_of_branches-in-AllOf.ensures.array) tt (array_is_right _ _ c.in_ok-shape_of_branches-in-AllOf.ensures.array) refl);
-  refused = tt;
-}
+pub returns-in_ok-shape_of_branches-in-AllOf-clause-built : goal.returns-in_ok-shape_of_branches-in-AllOf-clause-built
+returns-in_ok-shape_of_branches-in-AllOf-clause-built g c =
+    rw c.in_ok-shape_of_branches-in-AllOf.ensures.same
+    (is_read _ for.AllOf (rw c.in-AllOf.is at c.keyword_for.ensures) refl
+    (refl, c.in_ok-shape_of_branches-in-AllOf.ensures.array) tt (array_is_right _ _ c.in_ok-shape_of_branches-in-AllOf.ensures.array) refl)
 
-pub returns-in_ok-shape_of_branches-in-AnyOf : goal.returns-in_ok-shape_of_branches-in-AnyOf
-returns-in_ok-shape_of_branches-in-AnyOf g c = record {
-  built =
-      rw c.in_ok-shape_of_branches-in-AnyOf.ensures.same
-      (is_read _ for.AnyOf (rw c.in-AnyOf.is at c.keyword_for.ensures) refl
-      (refl, c.in_ok-shape_of_branches-in-AnyOf.ensures.array) tt (array_is_right _ _ c.in_ok-shape_of_branches-in-AnyOf.ensures.array) refl);
-  refused = tt;
-}
+pub returns-in_ok-shape_of_branches-in-AnyOf-clause-built : goal.returns-in_ok-shape_of_branches-in-AnyOf-clause-built
+returns-in_ok-shape_of_branches-in-AnyOf-clause-built g c =
+    rw c.in_ok-shape_of_branches-in-AnyOf.ensures.same
+    (is_read _ for.AnyOf (rw c.in-AnyOf.is at c.keyword_for.ensures) refl
+    (refl, c.in_ok-shape_of_branches-in-AnyOf.ensures.array) tt (array_is_right _ _ c.in_ok-shape_of_branches-in-AnyOf.ensures.array) refl)
 
-pub returns-in_ok-shape_of_branches-in-OneOf : goal.returns-in_ok-shape_of_branches-in-OneOf
-returns-in_ok-shape_of_branches-in-OneOf g c = record {
-  built =
-      rw c.in_ok-shape_of_branches-in-OneOf.ensures.same
-      (is_read _ for.OneOf (rw c.in-OneOf.is at c.keyword_for.ensures) refl
-      (refl, c.in_ok-shape_of_branches-in-OneOf.ensures.array) tt (array_is_right _ _ c.in_ok-shape_of_branches-in-OneOf.ensures.array) refl);
-  refused = tt;
-}
+pub returns-in_ok-shape_of_branches-in-OneOf-clause-built : goal.returns-in_ok-shape_of_branches-in-OneOf-clause-built
+returns-in_ok-shape_of_branches-in-OneOf-clause-built g c =
+    rw c.in_ok-shape_of_branches-in-OneOf.ensures.same
+    (is_read _ for.OneOf (rw c.in-OneOf.is at c.keyword_for.ensures) refl
+    (refl, c.in_ok-shape_of_branches-in-OneOf.ensures.array) tt (array_is_right _ _ c.in_ok-shape_of_branches-in-OneOf.ensures.array) refl)
 
-pub returns-in_ok-shape_of_others-in-AdditionalProperties : goal.returns-in_ok-shape_of_others-in-AdditionalProperties
-returns-in_ok-shape_of_others-in-AdditionalProperties g c = record {
-  built =
-      rw c.in_ok-shape_of_others-in-AdditionalProperties.ensures.shape
-      (others_are_read _ _ (rw c.in-AdditionalProperties.is at c.keyword_for.ensures) c.in_ok-shape_of_others-in-AdditionalProperties.ensures.rule);
-  refused = tt;
-}
+pub returns-in_ok-shape_of_others-in-AdditionalProperties-clause-built : goal.returns-in_ok-shape_of_others-in-AdditionalProperties-clause-built
+returns-in_ok-shape_of_others-in-AdditionalProperties-clause-built g c =
+    rw c.in_ok-shape_of_others-in-AdditionalProperties.ensures.shape
+    (others_are_read _ _ (rw c.in-AdditionalProperties.is at c.keyword_for.ensures) c.in_ok-shape_of_others-in-AdditionalProperties.ensures.rule)
 
-pub returns-in_ok-clone-in-Not : goal.returns-in_ok-clone-in-Not
-returns-in_ok-clone-in-Not g c = record {
-  built =
-      is_read _ for.Not (rw c.in-Not.is at c.keyword_for.ensures) refl (refl, c.in_ok-clone-in-Not.ensures.cases) tt
-      refl refl;
-  refused = tt;
-}
+pub returns-in_ok-clone-in-Not-clause-built : goal.returns-in_ok-clone-in-Not-clause-built
+returns-in_ok-clone-in-Not-clause-built g c =
+    is_read _ for.Not (rw c.in-Not.is at c.keyword_for.ensures) refl (refl, c.in_ok-clone-in-Not.ensures.cases) tt
+    refl refl
 
-pub returns-in_ok-shape_of_patterns-in-PatternProperties : goal.returns-in_ok-shape_of_patterns-in-PatternProperties
-returns-in_ok-shape_of_patterns-in-PatternProperties g c = record {
-  built = rw (rw c.in-PatternProperties.is at c.keyword_for.ensures) (c.in_ok-shape_of_patterns-in-PatternProperties.ensures.built (known c.args.neighbours));
-  refused = tt;
-}
+pub returns-in_ok-shape_of_patterns-in-PatternProperties-clause-built : goal.returns-in_ok-shape_of_patterns-in-PatternProperties-clause-built
+returns-in_ok-shape_of_patterns-in-PatternProperties-clause-built g c = rw (rw c.in-PatternProperties.is at c.keyword_for.ensures) (c.in_ok-shape_of_patterns-in-PatternProperties.ensures.built (known c.args.neighbours))
 
 pub returns-in_err-shape_of_patterns-in-PatternProperties-clause-refused : goal.returns-in_err-shape_of_patterns-in-PatternProperties-clause-refused
 returns-in_err-shape_of_patterns-in-PatternProperties-clause-refused g c =

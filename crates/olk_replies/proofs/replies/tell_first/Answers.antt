@@ -12,4 +12,5 @@ returns g c =
     let same = ap (λ (a : Asking). a.answer) c.new-ctx.ensures in
     let ok = rw same at (c.validate-found.ensures.ok q.schema c.requires.stands) in
     let invalid = rw same at (c.validate-found.ensures.invalid q.schema c.requires.stands) in
-    IfOk-weaker c.first_text.result _ _ (λ answer is plain. found_is_first (world g.K.Leaf g.R.RegexEngine) q plain c.validate-found.result answer.items ok invalid is) c.first_text.ensures
+    let first = rw same at c.validate-found.ensures.first in
+    IfOk-weaker c.first_text.result _ _ (λ answer is plain. found_is_first (world g.K.Leaf g.R.RegexEngine) q plain _ c.validate-found.result answer.items ok invalid first is) c.first_text.ensures

@@ -6,5 +6,5 @@ use Rattle.olk_errors.proofs.Sinks.{walks_same, walks_alone}
 use Rattle.olk_errors.proofs.additional_properties.AdditionalPropertiesFalseWalk.walk.Goals as goal
 
 pub returns : goal.returns
-returns c = walks_same (no_members_held c.args._ctx.now.answer c.args.self.now (subject_data c.args.node) (path_at c.args.trail.now))
-    (walks_alone (only_same c.args._ctx.now) c.report_first.ensures)
+returns c = walks_same (λ u so. no_members_held u c.args.self.now (subject_data c.args.node) (path_at c.args.trail.now))
+    (walks_alone (only_same c.args._ctx.now) (λ u. c.report_first.ensures))

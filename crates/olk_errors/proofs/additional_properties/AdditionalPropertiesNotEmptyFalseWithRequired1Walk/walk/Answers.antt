@@ -10,7 +10,7 @@ use Rattle.olk_errors.proofs.additional_properties.AdditionalPropertiesNotEmptyF
 
 pub returns-in_default : goal.returns-in_default
 returns-in_default g c = walks_past (only_same c.args.ctx.now)
-    (held_unasked no_regex_answers no_regex_costs g.N.Means.means g.N.Reports.first g.N.Reports.report c.args.ctx.now.answer (with_required1_holds c.args.self.now)
+    (λ u so. held_unasked no_regex_answers no_regex_costs g.N.Means.means g.N.Reports.first g.N.Reports.report u (with_required1_holds c.args.self.now)
     (subject_data c.args.node) (path_at c.args.trail.now) refl c.in_default.ensures)
 
 pub returns-in_err-walk_members : goal.returns-in_err-walk_members
@@ -20,4 +20,4 @@ returns-in_err-walk_members g c = stopped_before_wanted no_regex_answers no_rege
 pub returns : goal.returns
 returns g c = then_wanted no_regex_answers no_regex_costs g.N.Means.means g.N.Reports.first g.N.Reports.report (subject_data c.args.node) (path_at c.args.trail.now)
     (with_required1_holds c.args.self.now) c.sides-sides.ensures refl c.in_ok-walk_members.ensures
-    (ends_same (ap (λ n. of_names (n ∷ []) (subject_data c.args.node) c.args.self.now.required_location (path_at c.args.trail.now)) c.as_str-name.ensures.value) c.report_if_missing.ensures)
+    (λ u. ends_same (ap (λ n. of_names (n ∷ []) (subject_data c.args.node) c.args.self.now.required_location (path_at c.args.trail.now)) c.as_str-name.ensures.value) c.report_if_missing.ensures)

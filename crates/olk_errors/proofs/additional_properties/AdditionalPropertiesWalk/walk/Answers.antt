@@ -5,5 +5,5 @@ use Rattle.olk_errors.proofs.Sinks.{walks_same}
 use Rattle.olk_errors.proofs.additional_properties.AdditionalPropertiesWalk.walk.Goals as goal
 
 pub returns : goal.returns
-returns g c = walks_same (values_held g.N.Means.means g.N.Reports.first g.N.Reports.report c.args.ctx.now.answer c.args.self.now (subject_data c.args.node) (path_at c.args.trail.now))
+returns g c = walks_same (λ u so. values_held g.N.Means.means g.N.Reports.first g.N.Reports.report u c.args.self.now (subject_data c.args.node) (path_at c.args.trail.now))
     c.walk_values.ensures

@@ -1,17 +1,11 @@
-use Rattle.std.proofs.Common.{sym}
 use Rattle.olk_base.specs.Nodes.{subject_data}
 use Rattle.olk_paths.specs.Trails.{path_at}
 use Rattle.olk_errors.proofs.If.{past_else, walks_else}
-use Rattle.olk_errors.proofs.Sinks.{walks_asked}
 use Rattle.olk_errors.specs.Outcomes.{of_node}
 use Rattle.olk_errors.proofs.if_.IfElseWalk.walk.Goals as goal
 
 pub returns-then-accepts : goal.returns-then-accepts
-returns-then-accepts g c = past_else (of_node g.N.Means.means g.N.Reports.first g.N.Reports.report c.args.ctx.now.answer c.args.self.now.else_schema (subject_data c.args.node)
-    (path_at c.args.trail.now)) c.if-accepts.ensures.only (sym c.if-accepts.ensures.verdict)
+returns-then-accepts g c = past_else (λ u. of_node g.N.Means.means g.N.Reports.first g.N.Reports.report u c.args.self.now.else_schema (subject_data c.args.node) (path_at c.args.trail.now)) c.if-accepts.ensures
 
 pub returns : goal.returns
-returns g c = walks_else (of_node g.N.Means.means g.N.Reports.first g.N.Reports.report c.args.ctx.now.answer c.args.self.now.else_schema (subject_data c.args.node)
-    (path_at c.args.trail.now)) (sym c.if-accepts.ensures.verdict)
-    (walks_asked (λ u. of_node g.N.Means.means g.N.Reports.first g.N.Reports.report u c.args.self.now.else_schema (subject_data c.args.node) (path_at c.args.trail.now))
-    c.if-accepts.ensures.only c.walk.ensures)
+returns g c = walks_else (λ u. of_node g.N.Means.means g.N.Reports.first g.N.Reports.report u c.args.self.now.else_schema (subject_data c.args.node) (path_at c.args.trail.now)) c.if-accepts.ensures c.walk.ensures

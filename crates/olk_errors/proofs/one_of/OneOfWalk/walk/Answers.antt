@@ -7,9 +7,9 @@ pub returns-in_err-kind : goal.returns-in_err-kind
 returns-in_err-kind g c = walks_nowhere c.from_residual.ensures.0 c.one_of_kind.ensures.context
 
 pub returns-in-Some : goal.returns-in-Some
-returns-in-Some g c = walks_own c.one_of_kind.ensures.context
-    (one_of_own _ _ _ c.args.self.now.location _ c.in-Some.is c.in_ok-kind.ensures.kind c.as_str.ensures) c.report.ensures
+returns-in-Some g c = walks_own c.one_of_kind.ensures.context c.report.ensures
+    (λ u so. one_of_own _ _ _ c.args.self.now.location _ c.in-Some.is (c.in_ok-kind.ensures.kind u so) c.as_str.ensures)
 
 pub returns-in-None : goal.returns-in-None
 returns-in-None g c = walks_past c.one_of_kind.ensures.context
-    (one_of_nothing _ _ _ c.args.self.now.location _ c.in-None.is c.in_ok-kind.ensures.kind)
+    (λ u so. one_of_nothing _ _ _ c.args.self.now.location _ c.in-None.is (c.in_ok-kind.ensures.kind u so))

@@ -15,31 +15,29 @@ use Rattle.olk_errors.proofs.properties.SmallPropertiesWithRequired2Walk.walk.Go
 
 pub returns-in_err-report_if_missing-in-Some : goal.returns-in_err-report_if_missing-in-Some
 returns-in_err-report_if_missing-in-Some g c =
-    let members = of_properties g.N.Means.means g.N.Reports.first g.N.Reports.report c.args.ctx.now.answer (named c.args.self.now.properties) in
-    let found = walks_alone (only_same c.args.ctx.now) c.in_err-report_if_missing-in-Some.ensures in
-    walks_same (two_then_members (λ v. members v (path_at c.args.trail.now)) (path_at c.args.trail.now) c.as_str.ensures.value (λ i. string_bytes c.args.self.now.second) refl
+    walks_same (λ u so. two_then_members (λ v. of_properties g.N.Means.means g.N.Reports.first g.N.Reports.report u (named c.args.self.now.properties) v (path_at c.args.trail.now)) (path_at c.args.trail.now) c.as_str.ensures.value (λ i. string_bytes c.args.self.now.second) refl
     (object_is (subject_data c.args.node) (members_view c.in-Some.members.now.entries) c.in-Some.ensures))
-    (walks_left c.from_residual.ensures.0 (walks_before (members (object (members_view c.in-Some.members.now.entries)) (path_at c.args.trail.now))
-    (walks_before (of_names (string_bytes c.args.self.now.second ∷ []) (subject_data c.args.node) c.args.self.now.required_location (path_at c.args.trail.now)) found)))
+    (walks_left c.from_residual.ensures.0 (walks_before (λ u. of_properties g.N.Means.means g.N.Reports.first g.N.Reports.report u (named c.args.self.now.properties) (object (members_view c.in-Some.members.now.entries)) (path_at c.args.trail.now))
+    (walks_before (λ u. of_names (string_bytes c.args.self.now.second ∷ []) (subject_data c.args.node) c.args.self.now.required_location (path_at c.args.trail.now))
+    (walks_alone (only_same c.args.ctx.now) (λ u. c.in_err-report_if_missing-in-Some.ensures)))))
 
 pub returns-in_err-report_if_missing-in-Some-2 : goal.returns-in_err-report_if_missing-in-Some-2
 returns-in_err-report_if_missing-in-Some-2 g c =
-    let members = of_properties g.N.Means.means g.N.Reports.first g.N.Reports.report c.args.ctx.now.answer (named c.args.self.now.properties) in
-    let found = walks_after c.in_ok-report_if_missing-in-Some.ensures.so (only_same c.args.ctx.now)
-    (walks_alone (only_same c.args.ctx.now) c.in_err-report_if_missing-in-Some-2.ensures) in
-    walks_same (two_then_members (λ v. members v (path_at c.args.trail.now)) (path_at c.args.trail.now) c.as_str.ensures.value c.as_str-in-Some.ensures.value refl
+    walks_same (λ u so. two_then_members (λ v. of_properties g.N.Means.means g.N.Reports.first g.N.Reports.report u (named c.args.self.now.properties) v (path_at c.args.trail.now)) (path_at c.args.trail.now) c.as_str.ensures.value c.as_str-in-Some.ensures.value refl
     (object_is (subject_data c.args.node) (members_view c.in-Some.members.now.entries) c.in-Some.ensures))
     (walks_left c.from_residual-in_err-report_if_missing-in-Some-2.ensures.0
-    (walks_before (members (object (members_view c.in-Some.members.now.entries)) (path_at c.args.trail.now)) found))
+    (walks_before (λ u. of_properties g.N.Means.means g.N.Reports.first g.N.Reports.report u (named c.args.self.now.properties) (object (members_view c.in-Some.members.now.entries)) (path_at c.args.trail.now))
+    (walks_after (λ u so. c.in_ok-report_if_missing-in-Some.ensures.so) (only_same c.args.ctx.now)
+    (walks_alone (only_same c.args.ctx.now) (λ u. c.in_err-report_if_missing-in-Some-2.ensures)))))
 
 pub returns-in_ok-report_if_missing-in-Some-2 : goal.returns-in_ok-report_if_missing-in-Some-2
 returns-in_ok-report_if_missing-in-Some-2 g c =
-    let members = of_properties g.N.Means.means g.N.Reports.first g.N.Reports.report c.args.ctx.now.answer (named c.args.self.now.properties) in
-    walks_same (two_then_members (λ v. members v (path_at c.args.trail.now)) (path_at c.args.trail.now) c.as_str.ensures.value c.as_str-in-Some.ensures.value refl
+    walks_same (λ u so. two_then_members (λ v. of_properties g.N.Means.means g.N.Reports.first g.N.Reports.report u (named c.args.self.now.properties) v (path_at c.args.trail.now)) (path_at c.args.trail.now) c.as_str.ensures.value c.as_str-in-Some.ensures.value refl
     (object_is (subject_data c.args.node) (members_view c.in-Some.members.now.entries) c.in-Some.ensures))
-    (walks_after (goes_after c.in_ok-report_if_missing-in-Some.ensures.so c.in_ok-report_if_missing-in-Some-2.ensures.so) (only_same c.args.ctx.now) (walks_same (λ i. of_properties g.N.Means.means g.N.Reports.first g.N.Reports.report c.args.ctx.now.answer (c.entries.ensures i) (object (members_view c.in-Some.members.now.entries)) (path_at c.args.trail.now)) c.walk_members.ensures))
+    (walks_after (λ u so. goes_after c.in_ok-report_if_missing-in-Some.ensures.so c.in_ok-report_if_missing-in-Some-2.ensures.so) (only_same c.args.ctx.now)
+    (walks_same (λ u so i. of_properties g.N.Means.means g.N.Reports.first g.N.Reports.report u (c.entries.ensures i) (object (members_view c.in-Some.members.now.entries)) (path_at c.args.trail.now)) c.walk_members.ensures))
 
 pub returns-in-None : goal.returns-in-None
-returns-in-None g c = walks_past (only_same c.args.ctx.now) (λ i. after
+returns-in-None g c = walks_past (only_same c.args.ctx.now) (λ u so i. after
     (other_lacks_nothing (two_texts c.args.self.now.first c.args.self.now.second) _ c.args.self.now.required_location (path_at c.args.trail.now) c.in-None.ensures i)
-    (other_unasked g.N.Means.means g.N.Reports.first g.N.Reports.report c.args.ctx.now.answer (named c.args.self.now.properties) (path_at c.args.trail.now) _ c.in-None.ensures i))
+    (other_unasked g.N.Means.means g.N.Reports.first g.N.Reports.report u (named c.args.self.now.properties) (path_at c.args.trail.now) _ c.in-None.ensures i))

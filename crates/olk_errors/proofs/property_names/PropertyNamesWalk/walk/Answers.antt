@@ -6,5 +6,5 @@ use Rattle.olk_errors.proofs.Sinks.{walks_past}
 use Rattle.olk_errors.proofs.property_names.PropertyNamesWalk.walk.Goals as goal
 
 pub returns-in-None : goal.returns-in-None
-returns-in-None g c = walks_past (only_same c.args.ctx.now) (no_names _
-    _ g.N.Means.means g.N.Reports.first g.N.Reports.report c.args.ctx.now.answer c.args.self.now.node (no_members (subject_data c.args.node) c.in-None.ensures))
+returns-in-None g c = walks_past (only_same c.args.ctx.now) (λ u so. no_names _
+    _ g.N.Means.means g.N.Reports.first g.N.Reports.report u c.args.self.now.node (no_members (subject_data c.args.node) c.in-None.ensures))

@@ -7,5 +7,5 @@ use Rattle.olk_evaluate.proofs.all_of.SingleValueAllOfShow.show.Goals as goal
 
 pub returns : goal.returns
 returns g c = shows_weaker c.show_one.ensures
-    (λ _ one. shown_as (shows_each g.N.Show.tree g.N.Means.means c.args.ctx.now.validation.answer (subject_data c.args.node) c.args.ctx.now.path (c.args.self.now.node ∷ []) c.requires one c.args.self.now.location)
-    refl (and-true ((g.N.Means.means c.args.self.now.node (subject_data c.args.node)).accepts c.args.ctx.now.validation.answer)))
+    (λ u so _ one. shown_as (shows_each g.N.Show.tree g.N.Means.means u (subject_data c.args.node) c.args.ctx.now.path (c.args.self.now.node ∷ []) c.requires one c.args.self.now.location)
+    refl (and-true ((g.N.Means.means c.args.self.now.node (subject_data c.args.node)).accepts u)))

@@ -8,7 +8,7 @@ returns-in_err-show_accepting g c = shows_err c.from_residual.ensures.0 c.show_a
 
 pub returns : goal.returns
 returns g c = record {
-  shown = any_shown g.N.Show.tree g.N.Means.means c.args.ctx.now.validation.answer (subject_data c.args.node) c.args.self.now.location c.args.ctx.now.path c.args.self.now.schemas.items
-      c.in_ok-show_accepting.ensures.shown;
+  shown = λ u so. any_shown g.N.Show.tree g.N.Means.means u (subject_data c.args.node) c.args.self.now.location c.args.ctx.now.path c.args.self.now.schemas.items
+      (c.in_ok-show_accepting.ensures.shown u so);
   kept = c.show_accepting.ensures.kept;
 }

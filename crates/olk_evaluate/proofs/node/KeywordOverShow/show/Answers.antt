@@ -7,7 +7,7 @@ use Rattle.olk_evaluate.proofs.node.KeywordOverShow.show.Goals as goal
 
 pub returns-in-Leaf : goal.returns-in-Leaf
 unfolding answers_of
-returns-in-Leaf g c = rw c.in-Leaf.is (shows_by c.show_leaf.ensures kept_same (λ _ texts.
+returns-in-Leaf g c = rw c.in-Leaf.is (shows_by c.show_leaf.ensures kept_same (λ u so _ texts.
     leaf_shown (g.K.Leaf.keyword_of c.in-Leaf.leaf) c.in-Leaf.field-0 c.args.ctx.now.path (subject_data c.args.node) (g.K.Leaf.finds c.in-Leaf.leaf (subject_data c.args.node)) texts))
 
 pub returns-in-AdditionalProperties : goal.returns-in-AdditionalProperties

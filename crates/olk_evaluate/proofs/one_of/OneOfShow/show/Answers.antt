@@ -14,13 +14,13 @@ returns-in_err-message g c = shows_err c.from_residual-in_err-message.ensures.0 
 
 pub returns-then-count-lt2 : goal.returns-then-count-lt2
 returns-then-count-lt2 g c = record {
-  shown = none_or_one g.N.Show.tree g.N.Means.means c.args.ctx.now.validation.answer (subject_data c.args.node) c.args.self.now.location c.args.ctx.now.path c.args.self.now.schemas.items
-      c.in_ok-count.ensures.shown c.if-count-lt2.true;
+  shown = λ u so. none_or_one g.N.Show.tree g.N.Means.means u (subject_data c.args.node) c.args.self.now.location c.args.ctx.now.path c.args.self.now.schemas.items
+      (c.in_ok-count.ensures.shown u so) c.if-count-lt2.true;
   kept = c.show_accepting.ensures.kept;
 }
 
 pub returns : goal.returns
-returns g c = shows_by c.mark_errored.ensures.ok c.show_accepting.ensures.kept (λ _ told.
-    two_or_more g.N.Show.tree g.N.Means.means c.args.ctx.now.validation.answer (subject_data c.args.node) c.args.self.now.location c.args.ctx.now.path c.args.self.now.schemas.items
-    c.in_ok-count.ensures.shown c.if-count-lt2.false (told ∙ ap (λ d. errored d (shown_of c.show_accepting.new.outcome))
+returns g c = shows_by c.mark_errored.ensures.ok c.show_accepting.ensures.kept (λ u so _ told.
+    two_or_more g.N.Show.tree g.N.Means.means u (subject_data c.args.node) c.args.self.now.location c.args.ctx.now.path c.args.self.now.schemas.items
+    (c.in_ok-count.ensures.shown u so) c.if-count-lt2.false (told ∙ ap (λ d. errored d (shown_of c.show_accepting.new.outcome))
     (c.new.ensures ∙ ap (λ message. (several_accept.0, message, false)) c.in_ok-message.ensures.ok)))

@@ -5,4 +5,4 @@ use Rattle.olk_evaluate.proofs.one_of.SingleOneOfShow.show.Goals as goal
 
 pub returns : goal.returns
 returns g c = shows_weaker c.show_one.ensures
-    (λ _ one. one_of_shown g.N.Show.tree g.N.Means.means c.args.ctx.now.validation.answer (subject_data c.args.node) c.args.self.now.location c.args.ctx.now.path c.args.self.now.node c.requires one)
+    (λ u so _ one. one_of_shown g.N.Show.tree g.N.Means.means u (subject_data c.args.node) c.args.self.now.location c.args.ctx.now.path c.args.self.now.node c.requires one)

@@ -9,10 +9,9 @@ use Rattle.olk_evaluate.proofs.properties.BigPropertiesShow.show.Goals as goal
 
 pub returns : goal.returns
 returns g c =
-    let u = c.args.ctx.now.validation.answer in
     let v = subject_data c.args.node in
     let Q = c.args.ctx.now.path in
     let P = c.args.self.now.location in
-    shows_weaker c.show_properties.ensures (λ _ shown.
+    shows_weaker c.show_properties.ensures (λ u so _ shown.
     subst (λ es. IsShown (properties_tree (λ n. g.N.Show.tree n u) v Q P es [], (properties_mean g.N.Means.means es v).accepts u) (node_at P Q (shown_of c.show_properties.new.outcome)))
     c.entries.ensures (shown P))

@@ -20,16 +20,16 @@ pub returns-in_ok-show_declared_members-in-Some : goal.returns-in_ok-show_declar
 returns-in_ok-show_declared_members-in-Some g c =
     let required = two_texts c.args.self.now.first c.args.self.now.second in
     let place = c.args.self.now.required_location in
-    shows_by c.add_missing_child.ensures c.show_declared_members.ensures.kept (λ _ more.
-    beside_shown g.N.Show.tree g.N.Means.means c.args.ctx.now.validation.answer c.args.ctx.now.path (named c.args.self.now.properties) c.args.self.now.location (subject_data c.args.node)
-    (members_view c.in-Some.members.now.entries) c.in-Some.ensures (subst (λ es. HasMet (wanted_at g.N.Show.tree g.N.Means.means c.args.ctx.now.validation.answer c.args.ctx.now.path) (members_declared es (listed (members_view c.in-Some.members.now.entries)))
-    ((properties_mean g.N.Means.means es (object_of c.in-Some.members.now.entries)).accepts c.args.ctx.now.validation.answer) (shown_of c.show_declared_members.new.outcome)) c.entries.ensures c.in_ok-show_declared_members-in-Some.ensures.shown) required place
+    shows_by c.add_missing_child.ensures c.show_declared_members.ensures.kept (λ u so _ more.
+    beside_shown g.N.Show.tree g.N.Means.means u c.args.ctx.now.path (named c.args.self.now.properties) c.args.self.now.location (subject_data c.args.node)
+    (members_view c.in-Some.members.now.entries) c.in-Some.ensures (subst (λ es. HasMet (wanted_at g.N.Show.tree g.N.Means.means u c.args.ctx.now.path) (members_declared es (listed (members_view c.in-Some.members.now.entries)))
+    ((properties_mean g.N.Means.means es (object_of c.in-Some.members.now.entries)).accepts u) (shown_of c.show_declared_members.new.outcome)) c.entries.ensures (c.in_ok-show_declared_members-in-Some.ensures.shown u so)) required place
     (subst (λ Q. ShowsMore (refused (lacking_trees required (subject_data c.args.node) (object (members_view c.in-Some.members.now.entries)) place Q))
     (shown_of c.show_declared_members.new.outcome) (shown_of c.add_missing_child.new.outcome)) c.show_declared_members.ensures.kept.path more))
 
 pub returns-in-None : goal.returns-in-None
 returns-in-None g c = record {
-  shown = nothing_missing_shown g.N.Show.tree g.N.Means.means c.args.ctx.now.validation.answer c.args.ctx.now.path (named c.args.self.now.properties) c.args.self.now.location
+  shown = λ u so. nothing_missing_shown g.N.Show.tree g.N.Means.means u c.args.ctx.now.path (named c.args.self.now.properties) c.args.self.now.location
       (subject_data c.args.node) c.in-None.ensures c.requires (two_texts c.args.self.now.first c.args.self.now.second) c.args.self.now.required_location;
   kept = kept_same;
 }

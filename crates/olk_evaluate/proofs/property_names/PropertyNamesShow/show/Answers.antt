@@ -11,8 +11,8 @@ use Rattle.olk_evaluate.proofs.property_names.PropertyNamesShow.show.Goals as go
 
 pub returns-in_default : goal.returns-in_default
 returns-in_default g c = record {
-  shown = names_shown g.N.Show.tree g.N.Means.means c.args.ctx.now.validation.answer c.args.self.now.node c.args.self.now.location c.args.ctx.now.path (subject_data c.args.node) (subject_data c.args.node) refl c.requires
-      (no_name_shown g.N.Show.tree g.N.Means.means c.args.ctx.now.validation.answer c.args.self.now.node c.args.self.now.location c.args.ctx.now.path (subject_data c.args.node)
+  shown = λ u so. names_shown g.N.Show.tree g.N.Means.means u c.args.self.now.node c.args.self.now.location c.args.ctx.now.path (subject_data c.args.node) (subject_data c.args.node) refl c.requires
+      (no_name_shown g.N.Show.tree g.N.Means.means u c.args.self.now.node c.args.self.now.location c.args.ctx.now.path (subject_data c.args.node)
       (no_members (subject_data c.args.node) c.in_default.ensures) (shown_of c.args.outcome.now));
   kept = kept_same;
 }
@@ -21,7 +21,7 @@ pub loop-name-init : goal.loop-name-init
 loop-name-init g c = leaves_all refl
 
 pub loop-name-preserved : goal.loop-name-preserved
-loop-name-preserved g c = leaves_rest c.loop-name.invariant (name_next c.in-Some-2.ensures.steps c.as_str-name.ensures.value) (λ _. shows_both c.in_ok-add_child.ensures.shown) c.add_child.ensures.kept
+loop-name-preserved g c = leaves_rest c.loop-name.invariant (name_next c.in-Some-2.ensures.steps c.as_str-name.ensures.value) (λ u so _. shows_both (c.in_ok-add_child.ensures.shown u so)) c.add_child.ensures.kept
 
 pub returns-in_err-reserve_children : goal.returns-in_err-reserve_children
 returns-in_err-reserve_children g c = shows_err c.from_residual.ensures.0 kept_same
@@ -31,11 +31,11 @@ returns-in_err-add_child g c = shows_err c.from_residual-in_err-add_child.ensure
 
 pub returns : goal.returns
 returns g c = record {
-  shown = names_shown g.N.Show.tree g.N.Means.means c.args.ctx.now.validation.answer c.args.self.now.node c.args.self.now.location c.args.ctx.now.path (subject_data c.args.node)
+  shown = λ u so. names_shown g.N.Show.tree g.N.Means.means u c.args.self.now.node c.args.self.now.location c.args.ctx.now.path (subject_data c.args.node)
       (object (members_view c.into_iter-name-iterator.result))
       (ap (λ es. object (members_view es)) c.into_iter-name-iterator.ensures.into_iter_gives.0
       ∙ object_is (subject_data c.args.node) (members_view c.in-Some.members.now.entries) c.in-Some.ensures)
       c.requires (shows_from c.reserve_children.ensures
-      (leaves_none c.loop-name.invariant (no_name_next c.in-None.ensures.steps.0) (shows_none (shown_of c.loop-name.outcome))));
+      (leaves_none c.loop-name.invariant (no_name_next c.in-None.ensures.steps.0) so (shows_none (shown_of c.loop-name.outcome))));
   kept = c.loop-name.invariant.kept;
 }

@@ -1,4 +1,5 @@
-use Rattle.std.proofs.Common.{[]}
+use Rattle.std.proofs.Common.{[], arith}
+use Rattle.olk_tree.specs.Questions.{of_unfinished}
 use Rattle.olk_node.proofs.Verdicts.{of_schema}
 use Rattle.olk_validator.proofs.validator.Validator.is_valid.Goals as goal
 
@@ -12,7 +13,10 @@ pub returns-clause-asked_to : goal.returns-clause-asked_to
 returns-clause-asked_to g c S stands = (of_schema {P = []} stands.root c.check.ensures).asked_to
 
 pub returns-clause-unfinished_to : goal.returns-clause-unfinished_to
-returns-clause-unfinished_to g c S stands = (of_schema {P = []} stands.root c.check.ensures).unfinished_to
+returns-clause-unfinished_to g c S stands =
+    let asked = (of_schema {P = []} stands.root c.check.ensures).unfinished_to in
+    let left = c.check.ensures.unfinished_to of_unfinished in
+    omega (arith, asked, left)
 
 pub returns-clause-certain : goal.returns-clause-certain
 returns-clause-certain g c S stands = (of_schema {P = []} stands.root c.check.ensures).certain

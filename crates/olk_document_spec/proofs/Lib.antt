@@ -1,0 +1,9 @@
+pub mod Alike
+pub mod Conservative
+pub mod Verdicts
+pub mod Computed
+pub mod Rows_arrays
+pub mod Rows_bounds
+pub mod Rows_contains
+pub mod Rows_references
+pub mod Rows_refusals

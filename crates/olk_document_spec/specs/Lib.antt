@@ -1,0 +1,13 @@
+pub mod Keywords
+pub mod Applied
+pub mod Steps
+pub mod Documents
+pub mod Malformed
+pub mod Plain
+pub mod Laws
+pub mod Answers
+pub mod Rows_arrays
+pub mod Rows_bounds
+pub mod Rows_contains
+pub mod Rows_references
+pub mod Rows_refusals

@@ -1,7 +1,0 @@
-use Rattle.std.proofs.Common.{refl}
-use Rattle.olk_regexes.specs.Syntax.{steps}
-use Rattle.olk_regexes.proofs.pattern.steps.Goals as goal
-
-pub returns : goal.returns
-unfolding steps
-returns c = refl
