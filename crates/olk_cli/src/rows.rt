@@ -35,6 +35,8 @@ fn expect_rows(alloc: Global, rows: &str) -> Result<(), Fail> {
 
 // Lines that ask nothing.
 const REFUSED: &str = r##"{ => {"refused":"not JSON"}
+{"ask":"valid","schema":{} => {"refused":"not JSON"}
+{"ask":"valid","schema":true,"instance":[[[[[[[[[[[[[[[[[[[[[[[[[[[[[[[[[[[[[[[[[[[[[[[[[[[[[[[[[[[[[[[[[[[[[[[[[[[[[[[[[[[[[[[[[[[[[[[[[[[[[[[[[[[[[[[[[[[[[[[[[[[[[[[[[[[[[[[[[[[[[[[[[[[[[[[[[[[[[[[[[[[[[[[[[[[[[[[[[[[[[[[[[[[[[[[[[[[[[[[[]]]]]]]]]]]]]]]]]]]]]]]]]]]]]]]]]]]]]]]]]]]]]]]]]]]]]]]]]]]]]]]]]]]]]]]]]]]]]]]]]]]]]]]]]]]]]]]]]]]]]]]]]]]]]]]]]]]]]]]]]]]]]]]]]]]]]]]]]]]]]]]]]]]]]]]]]]]]]]]]]]]]]]]]]]]]]]]]]]]]]]]]]]]]]]]]]]]]]]]]} => {"refused":"not JSON"}
 {"ask":"valid","schema":true,"instance":1e400} => {"refused":"not JSON"}
 [] => {"refused":"not a request"}
 {"ask":"valid","schema":true} => {"refused":"not a request"}
@@ -43,7 +45,15 @@ const REFUSED: &str = r##"{ => {"refused":"not JSON"}
 {"ask":"valid","instance":1,"schema":true,"strict":true} => {"refused":"not a request"}
 {"ask":"valid","instance":[1.5],"schema":true} => {"refused":"a number is not a whole number of 64 bits"}
 {"ask":"valid","instance":1,"schema":{"other":-0}} => {"refused":"a number is not a whole number of 64 bits"}
+{"ask":"valid","schema":true,"instance":18446744073709551616} => {"refused":"a number is not a whole number of 64 bits"}
+{"ask":"valid","schema":18446744073709551616,"instance":null} => {"refused":"a number is not a whole number of 64 bits"}
+{"ask":"valid","schema":true,"instance":1.0} => {"refused":"a number is not a whole number of 64 bits"}
+{"ask":"valid","schema":1.0,"instance":null} => {"refused":"a number is not a whole number of 64 bits"}
+{"ask":"valid","schema":true,"instance":1e2} => {"refused":"a number is not a whole number of 64 bits"}
+{"ask":"valid","schema":1e2,"instance":null} => {"refused":"a number is not a whole number of 64 bits"}
 {"ask":"valid","instance":1,"schema":{"properties":5}} => {"refused":"5 is not of type \"object\"","schemaPath":"/properties"}
+{"ask":"valid","schema":{"allOf":[5]},"instance":1} => {"refused":"5 is not of types \"boolean\", \"object\"","schemaPath":"/allOf/0"}
+{"ask":"valid","schema":{"type":"text"},"instance":1} => {"refused":"\"text\" is not a value for \"type\"","schemaPath":"/type"}
 {"ask":"errors","instance":1,"schema":{"allOf":[{"$ref":"#"}]}} => {"refused":"\"$ref\" is not supported here","schemaPath":"/allOf/0/$ref"}"##;
 
 #[test]
@@ -65,6 +75,8 @@ const ASKED: &str =
 {"ask":"valid","schema":{"patternProperties":{"(slow)x":false}},"instance":{"x":1}} => {"valid":true}
 {"ask":"valid","schema":{"patternProperties":{"(slow)x":false}},"instance":{"x":1},"unfinished":false} => {"valid":true}
 {"ask":"valid","schema":{"patternProperties":{"(slow)x":false}},"instance":{"x":1},"unfinished":true} => {"valid":false}
+{"ask":"valid","schema":true,"instance":18446744073709551615} => {"valid":true}
+{"ask":"valid","schema":true,"instance":[[[[[[[[[[[[[[[[[[[[[[[[[[[[[[[[[[[[[[[[[[[[[[[[[[[[[[[[[[[[[[[[[[[[[[[[[[[[[[[[[[[[[[[[[[[[[[[[[[[[]]]]]]]]]]]]]]]]]]]]]]]]]]]]]]]]]]]]]]]]]]]]]]]]]]]]]]]]]]]]]]]]]]]]]]]]]]]]]]]]]]]]]]]]]]]]]]]]]]]]} => {"valid":true}
 {"ask":"valid","ask":"errors","schema":false,"schema":true,"instance":1} => {"errors":[],"valid":true}"#;
 
 #[test]
@@ -72,7 +84,26 @@ fn each_ask(rt: HostRuntime) -> Result<(), Fail> {
     expect_rows(rt.alloc(), ASKED)
 }
 
-/// Lines are answered in their order, an empty one too, and the last one needs no line feed.
+// Names that begin alike, a required name that is first or that nothing else wants, and what branches
+// and names show.
+const OF_KEYWORDS: &str =
+    r#"{"ask":"valid","schema":{"properties":{"prefix0003suffix00":false,"prefix0004suffix00":true}},"instance":{"prefix0004suffix00":0}} => {"valid":true}
+{"ask":"valid","schema":{"properties":{"prefix0003suffix00":false,"prefix0004suffix00":true}},"instance":{"prefix0003suffix00":0}} => {"valid":false}
+{"ask":"first","schema":{"properties":{"a":{"type":"integer"},"b":{"type":"string"}},"required":["a","b"]},"instance":{"a":"x"}} => {"error":{"instancePath":"","message":"\"b\" is a required property","schemaPath":"/required"},"valid":false}
+{"ask":"evaluate","schema":{"properties":{"a":{"type":"integer"},"b":{"type":"string"}},"required":["a","b"]},"instance":{"a":1,"b":"x"}} => {"annotations":[{"instancePath":"","names":["a","b"],"schemaPath":"/properties"}],"errors":[],"valid":true}
+{"ask":"evaluate","schema":{"properties":{"a":{}},"additionalProperties":false,"required":["z"]},"instance":{}} => {"annotations":[],"errors":[{"instancePath":"","keyword":"required","message":"\"z\" is a required property","schemaPath":"/required"}],"valid":false}
+{"ask":"evaluate","schema":{"oneOf":[{"type":"string"},{"maxLength":3}]},"instance":""} => {"annotations":[],"errors":[{"instancePath":"","keyword":"oneOf","message":"more than one subschema succeeded","schemaPath":"/oneOf"}],"valid":false}
+{"ask":"evaluate","schema":{"additionalProperties":{"type":"integer"},"patternProperties":{"^x":{}}},"instance":{"x1":"t","y":2}} => {"annotations":[{"instancePath":"","names":["y"],"schemaPath":"/additionalProperties"},{"instancePath":"","names":["x1"],"schemaPath":"/patternProperties"}],"errors":[],"valid":true}
+{"ask":"evaluate","schema":{"anyOf":[]},"instance":1} => {"annotations":[],"errors":[],"valid":false}
+{"ask":"evaluate","schema":{"oneOf":[]},"instance":1} => {"annotations":[],"errors":[],"valid":false}"#;
+
+#[test]
+fn asks_of_keywords(rt: HostRuntime) -> Result<(), Fail> {
+    expect_rows(rt.alloc(), OF_KEYWORDS)
+}
+
+/// Lines are answered in their order, an empty one too, and one that is no text; the last one needs no
+/// line feed.
 #[test]
 fn several_lines(rt: HostRuntime) -> Result<(), Fail> {
     let input = concat!(
@@ -82,5 +113,6 @@ fn several_lines(rt: HostRuntime) -> Result<(), Fail> {
     );
     let answers = "{\"valid\":true}\n{\"refused\":\"not JSON\"}\n{\"valid\":false}\n";
     expect_answers(rt.alloc(), input.as_bytes(), answers.as_bytes())?;
-    expect_answers(rt.alloc(), b"", b"")
+    expect_answers(rt.alloc(), b"", b"")?;
+    expect_answers(rt.alloc(), b"\xff", b"{\"refused\":\"not JSON\"}\n")
 }
