@@ -1,0 +1,6 @@
+pub mod Pairs
+pub mod Positions
+pub mod Segments
+pub mod Counted
+pub mod Layers
+pub mod Outcomes

@@ -1,0 +1,5 @@
+pub mod Arrays
+pub mod Contains
+pub mod References
+pub mod Nodes
+pub mod Outcomes
