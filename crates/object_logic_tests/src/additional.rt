@@ -2,13 +2,12 @@
 //! What it finds is in the program's lines (tools/program_lines).
 use crate::found::Found;
 use crate::rows::{Form, Table, constant, expect, refusal};
-use object_logic::{BuildError, ValidationContext};
+use object_logic::{BuildError, SchemaNode, ValidationContext};
 use olk_base::Meter;
 use olk_bench::{BenchLeaf, BenchLeaves, BenchRegex, BenchRegexes};
+use olk_build::properties::compile_small_map;
 use olk_build::{Context, compile};
 use olk_check::{Check, are_properties_valid};
-use olk_keywords::properties::compile_small_map;
-use olk_node::SchemaNode;
 use olk_tree::{BuiltNode, PropertiesMap};
 use serde_json::{Map, Value};
 use std::alloc::{AllocError, Global};

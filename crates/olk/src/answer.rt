@@ -6,15 +6,15 @@ ghost use Rattle.olk_base.specs.Kit.{kit, world};
 ghost use Rattle.olk_spec.specs.Meaning.{accepts, report};
 ghost use Rattle.olk_reports.specs.Errors.{fault_of};
 ghost use Rattle.olk_errors.specs.Found.{Appends, IsRefusal};
-ghost use Rattle.olk_validator.specs.Validators.{IsValidatorOf};
+ghost use Rattle.object_logic.specs.Validators.{IsValidatorOf};
 ghost use Rattle.olk.specs.Asked.{AreAsked};
 
 use crate::options::Ask;
-use olk_base::one;
-use olk_replies::Question;
-use olk_validator::{
+use object_logic::{
     Leaf, RegexEngine, ValidateError, ValidationContext, ValidationError, Validator,
 };
+use olk_base::one;
+use olk_replies::Question;
 use std::alloc::{AllocError, Global};
 
 /// Whether the schema accepts the instance (JSON Schema 2020-12 Core, 4.3.2).

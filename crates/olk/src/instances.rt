@@ -4,22 +4,22 @@ ghost use Rattle.serde_json.specs.View.{view};
 ghost use Rattle.olk_spec.specs.Names.{Text};
 ghost use Rattle.olk_spec.specs.Meaning.{accepts};
 ghost use Rattle.olk_base.specs.Kit.{kit, world};
-ghost use Rattle.olk_validator.specs.Validators.{IsValidatorOf};
+ghost use Rattle.object_logic.specs.Validators.{IsValidatorOf};
 ghost use Rattle.olk.specs.Statuses.{worse, status_of, IsChecked};
 
 use crate::answer::{accepts, asked_errors};
 use crate::console::{Console, Status};
 use crate::options::{Ask, Format, Options, STANDARD_INPUT};
 use crate::reading::{INPUT_LEN, is_blank, read_file, read_value, shown_name};
+use object_logic::{Leaf, RegexEngine, Validator};
 use olk_answers::refusal_text;
 use olk_places::{Located, Place, error_lines, errors_text, first_text, placed};
 use olk_replies::{Question, tell_evaluation};
-use olk_validator::{Leaf, RegexEngine, Validator};
 use serde_json::Value;
 use std::alloc::{AllocError, Global};
-use std::fs;
-use std::io::{self, BufRead, BufReader};
+use std::io::{BufRead, BufReader};
 use std::rt::{Clock, Files};
+use std::{fs, io};
 
 /// A schema, its validator, and how it is asked.
 #[derive(Drop)]

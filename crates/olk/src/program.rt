@@ -12,16 +12,16 @@ use crate::schema::{note_draft, read_schema, refuse_malformed, refuse_unsupporte
 use crate::words::first_no_text;
 use clap::Error;
 use clap::error::ErrorKind;
+use object_logic::{BuildError, Meter, Validator};
 use olk_places::Visible;
 use olk_regexes::Regexes;
-use olk_validator::{BuildError, Meter, Validator};
 use olk_vocabulary::Vocabulary;
 use serde_json::Value;
 use std::alloc::AllocError;
-use std::env::{self, Env};
-use std::io;
+use std::env::Env;
 use std::rt::{Clock, Files};
 use std::time::Instant;
+use std::{env, io};
 
 /// What the command line asks for, and how far that came. On a terminal it is told on the way.
 pub fn run<T: Env + Files + Input + Print + Eprint + Clock + AllocGlobal>(

@@ -4,8 +4,8 @@ ghost use Rattle.olk.specs.Statuses.{worse};
 
 use crate::console::{Console, Status};
 use crate::reading::{read_file, read_value, shown_name};
+use object_logic::ValidationError;
 use olk_places::{Limited, Place, SHOWN_LEN, Visible, shown_message, unsupported_lines};
-use olk_validator::ValidationError;
 use serde_json::Value;
 use std::alloc::{AllocError, Global};
 use std::io;

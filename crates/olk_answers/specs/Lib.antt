@@ -1,3 +1,5 @@
+pub mod Lines
+pub mod Steps
 pub mod Evaluated
 pub mod Refusals
 pub mod Texts

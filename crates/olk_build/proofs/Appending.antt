@@ -15,22 +15,22 @@ use Rattle.olk_tree.specs.declared.node.KeywordOver.{KeywordOver}
 use Rattle.olk_tree.specs.declared.node.KeywordOver.TheVariants as keyword
 use Rattle.olk_meaning.specs.Conditions.{Known, known_of, is_conditional_name, is_condition, is_restriction, is_restricted}
 use Rattle.olk_meaning.specs.Plans.{Planned, plan_of, head, claims}
-use Rattle.olk_read.specs.Reading.{reads_of, IsShape, Fits}
-use Rattle.olk_read.specs.declared.shape.Shape.{Shape}
-use Rattle.olk_read.specs.declared.shape.Shape.TheVariants as shape
-use Rattle.olk_read.specs.declared.shape.ReadPlaces.TheVariants.{Itself}
+use Rattle.olk_build.specs.Reading.{reads_of, IsShape, Fits}
+use Rattle.olk_build.specs.declared.shape.Shape.{Shape}
+use Rattle.olk_build.specs.declared.shape.Shape.TheVariants as shape
+use Rattle.olk_build.specs.declared.shape.ReadPlaces.TheVariants.{Itself}
 use Rattle.olk_meaning.proofs.AdditionalPlaces.{true_allows}
-use Rattle.olk_make.specs.Made.{IsMade}
-use Rattle.olk_make.specs.Making.{KeywordsMean, MakesPart, IsMadeOf}
-use Rattle.olk_make.specs.Standing.{StandAt, EntriesStand, PartStands, Fills, is_if_shape, is_restriction_shape, is_taken, DeclaredStand, PatternsStand, CasesStand, BesideStands}
-use Rattle.olk_make.specs.declared.part.Part.{Part}
-use Rattle.olk_make.specs.declared.part.Taken.{Taken}
-use Rattle.olk_make.specs.declared.part.DeclaredNodes.{DeclaredNodes}
-use Rattle.olk_make.specs.declared.part.Patterns.{Patterns}
-use Rattle.olk_make.proofs.Choosing.{chosen}
-use Rattle.olk_make.proofs.PatternProperties.{both_stand}
-use Rattle.olk_make.proofs.Makes.{neighbours, part_of_alone, makes_leaf, restriction_named}
-use Rattle.olk_make.proofs.Taking.{apart_by, taken_stands}
+use Rattle.olk_build.specs.Made.{IsMade}
+use Rattle.olk_build.specs.Making.{KeywordsMean, MakesPart, IsMadeOf}
+use Rattle.olk_build.specs.Standing.{StandAt, EntriesStand, PartStands, Fills, is_if_shape, is_restriction_shape, is_taken, DeclaredStand, PatternsStand, CasesStand, BesideStands}
+use Rattle.olk_build.specs.declared.part.Part.{Part}
+use Rattle.olk_build.specs.declared.part.Taken.{Taken}
+use Rattle.olk_build.specs.declared.part.DeclaredNodes.{DeclaredNodes}
+use Rattle.olk_build.specs.declared.part.Patterns.{Patterns}
+use Rattle.olk_build.proofs.Choosing.{chosen}
+use Rattle.olk_build.proofs.PatternProperties.{both_stand}
+use Rattle.olk_build.proofs.Makes.{neighbours, part_of_alone, makes_leaf, restriction_named}
+use Rattle.olk_build.proofs.TakingBeside.{apart_by, taken_stands}
 use Rattle.olk_build.specs.Building.{IsMember}
 use Rattle.olk_build.specs.Beside.{takes, takes_of, IsNode, DeclaredBy, IsDeclared, PatternsBy, IsPatterns, MakesTaking}
 

@@ -23,16 +23,16 @@ use Rattle.olk_tree.specs.Answers.{Answers}
 use Rattle.olk_tree.specs.Places.{AnswersBy, Stands}
 use Rattle.std.specs.declared.alloc.Global.{Global}
 use Rattle.olk_spec.specs.World.{World}
-use Rattle.olk_read.specs.Refusing.{TellsOneOf, Refuses}
-use Rattle.olk_make.specs.Holding.{StandEach, StandInner}
+use Rattle.olk_build.specs.Refusing.{TellsOneOf, Refuses}
+use Rattle.olk_build.specs.Holding.{StandEach, StandInner}
 use Rattle.olk_build.specs.Building.{IsBuilt, ObjectIsBuilt, RefusesObject, AreBuilt, InnerAreBuilt, RefusesSchema, RefusesEach, RefusesInner, no_lists, entries_read, is_read, each_malformed, each_cost}
 use Rattle.olk_build.specs.Placing.{PlacesAreBuilt, RefusesPlaces}
-use Rattle.olk_read.proofs.SoFar.{SoFar, none_so_far, all_so_far, memory_so_far, refused_so_far, one_more_so_far, memory_past}
-use Rattle.olk_read.specs.declared.shape.ReadPlaces.TheVariants.{Entries}
+use Rattle.olk_build.proofs.ReadSoFar.{SoFar, none_so_far, all_so_far, memory_so_far, refused_so_far, one_more_so_far, memory_past}
+use Rattle.olk_build.specs.declared.shape.ReadPlaces.TheVariants.{Entries}
 use Rattle.olk_tree.specs.declared.node.KeywordOver.{KeywordOver}
 use Rattle.olk_tree.specs.declared.node.Body.{Body}
 use Rattle.olk_tree.specs.declared.node.Body.TheVariants.{True, False, Keywords}
-use Rattle.olk_read.proofs.Spending.{spends_append, spends_same, spends_place, within_after, within_same, within_exactly, tells_same}
+use Rattle.olk_build.proofs.Spending.{spends_append, spends_same, spends_place, within_after, within_same, within_exactly, tells_same}
 use Rattle.olk_meaning.specs.Chosen.{object_form, validators}
 use Rattle.olk_meaning.proofs.Standing.{object_stands}
 use Rattle.olk_meaning.proofs.Objects.{IsNoSchema, no_schema_malformed, no_schema_cost, object_accepts, object_asks, object_report, object_tree, object_malformed, object_cost}

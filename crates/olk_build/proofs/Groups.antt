@@ -26,8 +26,8 @@ use Rattle.olk_meaning.proofs.Listed.{lookup_among, named_first}
 use Rattle.olk_meaning.proofs.RestrictedClaims.{head_of_restriction}
 use Rattle.olk_meaning.proofs.TakenOver.{restriction_there}
 use Rattle.olk_meaning.proofs.Rows.{Rows}
-use Rattle.olk_make.proofs.Taking.{apart_by}
-use Rattle.olk_make.specs.Standing.{is_taken}
+use Rattle.olk_build.proofs.TakingBeside.{apart_by}
+use Rattle.olk_build.specs.Standing.{is_taken}
 use Rattle.olk_build.specs.Beside.{rows_taken, rows_read}
 
 -- ---- in another order

@@ -24,15 +24,15 @@ use Rattle.olk_tree.specs.declared.node.KeywordOver.{KeywordOver}
 use Rattle.olk_meaning.specs.Plans.{Planned, plan_of, head, claims}
 use Rattle.olk_meaning.proofs.Claims.{heads_there}
 use Rattle.olk_meaning.proofs.Listed.{found_each}
-use Rattle.olk_read.specs.Refusing.{Spends, Refuses}
-use Rattle.olk_read.proofs.Spending.{spends_nothing, spends_append, spends_same, within_same, refuses_among, memory_among, tells}
+use Rattle.olk_build.specs.Refusing.{Spends, Refuses}
+use Rattle.olk_build.proofs.Spending.{spends_nothing, spends_append, spends_same, within_same, refuses_among, memory_among, tells}
 use Rattle.olk_meaning.proofs.Clean.{nothing_in}
-use Rattle.olk_make.specs.Holding.{all_malformed}
-use Rattle.olk_make.specs.Chooser.{HaveForms, AreChosen}
-use Rattle.olk_make.specs.Making.{KeywordsMean}
-use Rattle.olk_make.specs.Standing.{is_taken}
+use Rattle.olk_build.specs.Holding.{all_malformed}
+use Rattle.olk_build.specs.Chooser.{HaveForms, AreChosen}
+use Rattle.olk_build.specs.Making.{KeywordsMean}
+use Rattle.olk_build.specs.Standing.{is_taken}
 use Rattle.olk_meaning.proofs.Rows.{Rows}
-use Rattle.olk_make.proofs.Together.{no_keywords_mean, one_more_keyword, heads_mean_all}
+use Rattle.olk_build.proofs.Together.{no_keywords_mean, one_more_keyword, heads_mean_all}
 use Rattle.olk_build.specs.Building.{IsMember, ObjectIsBuilt, RefusesObject, all_cost}
 use Rattle.olk_build.specs.Beside.{rows_read, MemberIsBuilt, RefusesMember}
 use Rattle.olk_build.proofs.Member.{one_more_chosen}

@@ -35,23 +35,23 @@ use Rattle.olk_meaning.proofs.Claims.{claims_no_case}
 use Rattle.olk_meaning.proofs.RestrictedClaims.{claims_no_properties, claims_no_patterns}
 use Rattle.olk_meaning.proofs.TakenOver.{absent_if}
 use Rattle.olk_meaning.proofs.RestrictionShown.{properties_show_none, patterns_show_none}
-use Rattle.olk_read.specs.Reading.{reads_of}
-use Rattle.olk_read.specs.Refusing.{Spends, Refuses}
-use Rattle.olk_read.proofs.Spending.{spends_nothing, refuses_among, refuses_memory, within_exactly, within_nothing}
-use Rattle.olk_make.specs.Chooser.{has_no_validator, HasForm, IsChosen, HaveForms, AreChosen}
-use Rattle.olk_make.specs.Holding.{which, Covers}
-use Rattle.olk_make.specs.Standing.{is_taken, StandAt}
-use Rattle.olk_make.specs.declared.part.Part.{Part}
+use Rattle.olk_build.specs.Reading.{reads_of}
+use Rattle.olk_build.specs.Refusing.{Spends, Refuses}
+use Rattle.olk_build.proofs.Spending.{spends_nothing, refuses_among, refuses_memory, within_exactly, within_nothing}
+use Rattle.olk_build.specs.Chooser.{has_no_validator, HasForm, IsChosen, HaveForms, AreChosen}
+use Rattle.olk_build.specs.Holding.{which, Covers}
+use Rattle.olk_build.specs.Standing.{is_taken, StandAt}
+use Rattle.olk_build.specs.declared.part.Part.{Part}
 use Rattle.olk_meaning.proofs.Rows.{Rows}
-use Rattle.olk_make.proofs.Together.{no_keywords_mean}
+use Rattle.olk_build.proofs.Together.{no_keywords_mean}
 use Rattle.olk_build.specs.Building.{IsMember, RefusesPart, later_cost}
 use Rattle.olk_build.specs.Placing.{PartsAreBuilt, IsPart}
 use Rattle.olk_build.specs.Beside.{takes, takes_of, rows_taken, rows_read, RefusesBeside, IsTaken, MakesTaking, MemberIsBuilt, RefusesMember, GivesMember, Gives}
-use Rattle.olk_make.specs.declared.part.Taken.{Taken}
-use Rattle.olk_make.proofs.Held.{unrestricted_if_untaken}
+use Rattle.olk_build.specs.declared.part.Taken.{Taken}
+use Rattle.olk_build.proofs.Held.{unrestricted_if_untaken}
 use Rattle.olk_build.proofs.Appending.{same_takes}
 use Rattle.olk_build.proofs.Neighbouring.{wrong, costs, there_known, nothing_later, first_refused, second_refused, both_spent}
-use Rattle.olk_build.proofs.Taken.{nothing, takes_nothing}
+use Rattle.olk_build.proofs.TakenParts.{nothing, takes_nothing}
 
 -- ---- the validators of some members, and of one more
 

@@ -16,11 +16,11 @@ use Rattle.olk_tree.specs.Answers.{Answers}
 use Rattle.olk_meaning.specs.AdditionalProperties.{rows_at}
 use Rattle.olk_meaning.specs.Conditions.{Known, known_of, IsKnown}
 use Rattle.olk_meaning.specs.Members.{member_malformations, member_cost}
-use Rattle.olk_read.specs.Refusing.{Spends, SpendsWithin, Refuses}
-use Rattle.olk_read.proofs.Spending.{spends_nothing, spends_append, spends_same, within_after, within_before, within_exactly, within_same, refuses_among, tells_left, tells_right, tells_same}
-use Rattle.olk_make.specs.Holding.{which, all_malformed}
-use Rattle.olk_make.specs.Standing.{PartStands, Fills}
-use Rattle.olk_make.specs.declared.part.Part.{Part}
+use Rattle.olk_build.specs.Refusing.{Spends, SpendsWithin, Refuses}
+use Rattle.olk_build.proofs.Spending.{spends_nothing, spends_append, spends_same, within_after, within_before, within_exactly, within_same, refuses_among, tells_left, tells_right, tells_same}
+use Rattle.olk_build.specs.Holding.{which, all_malformed}
+use Rattle.olk_build.specs.Standing.{PartStands, Fills}
+use Rattle.olk_build.specs.declared.part.Part.{Part}
 use Rattle.olk_build.specs.Building.{RefusesPart, all_cost, all_later, SpendsBefore}
 use Rattle.olk_build.specs.Placing.{IsPart}
 use Rattle.olk_build.specs.Beside.{RefusesNeighbour, RefusesBeside, IsNeighbour}

@@ -17,25 +17,25 @@ use Rattle.olk_reports.specs.declared.error.BuildError.{BuildError}
 use Rattle.olk_base.specs.Kit.{Kit}
 use Rattle.olk_meaning.specs.Dependencies.{schema_entries}
 use Rattle.olk_build.specs.Building.{RefusesPart, later_cost}
-use Rattle.olk_read.specs.Reading.{reads_of, own_faults, own_cost_of, IsShape, Fits, IsRead, RefusesKeyword}
+use Rattle.olk_build.specs.Reading.{reads_of, own_faults, own_cost_of, IsShape, Fits, IsRead, RefusesKeyword}
 use Rattle.olk_meaning.specs.Conditions.{Known, known_of, is_conditional_name, IsKnown}
 use Rattle.olk_meaning.proofs.AdditionalPlaces.{additional_places}
-use Rattle.olk_read.specs.declared.shape.ReadPlaces.{ReadPlaces}
-use Rattle.olk_read.specs.declared.shape.ReadPlaces.TheVariants.{Nothing, Itself, Entries, SchemaEntries, InnerEntries, Branches}
+use Rattle.olk_build.specs.declared.shape.ReadPlaces.{ReadPlaces}
+use Rattle.olk_build.specs.declared.shape.ReadPlaces.TheVariants.{Nothing, Itself, Entries, SchemaEntries, InnerEntries, Branches}
 use Rattle.olk_meaning.proofs.Conditions.{places_by_condition}
 use Rattle.olk_meaning.proofs.PatternProperties.{pattern_properties_known_cost}
 use Rattle.olk_build.specs.Placing.{places_malformed, places_cost, PlacesAreBuilt, RefusesPlaces, IsPart}
-use Rattle.olk_make.specs.Standing.{StandAt}
+use Rattle.olk_build.specs.Standing.{StandAt}
 use Rattle.olk_tree.specs.Answers.{Answers}
-use Rattle.olk_make.specs.declared.part.Part.{Part}
-use Rattle.olk_read.specs.declared.shape.Shape.{Shape}
-use Rattle.olk_read.specs.declared.shape.Shape.TheVariants as shape
+use Rattle.olk_build.specs.declared.part.Part.{Part}
+use Rattle.olk_build.specs.declared.shape.Shape.{Shape}
+use Rattle.olk_build.specs.declared.shape.Shape.TheVariants as shape
 use Rattle.olk_meaning.proofs.Facts.{branch_entries, each_malformations, each_costs}
 use Rattle.olk_meaning.proofs.Dependencies.{dependencies_places}
 use Rattle.olk_meaning.proofs.PropertyNames.{false_is_no_object}
 use Rattle.olk_meaning.proofs.PropertyDependencies.{inner_places, property_dependencies_places, inner_malformations, inner_costs}
 use Rattle.olk_spec.proofs.CostSums.{sum_last}
-use Rattle.olk_read.proofs.Spending.{spends_append, within_after, within_before, within_same, tells_left, tells_right, tells_same}
+use Rattle.olk_build.proofs.Spending.{spends_append, within_after, within_before, within_same, tells_left, tells_right, tells_same}
 
 true_is_no_object : (d : Data) → is_truth true d ≡ true → is_object d ≡ false
 true_is_no_object (boolean b) e = refl

@@ -3,7 +3,7 @@ use Rattle.std.specs.Prelude.{◌≡◌, ⊤, [], ◌∷◌, Vec, String}
 use Rattle.std.specs.declared.alloc.Global.{Global}
 use Rattle.std.specs.BTreeMap.{BTreeMap}
 use Rattle.std.proofs.Common.{refl, sym, subst, rules}
-use Rattle.olk_read.proofs.Shapes.{rolled}
+use Rattle.olk_build.proofs.Shapes.{rolled}
 use Rattle.serde_json.specs.Data.{Data}
 use Rattle.serde_json.specs.View.{view}
 use Rattle.serde_json.specs.declared.value.Value.{Value, Array, Object, out-Value, roll-Value, the_lemmas}
@@ -15,12 +15,12 @@ use Rattle.olk_spec.specs.Malformed.{items_of_array}
 use Rattle.olk_base.specs.Count.{Counts}
 use Rattle.olk_base.specs.Kit.{Kit}
 use Rattle.olk_tree.specs.Answers.{Answers}
-use Rattle.olk_read.specs.declared.shape.ReadPlaces.{ReadPlaces}
-use Rattle.olk_read.specs.declared.shape.ReadPlaces.TheVariants.{Nothing, Itself, Entries, SchemaEntries, InnerEntries, Branches}
-use Rattle.olk_read.proofs.Spending.{spends_nothing, spends_same}
+use Rattle.olk_build.specs.declared.shape.ReadPlaces.{ReadPlaces}
+use Rattle.olk_build.specs.declared.shape.ReadPlaces.TheVariants.{Nothing, Itself, Entries, SchemaEntries, InnerEntries, Branches}
+use Rattle.olk_build.proofs.Spending.{spends_nothing, spends_same}
 use Rattle.olk_build.specs.Building.{IsBuilt}
 use Rattle.olk_build.specs.Placing.{PlacesAreBuilt, places_malformed, places_cost}
-use Rattle.olk_make.specs.Standing.{StandAt}
+use Rattle.olk_build.specs.Standing.{StandAt}
 use Rattle.olk_spec.specs.Costs.{no_cost}
 
 -- ---- values that are no object, and no array

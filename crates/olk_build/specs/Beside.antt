@@ -14,20 +14,20 @@ use Rattle.olk_reports.specs.declared.error.BuildError.{BuildError}
 use Rattle.olk_meaning.specs.AdditionalProperties.{rows_at}
 use Rattle.olk_meaning.specs.Conditions.{Known, known_of, is_condition}
 use Rattle.olk_meaning.specs.Plans.{Planned, plan_of}
-use Rattle.olk_read.specs.Refusing.{Spends, Refuses}
-use Rattle.olk_read.specs.Reading.{reads_of, IsShape, Fits}
-use Rattle.olk_read.specs.declared.shape.Shape.{Shape}
-use Rattle.olk_read.specs.declared.shape.Shape.TheVariants as shape
+use Rattle.olk_build.specs.Refusing.{Spends, Refuses}
+use Rattle.olk_build.specs.Reading.{reads_of, IsShape, Fits}
+use Rattle.olk_build.specs.declared.shape.Shape.{Shape}
+use Rattle.olk_build.specs.declared.shape.Shape.TheVariants as shape
 use Rattle.olk_tree.specs.Answers.{Answers}
 use Rattle.olk_tree.specs.Tables.{patterns_of, IsTableOf, how_many_cost}
 use Rattle.olk_tree.specs.declared.node.KeywordOver.{KeywordOver}
-use Rattle.olk_make.specs.Holding.{all_malformed}
-use Rattle.olk_make.specs.Standing.{StandAt, PartStands, Fills, IsLast, is_taken, is_if_shape, is_restriction_shape, CasesStand, BesideStands}
-use Rattle.olk_make.specs.Making.{IsMadeOf}
-use Rattle.olk_make.specs.declared.part.Part.{Part}
-use Rattle.olk_make.specs.declared.part.DeclaredNodes.{DeclaredNodes}
-use Rattle.olk_make.specs.declared.part.Patterns.{Patterns}
-use Rattle.olk_make.specs.declared.part.Taken.{Taken}
+use Rattle.olk_build.specs.Holding.{all_malformed}
+use Rattle.olk_build.specs.Standing.{StandAt, PartStands, Fills, IsLast, is_taken, is_if_shape, is_restriction_shape, CasesStand, BesideStands}
+use Rattle.olk_build.specs.Making.{IsMadeOf}
+use Rattle.olk_build.specs.declared.part.Part.{Part}
+use Rattle.olk_build.specs.declared.part.DeclaredNodes.{DeclaredNodes}
+use Rattle.olk_build.specs.declared.part.Patterns.{Patterns}
+use Rattle.olk_build.specs.declared.part.Taken.{Taken}
 use Rattle.olk_build.specs.Building.{IsMember, all_cost, SpendsBefore}
 
 -- the two neighbours that the keyword of the name k takes: `if` takes `then` and `else`, and `additionalProperties` the keywords that tell members by their names

@@ -17,12 +17,12 @@ use Rattle.olk_tree.specs.Places.{Stands}
 use Rattle.olk_meaning.specs.Conditions.{Known, known_of, IsKnown}
 use Rattle.olk_meaning.specs.Members.{member_malformations, member_cost}
 use Rattle.olk_meaning.specs.PatternProperties.{names_asked}
-use Rattle.olk_read.specs.Refusing.{Spends, Refuses}
-use Rattle.olk_read.specs.Patterns.{patterns_wrong, patterns_cost}
-use Rattle.olk_make.specs.Holding.{StandEach, StandInner, which, all_malformed}
-use Rattle.olk_make.specs.Standing.{EntriesStand}
-use Rattle.olk_make.specs.Chooser.{AreChosen}
-use Rattle.olk_make.specs.Making.{ObjectIsMade}
+use Rattle.olk_build.specs.Refusing.{Spends, Refuses}
+use Rattle.olk_build.specs.Reading.{patterns_wrong, patterns_cost}
+use Rattle.olk_build.specs.Holding.{StandEach, StandInner, which, all_malformed}
+use Rattle.olk_build.specs.Standing.{EntriesStand}
+use Rattle.olk_build.specs.Chooser.{AreChosen}
+use Rattle.olk_build.specs.Making.{ObjectIsMade}
 use Rattle.olk_tree.specs.declared.node.KeywordOver.{KeywordOver}
 
 -- the entries that are no lists

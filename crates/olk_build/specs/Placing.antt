@@ -10,14 +10,14 @@ use Rattle.olk_base.specs.Count.{Counts}
 use Rattle.olk_reports.specs.declared.error.BuildError.{BuildError}
 use Rattle.olk_base.specs.Kit.{Kit}
 use Rattle.olk_meaning.specs.Conditions.{Known, known_of, IsKnown}
-use Rattle.olk_read.specs.Refusing.{Spends, Refuses}
+use Rattle.olk_build.specs.Refusing.{Spends, Refuses}
 use Rattle.olk_build.specs.Building.{no_lists, each_malformed, each_cost, inner_malformed, inner_cost, SpendsBefore}
-use Rattle.olk_make.specs.Holding.{all_malformed}
+use Rattle.olk_build.specs.Holding.{all_malformed}
 use Rattle.olk_tree.specs.Answers.{Answers}
-use Rattle.olk_read.specs.declared.shape.ReadPlaces.{ReadPlaces}
-use Rattle.olk_read.specs.declared.shape.ReadPlaces.TheVariants.{Nothing, Itself, Entries, SchemaEntries, InnerEntries, Branches}
-use Rattle.olk_make.specs.declared.part.Part.{Part}
-use Rattle.olk_make.specs.Standing.{StandAt, PartsStand}
+use Rattle.olk_build.specs.declared.shape.ReadPlaces.{ReadPlaces}
+use Rattle.olk_build.specs.declared.shape.ReadPlaces.TheVariants.{Nothing, Itself, Entries, SchemaEntries, InnerEntries, Branches}
+use Rattle.olk_build.specs.declared.part.Part.{Part}
+use Rattle.olk_build.specs.Standing.{StandAt, PartsStand}
 
 module _ {K R : Type 0} (o : Kit K R) where
   abbrev pub places_malformed : ReadPlaces → Data → Path → List Fault

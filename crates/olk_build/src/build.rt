@@ -4,27 +4,28 @@ ghost use Rattle.serde_json.specs.View.{view, members_view, items_view};
 ghost use Rattle.olk_spec.specs.Schemas.{listed, numbered};
 ghost use Rattle.olk_spec.specs.Malformed.{items_list, malformations_at};
 ghost use Rattle.olk_spec.specs.Costs.{cost};
-ghost use Rattle.olk_paths.specs.Paths.{one_below};
+ghost use Rattle.olk_reports.specs.Paths.{one_below};
 ghost use Rattle.olk_base.specs.Kit.{kit, world};
 ghost use Rattle.olk_tree.specs.Places.{Stands};
 ghost use Rattle.olk_build.specs.Building.{IsMember, IsBuilt, ObjectIsBuilt, AreBuilt, InnerAreBuilt, is_read, entries_read, RefusesSchema, RefusesEach, RefusesInner, RefusesObject, RefusesPart};
 ghost use Rattle.olk_meaning.specs.Conditions.{known, known_of};
-ghost use Rattle.olk_read.specs.Refusing.{TellsOneOf, Spends, SpendsWithin};
+ghost use Rattle.olk_build.specs.Refusing.{TellsOneOf, Spends, SpendsWithin};
 ghost use Rattle.olk_build.specs.Placing.{IsPart, PlacesAreBuilt, RefusesPlaces};
 ghost use Rattle.olk_build.specs.Beside.{takes_of, IsNeighbour, RefusesNeighbour, IsTaken, RefusesBeside, MemberIsBuilt, RefusesMember, GivesMember, Gives};
-ghost use Rattle.olk_make.specs.Chooser.{has_no_validator, HasForm};
+ghost use Rattle.olk_build.specs.Chooser.{has_no_validator, HasForm};
 ghost use Rattle.olk_spec.specs.Vocabulary.{keyword_named};
 
-use crate::context::Context;
+use crate::context::{Context, Makers};
+use crate::part::{Part, Taken};
+use crate::reading::read_keyword;
+use crate::refusal::{Stop, refuse};
+use crate::shape::{ReadPlaces, Shape};
 use crate::taking::{
     append_alone, append_taking, is_taken, make_taking, take, take_nothing, takes, takes_any,
 };
 use olk_base::{MakeLeaf, MakeRegex, Meter, append, one};
-use olk_make::{Part, Taken};
 use olk_meaning::{Neighbours, Plan};
-use olk_paths::Location;
-use olk_read::{Makers, ReadPlaces, Shape, Stop, read_keyword, refuse};
-use olk_reports::{BuildError, ValidationErrorKind};
+use olk_reports::{BuildError, Location, ValidationErrorKind};
 use olk_tree::built_node::BuiltNode;
 use olk_tree::node::{Body, KeywordOver};
 use serde_json::{Map, Value};

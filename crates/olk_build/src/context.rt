@@ -1,10 +1,16 @@
-//! What a build hands down.
+//! The makers that a build hands down.
 ghost use Rattle.std.specs.Prelude.{◌≡◌, []};
 
 use olk_base::Meter;
-use olk_paths::Location;
-use olk_read::Makers;
+use olk_reports::Location;
 use std::alloc::Global;
+
+/// The makers of leaves and of matchers.
+#[derive(Drop)]
+pub struct Makers<'c, L, M> {
+    pub leaves: &'c L,
+    pub regexes: &'c M,
+}
 
 /// What a build hands down: the makers, the meter and the current place.
 #[derive(Drop)]

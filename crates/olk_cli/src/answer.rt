@@ -3,17 +3,17 @@ ghost use Rattle.std.specs.Prelude.{◌≡◌, false, IfOk, option_map};
 ghost use Rattle.serde_json.specs.View.{view};
 ghost use Rattle.olk_spec.specs.Bench.{bench};
 ghost use Rattle.olk_base.specs.Kit.{kit, world};
-ghost use Rattle.olk_validator.specs.Validators.{IsValidatorOf};
+ghost use Rattle.object_logic.specs.Validators.{IsValidatorOf};
 ghost use Rattle.olk_replies.specs.Replies.{has_fraction};
 ghost use Rattle.olk_cli.specs.Answers.{IsReply, IsReplyBy, IsAnswer};
 ghost use Rattle.olk_cli.specs.Requests.{value_of, question};
 ghost use Rattle.olk_cli.specs.Seen.{seen};
 
 use crate::request::{Ask, Request, read_request};
+use object_logic::{BuildError, Leaf, Meter, RegexEngine, Validator};
 use olk_answers::{malformation_text, refusal_text};
 use olk_bench::{BenchLeaves, BenchRegexes};
 use olk_replies::{Question, tell_errors, tell_evaluation, tell_first, tell_verdict};
-use olk_validator::{BuildError, Leaf, Meter, RegexEngine, Validator};
 use serde_json::Value;
 use std::alloc::{AllocError, Global};
 

@@ -1,6 +1,6 @@
 //! Answers requests to validate, one a line.
 //!
-//! Stands on `olk_validator`, `olk_bench`, `olk_answers`, `olk_replies` and `olk_lines`. Tested by
+//! Stands on `object_logic`, `olk_bench`, `olk_answers` and `olk_replies`. Tested by
 //! its files `stdin` and `stdout`, and by the module `rows`.
 #![tactic(auto)]
 
@@ -17,6 +17,6 @@ use std::process::ExitCode;
 fn main(rt: HostRuntime) -> ExitCode {
     match BufReader::new(rt.alloc(), rt.reader()) {
         Ok(mut reader) => ExitCode::from(run(rt.alloc(), &mut reader, &mut rt.stdout())),
-        Err(_) => ExitCode::from(olk_lines::MEMORY),
+        Err(_) => ExitCode::from(olk_answers::lines::MEMORY),
     }
 }

@@ -1,10 +1,10 @@
 //! The program over a reader and a writer.
 ghost use Rattle.std.specs.Prelude.{◌≡◌, ◌⊎◌};
 ghost use Rattle.olk_cli.specs.Answers.{IsAnswer};
-ghost use Rattle.olk_lines.specs.Lines.{AnswersAll, AnswersSome, AnswersInPart};
+ghost use Rattle.olk_answers.specs.Lines.{AnswersAll, AnswersSome, AnswersInPart};
 
 use crate::answer::answer_line;
-use olk_lines::AnswerLine;
+use olk_answers::AnswerLine;
 use std::alloc::{AllocError, Global};
 use std::io::{BufRead, Write};
 
@@ -22,7 +22,7 @@ impl AnswerLine for Validation {
     }
 }
 
-/// Answers each line of the input by one line, and gives the exit status, of `olk_lines`.
+/// Answers each line of the input by one line, and gives the exit status, of `olk_answers`.
 ///
 /// - `DONE`: the input is read to its end, and each of its lines is answered, in order.
 /// - `FAILED`: a read or a write failed, or `u64::MAX` lines were answered. The first lines are
@@ -40,5 +40,5 @@ pub fn run<I: BufRead, O: Write>(alloc: Global, reader: &mut I, writer: &mut O) 
     ensures memory { result ≡ 3 → AnswersSome IsAnswer (I.remaining reader.old)
         (O.contents writer.old) (O.contents writer.new) }
 {
-    olk_lines::run(alloc, &Validation, reader, writer)
+    olk_answers::lines::run(alloc, &Validation, reader, writer)
 }

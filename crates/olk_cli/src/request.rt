@@ -5,7 +5,7 @@ ghost use Rattle.serde_json.specs.View.{view, members_view};
 ghost use Rattle.olk_cli.specs.Requests.{ask_of, is_request_name, has_only_request_names, asked};
 ghost use Rattle.olk_cli.specs.Seen.{seen};
 
-use olk_validator::holds_whole_numbers;
+use object_logic::holds_whole_numbers;
 use serde_json::{Map, Value};
 
 /// What is asked of a schema and an instance.

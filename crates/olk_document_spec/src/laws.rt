@@ -1,7 +1,6 @@
 //! The laws of the meaning of documents, each the contract of a function that does nothing.
 
-ghost use Rattle.olk_document_spec.specs.Laws.{Conservative};
-ghost use Rattle.olk_document_spec.specs.Laws.{Same_malformations, Verdict_of_reports};
+ghost use Rattle.olk_document_spec.specs.Laws.{Conservative, Same_malformations, Verdict_of_reports};
 
 /// A schema in which no keyword of a document occurs means for a document what it means for the
 /// layer, and is malformed where it is for the layer.

@@ -9,7 +9,7 @@ ghost use Rattle.olk_check.specs.Asks.{Asks};
 
 use olk_base::{Asked, Node, ValidationContext};
 use olk_check::Check;
-use olk_paths::Location;
+use olk_reports::Location;
 use serde_json::Value;
 
 /// `prefixItems`: each schema is to accept the item at its position, as far as there is one (JSON

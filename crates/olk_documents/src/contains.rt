@@ -7,7 +7,7 @@ ghost use Rattle.olk_documents.specs.Contains.{in_bounds, counted};
 use crate::arrays::items_of;
 use olk_base::{Asked, ValidationContext};
 use olk_check::Check;
-use olk_paths::Location;
+use olk_reports::Location;
 use serde_json::Value;
 
 /// How many items are to be accepted: at least so many, and at most so many.

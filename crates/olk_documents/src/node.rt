@@ -4,7 +4,7 @@ ghost use Rattle.std.specs.Prelude.{◌≡◌};
 use crate::arrays::{Items, PrefixItems};
 use crate::contains::Contains;
 use crate::reference::Reference;
-use olk_paths::Location;
+use olk_reports::Location;
 use olk_tree::node::{Body, KeywordOver};
 
 /// A keyword that the layer doesn't read, over the nodes that it holds.

@@ -1,7 +1,7 @@
 //! `$ref`: the node of the place that it names, which other references may share.
 use olk_base::{Asked, ValidationContext};
 use olk_check::Check;
-use olk_paths::Location;
+use olk_reports::Location;
 use std::rc::Rc;
 
 /// `$ref`: the place that it names is to accept the value (JSON Schema 2020-12 Core, 8.2.3.1).

@@ -7,9 +7,8 @@ ghost use Rattle.olk_spec.specs.World.{reads_as};
 ghost use Rattle.olk_tree.specs.Additional.{known_or, sides_seen};
 ghost use Rattle.olk_tree.specs.Tables.{known_says};
 ghost use Rattle.olk_tree.specs.Visited.{object_of};
-ghost use Rattle.olk_paths.specs.Paths.{one_below};
+ghost use Rattle.olk_reports.specs.Paths.{one_below, path_at};
 ghost use Rattle.olk_check.specs.Asks.{IsAnswer};
-ghost use Rattle.olk_paths.specs.Trails.{path_at};
 ghost use Rattle.olk_errors.specs.Outcomes.{of_branches, of_values, of_no_members, declared_nodes, asked_at, unexpected_at, if_matched, of_unexpected, unexpected_fault, of_asked_members};
 ghost use Rattle.olk_errors.specs.Sinks.{Walks, Ends, EndsAlone, Takes};
 
@@ -19,8 +18,7 @@ use crate::{ErrorSink, Stop, Walk};
 use olk_base::{CompiledPattern, NoRegex, RegexEngine, Subject, ValidationContext, append};
 use olk_check::matches_unless_known;
 use olk_meaning::law_of_names;
-use olk_paths::{Location, Trail};
-use olk_reports::ValidationErrorKind;
+use olk_reports::{Location, Trail, ValidationErrorKind};
 use olk_tree::additional_properties::{
     AdditionalProperties, AdditionalPropertiesFalse, AdditionalPropertiesNotEmpty,
     AdditionalPropertiesNotEmptyFalse, AdditionalPropertiesNotEmptyFalseWithRequired1,

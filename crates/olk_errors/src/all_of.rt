@@ -2,7 +2,7 @@
 use crate::branches::walk_each;
 use crate::{ErrorSink, Stop, Walk};
 use olk_base::{Subject, ValidationContext};
-use olk_paths::Trail;
+use olk_reports::Trail;
 use olk_tree::all_of::{AllOf, SingleValueAllOf};
 
 impl<'a, N: Walk<'a>> Walk<'a> for AllOf<N> {

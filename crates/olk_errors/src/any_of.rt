@@ -3,8 +3,7 @@ use crate::branches::{contexts, one_context};
 use crate::{ErrorSink, Stop, Walk};
 use olk_base::{Subject, ValidationContext};
 use olk_check::accepts;
-use olk_paths::Trail;
-use olk_reports::ValidationErrorKind;
+use olk_reports::{Trail, ValidationErrorKind};
 use olk_tree::any_of::{AnyOf, SingleAnyOf};
 
 impl<'a, N: Walk<'a>> Walk<'a> for AnyOf<N> {

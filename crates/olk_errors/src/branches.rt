@@ -2,7 +2,7 @@
 ghost use Rattle.std.specs.Prelude.{◌∷◌, [], Bool, map, IfOk};
 ghost use Rattle.olk_reports.proofs.Errors.{context_faults};
 ghost use Rattle.olk_base.specs.Nodes.{subject_data};
-ghost use Rattle.olk_paths.specs.Trails.{path_at};
+ghost use Rattle.olk_reports.specs.Paths.{path_at};
 ghost use Rattle.olk_check.specs.Asks.{OnlyAsks, IsAnswer};
 ghost use Rattle.olk_errors.specs.Found.{Appends, AreLike, IsFirstOf};
 ghost use Rattle.olk_errors.specs.Outcomes.{of_branches, of_node};
@@ -10,8 +10,7 @@ ghost use Rattle.olk_errors.specs.Sinks.{Walks};
 
 use crate::{ErrorSink, Stop, Walk};
 use olk_base::{Subject, ValidationContext, one};
-use olk_paths::Trail;
-use olk_reports::ValidationError;
+use olk_reports::{Trail, ValidationError};
 use std::alloc::{AllocError, Global};
 
 /// Walks over the node with each of them.

@@ -2,7 +2,7 @@
 use crate::{ErrorSink, Stop, Walk};
 use olk_base::{Subject, ValidationContext};
 use olk_check::accepts;
-use olk_paths::Trail;
+use olk_reports::Trail;
 use olk_tree::if_::{IfElse, IfThen, IfThenElse};
 
 impl<'a, N: Walk<'a>> Walk<'a> for IfThen<N> {

@@ -1,7 +1,7 @@
 //! Keywords: their errors.
 ghost use Rattle.olk_base.specs.Kit.{kit};
 ghost use Rattle.olk_base.specs.Nodes.{subject_data};
-ghost use Rattle.olk_paths.specs.Trails.{path_at};
+ghost use Rattle.olk_reports.specs.Paths.{path_at};
 ghost use Rattle.olk_tree.specs.Validators.{answers_of};
 ghost use Rattle.olk_errors.specs.Outcomes.{of_node};
 ghost use Rattle.olk_errors.specs.Sinks.{Walks};
@@ -9,7 +9,7 @@ ghost use Rattle.olk_errors.specs.Sinks.{Walks};
 use crate::node::{report_texts, walk_leaf};
 use crate::{ErrorSink, Stop, Walk};
 use olk_base::{Leaf, RegexEngine, Subject, ValidationContext};
-use olk_paths::Trail;
+use olk_reports::Trail;
 use olk_tree::node::KeywordOver;
 
 impl<'a, K: Leaf, R: RegexEngine, N: Walk<'a>> Walk<'a> for KeywordOver<K, R, N> {

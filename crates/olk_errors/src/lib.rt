@@ -6,8 +6,7 @@
 
 use olk_base::{Node, Subject, ValidationContext};
 use olk_check::{Check, IsValid};
-use olk_paths::{InstancePath, Trail};
-use olk_reports::{ValidateError, ValidationError};
+use olk_reports::{InstancePath, Trail, ValidateError, ValidationError};
 use olk_tree::Reports;
 use std::alloc::{AllocError, Global};
 use std::mem;
@@ -22,7 +21,7 @@ pub trait Walk<'a>: Check + Reports {
     ghost use Rattle.olk_errors.specs.Found.{IsErrorOf};
     ghost use Rattle.olk_errors.specs.Outcomes.{of_node};
     ghost use Rattle.olk_errors.specs.Sinks.{Walks};
-    ghost use Rattle.olk_paths.specs.Trails.{path_at};
+    ghost use Rattle.olk_reports.specs.Paths.{path_at};
 
     /// Hands the errors of the node, which stands where the trail leads, to the sink: one by one,
     /// as long as the sink takes more.

@@ -1,15 +1,14 @@
 //! Leaves and bodies: their errors.
 ghost use Rattle.std.specs.Prelude.{◌≡◌, true, false};
 ghost use Rattle.olk_base.specs.Nodes.{subject_data};
-ghost use Rattle.olk_paths.specs.Trails.{path_at};
+ghost use Rattle.olk_reports.specs.Paths.{path_at};
 ghost use Rattle.olk_errors.specs.Outcomes.{of_leaf, of_body, of_branches};
 ghost use Rattle.olk_errors.specs.Sinks.{wants_one, Walks, Ends};
 
 use crate::branches::walk_each;
 use crate::{ErrorSink, Stop, Walk};
 use olk_base::{Leaf, Subject, ValidationContext, leaf_accepts};
-use olk_paths::{Location, Trail};
-use olk_reports::ValidationErrorKind;
+use olk_reports::{Location, Trail, ValidationErrorKind};
 use olk_tree::node::Body;
 
 /// Walks over a body at its place: a false schema has one error, a true one none, and otherwise

@@ -2,8 +2,7 @@
 use crate::{ErrorSink, Stop, Walk};
 use olk_base::{Subject, ValidationContext};
 use olk_check::{Check, accepts};
-use olk_paths::Trail;
-use olk_reports::ValidationErrorKind;
+use olk_reports::{Trail, ValidationErrorKind};
 use olk_tree::not::Not;
 
 impl<'a, N: Check> Walk<'a> for Not<N> {

@@ -1,7 +1,7 @@
 //! `oneOf`: its errors.
 ghost use Rattle.std.specs.Prelude.{Bool, map, IfOk};
 ghost use Rattle.olk_base.specs.Nodes.{subject_data};
-ghost use Rattle.olk_paths.specs.Trails.{path_at};
+ghost use Rattle.olk_reports.specs.Paths.{path_at};
 ghost use Rattle.olk_tree.specs.Questions.{how_many, exactly_one};
 ghost use Rattle.olk_check.specs.Asks.{Asks, OnlyAsks, IsAnswer};
 ghost use Rattle.olk_check.specs.Accepting.{IsHowMany, is_one};
@@ -11,8 +11,7 @@ use crate::branches::{contexts, one_context};
 use crate::{ErrorSink, Stop, Walk};
 use olk_base::{Subject, ValidationContext};
 use olk_check::{Accepting, Check, accepts, how_many_accept};
-use olk_paths::Trail;
-use olk_reports::ValidationErrorKind;
+use olk_reports::{Trail, ValidationErrorKind};
 use olk_tree::one_of::{OneOf, SingleOneOf};
 use std::alloc::{AllocError, Global};
 

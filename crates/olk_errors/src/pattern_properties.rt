@@ -1,7 +1,7 @@
 //! `patternProperties`: its errors.
 ghost use Rattle.std.specs.Prelude.{◌≡◌, true, false};
 ghost use Rattle.serde_json.specs.View.{view};
-ghost use Rattle.olk_paths.specs.Trails.{path_at};
+ghost use Rattle.olk_reports.specs.Paths.{path_at};
 ghost use Rattle.olk_tree.specs.Visited.{object_of};
 ghost use Rattle.olk_errors.specs.Outcomes.{of_match, of_matched, of_matching, of_patterns};
 ghost use Rattle.olk_errors.specs.Sinks.{wants_one, Walks};
@@ -10,7 +10,7 @@ use crate::properties::walk_below;
 use crate::{ErrorSink, Stop, Walk};
 use olk_base::{CompiledPattern, RegexEngine, Subject, ValidationContext};
 use olk_check::matches;
-use olk_paths::Trail;
+use olk_reports::Trail;
 use olk_tree::pattern_properties::{PatternProperties, SingleValuePatternProperties};
 use serde_json::{Map, Value};
 

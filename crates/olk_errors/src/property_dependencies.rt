@@ -2,7 +2,7 @@
 ghost use Rattle.std.specs.Prelude.{◌≡◌};
 ghost use Rattle.serde_json.specs.View.{view};
 ghost use Rattle.olk_base.specs.Nodes.{subject_data};
-ghost use Rattle.olk_paths.specs.Trails.{path_at};
+ghost use Rattle.olk_reports.specs.Paths.{path_at};
 ghost use Rattle.olk_tree.specs.Maps.{named};
 ghost use Rattle.olk_tree.specs.PropertyDependencies.{chosen_at, chosen_nodes};
 ghost use Rattle.olk_tree.specs.Visited.{object_of};
@@ -11,7 +11,7 @@ ghost use Rattle.olk_errors.specs.Sinks.{Walks};
 
 use crate::{ErrorSink, Stop, Walk};
 use olk_base::{Subject, ValidationContext};
-use olk_paths::Trail;
+use olk_reports::Trail;
 use olk_tree::map::SmallMap;
 use olk_tree::property_dependencies::PropertyDependencies;
 use serde_json::{Map, Value};

@@ -1,7 +1,7 @@
 //! `propertyNames`: its errors.
 ghost use Rattle.std.specs.Prelude.{◌≡◌, true, false, IfOk, string_bytes};
 ghost use Rattle.olk_base.specs.Nodes.{subject_data};
-ghost use Rattle.olk_paths.specs.Trails.{path_at};
+ghost use Rattle.olk_reports.specs.Paths.{path_at};
 ghost use Rattle.olk_spec.specs.Reports.{wrapped};
 ghost use Rattle.olk_reports.specs.Errors.{fault_of};
 ghost use Rattle.olk_tree.specs.Visited.{object_of};
@@ -12,8 +12,7 @@ use crate::branches::{errors_of, first_error_of};
 use crate::{ErrorSink, Stop, Walk};
 use olk_base::{Subject, ValidationContext};
 use olk_check::accepts;
-use olk_paths::{PathText, Trail};
-use olk_reports::{ValidationError, ValidationErrorKind};
+use olk_reports::{PathText, Trail, ValidationError, ValidationErrorKind};
 use olk_tree::property_names::{PropertyNames, PropertyNamesFalse};
 use serde_json::{Map, Value};
 use std::alloc::{AllocError, Global};

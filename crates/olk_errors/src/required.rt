@@ -2,7 +2,7 @@
 ghost use Rattle.std.specs.Prelude.{◌≡◌, ◌∷◌, []};
 ghost use Rattle.olk_base.specs.Nodes.{subject_data};
 ghost use Rattle.olk_spec.specs.Faults.{Required, fault};
-ghost use Rattle.olk_paths.specs.Trails.{path_at};
+ghost use Rattle.olk_reports.specs.Paths.{path_at};
 ghost use Rattle.olk_tree.specs.Maps.{texts_of};
 ghost use Rattle.olk_tree.specs.Visited.{object_of};
 ghost use Rattle.olk_errors.specs.Outcomes.{of_names};
@@ -11,8 +11,7 @@ ghost use Rattle.olk_errors.specs.Sinks.{Ends, Takes};
 use crate::{ErrorSink, Stop, Walk};
 use olk_base::{Subject, ValidationContext};
 use olk_check::is_present;
-use olk_paths::{Location, Trail};
-use olk_reports::ValidationErrorKind;
+use olk_reports::{Location, Trail, ValidationErrorKind};
 use olk_tree::required::RequiredValidator;
 use serde_json::{Map, Value};
 

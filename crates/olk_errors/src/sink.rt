@@ -1,14 +1,13 @@
 //! What takes the errors of a walk.
 ghost use Rattle.std.specs.Prelude.{◌≡◌, [], true, false, option_to_list};
 ghost use Rattle.olk_base.specs.Nodes.{subject_data};
-ghost use Rattle.olk_paths.specs.Trails.{path_at};
+ghost use Rattle.olk_reports.specs.Paths.{path_at};
 ghost use Rattle.olk_reports.specs.Errors.{kind_of, fault_of};
 ghost use Rattle.olk_spec.specs.Faults.{fault};
 ghost use Rattle.olk_errors.specs.Sinks.{wants_one, held, Takes};
 
 use olk_base::{Subject, append};
-use olk_paths::Trail;
-use olk_reports::{ValidationError, ValidationErrorKind};
+use olk_reports::{Trail, ValidationError, ValidationErrorKind};
 use std::alloc::{AllocError, Global};
 
 /// Takes the errors of a walk: the first, with which the walk ends, or all.

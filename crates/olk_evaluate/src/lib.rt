@@ -7,8 +7,7 @@ ghost use Rattle.serde_json.specs.Data.{Data};
 
 use olk_base::{Node, Subject, ValidationContext};
 use olk_check::Check;
-use olk_paths::InstancePath;
-use olk_reports::EvaluationResult;
+use olk_reports::{EvaluationResult, InstancePath};
 use std::alloc::{AllocError, Global};
 use std::mem;
 

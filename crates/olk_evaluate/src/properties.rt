@@ -4,7 +4,7 @@ ghost use Rattle.serde_json.specs.View.{view, members_view};
 ghost use Rattle.olk_base.specs.Nodes.{subject_data};
 ghost use Rattle.olk_spec.specs.Names.{Path};
 ghost use Rattle.olk_spec.specs.Schemas.{listed};
-ghost use Rattle.olk_paths.specs.Paths.{one_below};
+ghost use Rattle.olk_reports.specs.Paths.{one_below};
 ghost use Rattle.olk_reports.specs.Evaluations.{annotated, node_at, nothing_shown, shown_of};
 ghost use Rattle.olk_tree.specs.Properties.{properties_mean};
 ghost use Rattle.olk_tree.specs.Shown.{properties_tree};

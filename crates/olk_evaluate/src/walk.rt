@@ -7,8 +7,7 @@ ghost use Rattle.olk_evaluate.specs.Wanted.{ShowsMore, wanted, each_wanted};
 
 use crate::{EvaluationContext, Located};
 use olk_base::Subject;
-use olk_paths::{InstancePath, PathText};
-use olk_reports::{EvaluationNode, EvaluationResult};
+use olk_reports::{EvaluationNode, EvaluationResult, InstancePath, PathText};
 use std::alloc::AllocError;
 
 /// One child more: what the node shows.

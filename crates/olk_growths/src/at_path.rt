@@ -1,6 +1,6 @@
 //! The calls that are handed a path.
 use crate::TRIES;
-use olk_validator::{
+use object_logic::{
     Errors, Evaluate, InstancePath, Leaf, Node, RegexEngine, SchemaNode, ValidateError,
     ValidationContext,
 };

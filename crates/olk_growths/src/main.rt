@@ -3,21 +3,22 @@
 //! A line names a call, with what it has to leave as it was, and the lines behind it say what was
 //! answered. `tools/refused_growths` refuses each growth in turn and compares the lines.
 //!
-//! Stands on `olk_validator`, `olk_vocabulary` and the matcher of `olk_bench`. Tested by its files `stdin` and `stdout`.
+//! Stands on `object_logic`, `olk_vocabulary` and the matcher of `olk_bench`. Tested by its files `stdin` and `stdout`.
 #![tactic(auto)]
 
 mod at_path;
 
 use at_path::ask_at_path;
-use olk_bench::BenchRegexes;
-use olk_validator::{
+use object_logic::{
     AnnotationEntry, BuildError, Context, ErrorEntry, Evaluation, Leaf, Meter, RegexEngine,
     ValidateError, ValidationContext, ValidationError, Validator, compile,
 };
+use olk_bench::BenchRegexes;
 use olk_vocabulary::Vocabulary;
 use serde_json::Value;
 use std::alloc::Global;
-use std::io::{self, ErrorKind, Read};
+use std::io;
+use std::io::{ErrorKind, Read};
 
 // How often a call is made at most.
 const TRIES: u32 = 2;

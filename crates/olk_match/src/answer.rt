@@ -1,6 +1,6 @@
 //! The answer to a line.
+use olk_answers::AnswerLine;
 use olk_base::{MakeError, MakeRegex, Meter, RegexEngine};
-use olk_lines::AnswerLine;
 use olk_regexes::{Regexes, why_refused};
 use serde_json::Value;
 use std::alloc::{AllocError, Global};

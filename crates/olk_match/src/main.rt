@@ -1,6 +1,6 @@
 //! Says of pairs of a pattern and a text whether the pattern is found in the text, one pair a line.
 //!
-//! Stands on `olk_regexes` and `olk_lines`. Tested by its files `stdin` and `stdout`.
+//! Stands on `olk_regexes` and `olk_answers`. Tested by its files `stdin` and `stdout`.
 #![tactic(auto)]
 
 mod answer;
@@ -11,12 +11,12 @@ use std::process::ExitCode;
 
 fn main(rt: HostRuntime) -> ExitCode {
     match BufReader::new(rt.alloc(), rt.reader()) {
-        Ok(mut reader) => ExitCode::from(olk_lines::run(
+        Ok(mut reader) => ExitCode::from(olk_answers::lines::run(
             rt.alloc(),
             &Matching,
             &mut reader,
             &mut rt.stdout(),
         )),
-        Err(_) => ExitCode::from(olk_lines::MEMORY),
+        Err(_) => ExitCode::from(olk_answers::lines::MEMORY),
     }
 }

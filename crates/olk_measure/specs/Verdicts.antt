@@ -4,8 +4,8 @@ use Rattle.serde_json.specs.Data.{Data}
 use Rattle.olk_spec.specs.World.{World}
 use Rattle.olk_spec.specs.Meaning.{accepts}
 use Rattle.olk_base.specs.Kit.{Kit}
-use Rattle.olk_validator.specs.Validators.{IsValidatorOf}
-use Rattle.olk_validator.specs.declared.validator.Validator.{Validator}
+use Rattle.object_logic.specs.Validators.{IsValidatorOf}
+use Rattle.object_logic.specs.declared.validator.Validator.{Validator}
 
 -- the verdict of each schema that the validator stands for, where unfinished matches count as none
 abbrev pub IsVerdictOf : {K R : Type 0} → Kit K R → World → Validator K R → Data → Bool → Type 0

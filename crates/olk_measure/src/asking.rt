@@ -7,8 +7,8 @@ ghost use Rattle.olk_base.specs.Kit.{kit, world};
 ghost use Rattle.olk_measure.specs.Verdicts.{IsVerdictOf};
 
 use crate::request::{Ask, Request};
+use object_logic::{Leaf, Meter, RegexEngine, ValidateError, ValidationContext, Validator};
 use olk_bench::{BenchLeaves, BenchRegexes};
-use olk_validator::{Leaf, Meter, RegexEngine, ValidateError, ValidationContext, Validator};
 use serde_json::Value;
 use std::alloc::{AllocError, Global};
 

@@ -1,6 +1,6 @@
 //! Asks one question many times, so that the instructions that one takes can be counted.
 //!
-//! Stands on `olk_validator`, `olk_bench` and `olk_answers`. Tested by its files `stdin` and
+//! Stands on `object_logic`, `olk_bench` and `olk_answers`. Tested by its files `stdin` and
 //! `stdout`.
 #![tactic(auto)]
 

@@ -1,7 +1,6 @@
 //! Pointers to the values and names that errors are about.
 use olk_base::Node;
-use olk_paths::Location;
-use olk_reports::{ValidationError, ValidationErrorKind};
+use olk_reports::{Location, ValidationError, ValidationErrorKind};
 use std::alloc::{AllocError, Global};
 
 /// What an error is about: a value, or a member's name.

@@ -1,6 +1,6 @@
 //! What is told of one instance: the verdict, the first error, all errors, or the evaluation.
 //!
-//! For any leaf set and matcher. Stands on `olk_validator` and `olk_answers`. Tested by the files
+//! For any leaf set and matcher. Stands on `object_logic` and `olk_answers`. Tested by the files
 //! `stdin` and `stdout` of `olk_cli`.
 #![tactic(auto)]
 

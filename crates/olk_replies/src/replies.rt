@@ -2,14 +2,14 @@
 ghost use Rattle.std.specs.Prelude.{◌≡◌, false, IfOk};
 ghost use Rattle.serde_json.specs.View.{view};
 ghost use Rattle.olk_base.specs.Kit.{kit, world};
-ghost use Rattle.olk_validator.specs.Validators.{IsValidatorOf, first_faults};
+ghost use Rattle.object_logic.specs.Validators.{IsValidatorOf, first_faults};
 ghost use Rattle.olk_answers.specs.Texts.{json_text};
 ghost use Rattle.olk_answers.specs.Told.{verdict};
 ghost use Rattle.olk_replies.specs.Replies.{has_fraction, accepted, TellsFirst, TellsErrors, TellsEvaluation};
 ghost use Rattle.olk_replies.specs.Seen.{seen};
 
+use object_logic::{Leaf, RegexEngine, ValidationContext, Validator};
 use olk_answers::{errors_text, evaluation_text, first_text, verdict_text};
-use olk_validator::{Leaf, RegexEngine, ValidationContext, Validator};
 use serde_json::Value;
 use std::alloc::{AllocError, Global};
 

@@ -1,3 +1,4 @@
+pub mod Paths
 pub mod Errors
 pub mod Evaluations
 pub mod Entries

@@ -1,3 +1,4 @@
+pub mod Paths
 pub mod Errors
 pub mod Messages
 pub mod Shown

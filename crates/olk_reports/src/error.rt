@@ -12,8 +12,8 @@ use crate::message::{
     ending_text, joined_text, name_text, names_text, node_text, required_text, starting_text,
     type_error_text,
 };
+use crate::{Location, PathText};
 use olk_base::{JsonType, Node, quoted_text};
-use olk_paths::{Location, PathText};
 use serde_json::Value;
 use std::alloc::{AllocError, Global};
 

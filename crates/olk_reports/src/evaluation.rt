@@ -7,9 +7,9 @@ ghost use Rattle.olk_spec.specs.Names.{Path};
 ghost use Rattle.olk_spec.specs.Tree.{errors, is_valid};
 ghost use Rattle.olk_reports.specs.Evaluations.{tree_of};
 
+use crate::PathText;
 use crate::error::{ValidationError, ValidationErrorKind};
 use olk_base::Node;
-use olk_paths::PathText;
 use std::alloc::{AllocError, Global};
 use std::marker::Model;
 

@@ -9,7 +9,7 @@ use crate::pattern_table::PatternTable;
 use crate::properties_map::PropertiesMap;
 use crate::validators_map::PropertiesValidatorsMap;
 use olk_base::CompiledPattern;
-use olk_paths::Location;
+use olk_reports::Location;
 
 /// `additionalProperties` that is a schema, alone: it is to accept each member (JSON Schema 2020-12
 /// Core, 10.3.2.3).

@@ -1,5 +1,5 @@
 //! `allOf`: what its validators hold.
-use olk_paths::Location;
+use olk_reports::Location;
 
 /// `allOf` of several branches, or of none: each is to accept (JSON Schema 2020-12 Core, 10.2.1.1).
 #[derive(Drop)]

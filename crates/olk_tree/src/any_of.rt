@@ -1,5 +1,5 @@
 //! `anyOf`: what its validators hold.
-use olk_paths::Location;
+use olk_reports::Location;
 
 /// `anyOf` of several branches, or of none: one is to accept (JSON Schema 2020-12 Core, 10.2.1.2).
 #[derive(Drop)]

@@ -1,7 +1,7 @@
 //! Nodes as building makes them.
 use crate::node::{Body, KeywordOver};
 use olk_base::{Leaf, RegexEngine};
-use olk_paths::Location;
+use olk_reports::Location;
 
 /// A type of nodes that building makes: each answers as what it is made with does. Building knows no
 /// more of a node; `SchemaNode` implements it.

@@ -1,7 +1,7 @@
 //! `dependentRequired`, `dependentSchemas` and `dependencies`: what their validators hold, which is
 //! a node for each key that is asked of the whole object where the key is a member.
 use crate::map::SmallMap;
-use olk_paths::Location;
+use olk_reports::Location;
 
 /// `dependencies`: where a key is a member, its subschema is to accept the object, or its names are
 /// to be members too (JSON Schema draft 7 Validation, 6.5.7).

@@ -1,5 +1,5 @@
 //! `if`, `then` and `else`: what their validators hold.
-use olk_paths::Location;
+use olk_reports::Location;
 
 /// `if` with `then`: where `schema` accepts, `then_schema` is to accept too (JSON Schema 2020-12
 /// Core, 10.2.2.1 and 10.2.2.2).

@@ -1,7 +1,7 @@
 //! Validators, and what they hold: what they mean and what they report, over the nodes that they
 //! are generic in.
 //!
-//! `BuiltNode` is a node as building knows it. Stands on `olk_paths` and `olk_meaning`. Tested by
+//! `BuiltNode` is a node as building knows it. Stands on `olk_reports` and `olk_meaning`. Tested by
 //! `object_logic_tests`.
 #![tactic(auto)]
 

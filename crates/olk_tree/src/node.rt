@@ -12,7 +12,7 @@ use crate::property_dependencies::PropertyDependencies;
 use crate::property_names::{PropertyNames, PropertyNamesFalse};
 use crate::required::RequiredValidator;
 use olk_base::{Leaf, RegexEngine};
-use olk_paths::Location;
+use olk_reports::Location;
 
 /// A keyword of a schema object, over the nodes that it holds.
 #[derive(Drop)]

@@ -1,5 +1,5 @@
 //! `not`: what its validator holds.
-use olk_paths::Location;
+use olk_reports::Location;
 use serde_json::Value;
 
 /// `not`: the subschema is to refuse (JSON Schema 2020-12 Core, 10.2.1.4).

@@ -1,5 +1,5 @@
 //! `oneOf`: what its validators hold.
-use olk_paths::Location;
+use olk_reports::Location;
 
 /// `oneOf` of several branches, or of none: exactly one is to accept (JSON Schema 2020-12 Core,
 /// 10.2.1.3).

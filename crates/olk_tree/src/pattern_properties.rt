@@ -1,6 +1,6 @@
 //! `patternProperties`: what its validators hold.
 use olk_base::{CompiledPattern, RegexEngine};
-use olk_paths::Location;
+use olk_reports::Location;
 
 /// `patternProperties` of several patterns, or of none: a member whose name a pattern matches is to
 /// be accepted by that pattern's subschema (JSON Schema 2020-12 Core, 10.3.2.2).

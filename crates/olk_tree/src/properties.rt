@@ -1,7 +1,7 @@
 //! `properties`: what its validators hold.
 use crate::big_map::BigMap;
 use crate::map::SmallMap;
-use olk_paths::Location;
+use olk_reports::Location;
 
 /// `properties` of few names: a member whose name is declared is to be accepted by that name's
 /// subschema (JSON Schema 2020-12 Core, 10.3.2.1).

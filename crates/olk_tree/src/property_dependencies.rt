@@ -5,7 +5,7 @@ ghost use Rattle.olk_tree.specs.PropertyDependencies.{chosen_at};
 
 use crate::map::SmallMap;
 use crate::validators_map::PropertiesValidatorsMap;
-use olk_paths::Location;
+use olk_reports::Location;
 use serde_json::Value;
 
 /// `propertyDependencies`: where the member at a key is a text that the key's entry holds, the

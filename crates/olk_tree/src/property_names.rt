@@ -1,5 +1,5 @@
 //! `propertyNames`: what its validators hold.
-use olk_paths::Location;
+use olk_reports::Location;
 
 /// `propertyNames`: the subschema is to accept each member's name, as the text that it spells (JSON
 /// Schema 2020-12 Core, 10.3.2.4).

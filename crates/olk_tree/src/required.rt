@@ -1,5 +1,5 @@
 //! `required`: what its validator holds.
-use olk_paths::Location;
+use olk_reports::Location;
 
 /// `required`: each name is to be a member, where the value is an object (JSON Schema 2020-12
 /// Validation, 6.5.3).

@@ -1,6 +1,5 @@
 -- The order of whole numbers and doubles.
-use Rattle.std.proofs.Common.{add_comm, add-zero, mul-one, ◌≡◌, ℕ, suc, ◌+◌, ◌*◌, ◌/◌, ◌%◌, ◌^◌, ◌<◌, inl, inr, refl, sym, ap, subst, ◌∙◌, arith, true≢false}
-use Rattle.std.proofs.Common.{unsigned_abs, int_lt, Less, Equal, Greater, Bool, true, false, cond, nat_eq, nat_lt, ℤ, pos, negsuc, Some, None, T}
+use Rattle.std.proofs.Common.{add_comm, add-zero, mul-one, ◌≡◌, ℕ, suc, ◌+◌, ◌*◌, ◌/◌, ◌%◌, ◌^◌, ◌<◌, inl, inr, refl, sym, ap, subst, ◌∙◌, arith, true≢false, unsigned_abs, int_lt, Less, Equal, Greater, Bool, true, false, cond, nat_eq, nat_lt, ℤ, pos, negsuc, Some, None, T}
 use Rattle.std.proofs.Math.Nat.{div-lt_iff_lt-mul, mul-div_cancel, zero-mod, div-add-mod'}
 use Rattle.std.specs.Float.Ieee.Fits.{down_pos}
 use Rattle.std.proofs.lemmas.Bool.{cases_lt, eqb-true, eq-eqb, ne_eqb, eqb-false, lt-ltb, le-ltb, ltb-true, ltb-false}

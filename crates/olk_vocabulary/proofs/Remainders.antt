@@ -1,6 +1,5 @@
 -- When a double is a whole number, and when it is a multiple of one.
-use Rattle.std.proofs.Common.{pow_pos, lit<, ◌≡◌, ℕ, zero, suc, ◌*◌, ◌/◌, ◌%◌, ◌^◌, ◌+◌, ◌<◌, ◌≤◌, refl, sym, ap, subst, ◌∙◌, arith, true≢false}
-use Rattle.std.proofs.Common.{nat_lt, nat_eq, negsuc, Bool, true, false, ◌&&◌, ℤ, pos, T, inl, inr}
+use Rattle.std.proofs.Common.{pow_pos, lit<, ◌≡◌, ℕ, zero, suc, ◌*◌, ◌/◌, ◌%◌, ◌^◌, ◌+◌, ◌<◌, ◌≤◌, refl, sym, ap, subst, ◌∙◌, arith, true≢false, nat_lt, nat_eq, negsuc, Bool, true, false, ◌&&◌, ℤ, pos, T, inl, inr}
 use Rattle.std.proofs.Math.Bool.{and-false, and-true}
 use Rattle.std.proofs.Math.Dec.{ltb→lt}
 use Rattle.std.proofs.lemmas.Bool.{ltb-true, ltb-false, lt-ltb, le-ltb, eq-eqb, eqb-true, eqb-false, ne_eqb}

@@ -2,8 +2,7 @@
 ghost use Rattle.std.specs.Prelude.{◌≡◌, option_map, pos};
 ghost use Rattle.std.specs.Ordering.{float_partial_cmp, ordering_reverse};
 ghost use Rattle.serde_json.specs.View.{number_view};
-ghost use Rattle.olk_vocabulary.specs.Numbers.{num_of, of_whole, exact};
-ghost use Rattle.olk_vocabulary.specs.Numbers.{is_below, is_same_number, is_at_most, is_integral, is_multiple_of};
+ghost use Rattle.olk_vocabulary.specs.Numbers.{num_of, of_whole, exact, is_below, is_same_number, is_at_most, is_integral, is_multiple_of};
 
 use olk_bench::Divisor;
 use serde_json::Number;

@@ -1,7 +1,7 @@
 use borrow.Author.Count.{falls}
 use Rattle.std.proofs.lemmas.Result.{IfOk-weaker}
 use Rattle.olk_build.proofs.Places.{no_object_no_members, no_array_no_items, none_are_built, itself_is_built}
-use Rattle.olk_read.specs.declared.shape.ReadPlaces.TheVariants.{Nothing, Entries, SchemaEntries, InnerEntries, Branches}
+use Rattle.olk_build.specs.declared.shape.ReadPlaces.TheVariants.{Nothing, Entries, SchemaEntries, InnerEntries, Branches}
 use Rattle.std.proofs.Common.{arith, rules, true, false, inl, inr, ◌++◌, [], ◌∷◌, map, refl, sym, ap, subst, ◌≡◌, ◌∙◌, Some, None}
 use Rattle.olk_meaning.specs.Conditions.{known}
 use Rattle.std.proofs.lemmas.List.{append-nil, append_assoc}
@@ -13,19 +13,19 @@ use Rattle.olk_reports.proofs.Errors.{kind_of_multiple_types}
 use Rattle.olk_base.specs.Kit.{kit}
 use Rattle.olk_build.specs.Building.{entries_read}
 use Rattle.olk_build.specs.Placing.{PlacesAreBuilt}
-use Rattle.olk_read.proofs.Spending.{exit, exit_with, refuses_memory, within_nothing, within_exactly}
+use Rattle.olk_build.proofs.Spending.{exit, exit_with, refuses_memory, within_nothing, within_exactly}
 use Rattle.olk_spec.proofs.Maps.{items_list-view}
-use Rattle.olk_read.proofs.Entries.{below, listed_alike}
+use Rattle.olk_build.proofs.ReadEntries.{below, listed_alike}
 use Rattle.olk_build.proofs.Built.{next_branch, no_branch, no_entries, entries_built, entries_memory, entry_refused, entry_memory, one_more_entry, no_inner, inner_built, inner_memory, inner_refused, more_inner_memory, one_more_inner, at_an_entry, past_an_entry, none_is_read, built_truth, built_object, refuses_object, refuses_no_schema}
 use Rattle.olk_meaning.proofs.Objects.{no_schema_is}
 use Rattle.olk_build.proofs.Parts.{refuses_part_own, refuses_part_inside, part_is_built}
 use Rattle.serde_json.proofs.value.Value.TheLaws.{the_size}
 use Rattle.olk_build.proofs.Sizes.{size_among}
 use Rattle.olk_meaning.specs.Plans.{planned}
-use Rattle.olk_make.specs.Standing.{is_taken}
+use Rattle.olk_build.specs.Standing.{is_taken}
 use Rattle.olk_meaning.proofs.MemberLookups.{member_lookup}
 use Rattle.olk_build.proofs.Neighbouring.{neighbour_refused, no_neighbour, neighbour_built, first_beside_refused, second_beside_refused}
-use Rattle.olk_build.proofs.Taken.{takes_nothing, both_taken, taking_memory}
+use Rattle.olk_build.proofs.TakenParts.{takes_nothing, both_taken, taking_memory}
 use Rattle.olk_build.proofs.Keywords.{no_keywords_so_far, keywords_memory, object_is_built, next_found, next_taken, next_refused, one_more}
 use Rattle.olk_build.proofs.Member.{part_refused, beside_refused, read_memory, member_built, taken_built, alone_memory, alone_built}
 use Rattle.olk_build.proofs.build.+compile.Goals as goal

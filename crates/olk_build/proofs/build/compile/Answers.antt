@@ -1,5 +1,5 @@
 use Rattle.std.proofs.lemmas.Result.{err_from_is_err_and}
-use Rattle.olk_read.proofs.Spending.{exit_with, within_nothing}
+use Rattle.olk_build.proofs.Spending.{exit_with, within_nothing}
 use Rattle.olk_build.proofs.build.compile.Goals as goal
 
 pub returns-in_err-location-clause-costs_at_most : goal.returns-in_err-location-clause-costs_at_most

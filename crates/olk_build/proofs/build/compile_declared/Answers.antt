@@ -1,4 +1,4 @@
-use Rattle.olk_read.proofs.Spending.{exit, exit_with, refuses_memory, within_nothing}
+use Rattle.olk_build.proofs.Spending.{exit, exit_with, refuses_memory, within_nothing}
 use Rattle.olk_build.proofs.build.compile_declared.Goals as goal
 
 pub returns-in_err-location-clause-refused : goal.returns-in_err-location-clause-refused

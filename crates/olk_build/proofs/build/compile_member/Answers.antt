@@ -1,8 +1,8 @@
 use Rattle.std.proofs.Common.{refl, sym, ◌∙◌, ap}
 use Rattle.serde_json.specs.View.{view, members_view}
 use Rattle.olk_base.specs.Kit.{kit}
-use Rattle.olk_make.specs.Standing.{is_taken}
-use Rattle.olk_read.proofs.Spending.{exit}
+use Rattle.olk_build.specs.Standing.{is_taken}
+use Rattle.olk_build.proofs.Spending.{exit}
 use Rattle.olk_build.proofs.Member.{taken_built, unread_memory, part_refused, beside_refused, read_memory, member_built}
 use Rattle.olk_build.proofs.build.compile_member.Goals as goal
 

@@ -3,8 +3,8 @@ use Rattle.std.proofs.lemmas.Result.{on_ok_weaker}
 use Rattle.std.proofs.lemmas.List.{append-nil}
 use Rattle.olk_base.specs.Kit.{kit}
 use Rattle.olk_meaning.specs.Plans.{planned}
-use Rattle.olk_make.specs.Made.{IsMade}
-use Rattle.olk_make.specs.Making.{MakesPart}
+use Rattle.olk_build.specs.Made.{IsMade}
+use Rattle.olk_build.specs.Making.{MakesPart}
 use Rattle.olk_build.proofs.Appending.{makes_nothing}
 use Rattle.olk_build.proofs.taking.append_other.Goals as goal
 

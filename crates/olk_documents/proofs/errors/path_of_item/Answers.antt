@@ -1,5 +1,5 @@
 use Rattle.std.proofs.Common.{◌∷◌, ◌++◌, ap, ◌∙◌, IfOk, decimal, Result, Ok, Err}
-use Rattle.olk_paths.specs.Trails.{path_at}
+use Rattle.olk_reports.specs.Paths.{path_at}
 use Rattle.olk_documents.proofs.Segments.{item_below}
 use Rattle.olk_documents.proofs.errors.path_of_item.Goals as goal
 

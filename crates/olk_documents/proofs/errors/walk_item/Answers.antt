@@ -1,7 +1,7 @@
 use Rattle.std.proofs.Common.{Bool, ap, ◌∙◌, decimal}
 use Rattle.serde_json.specs.View.{view}
 use Rattle.olk_spec.specs.Names.{Path, ◌//◌}
-use Rattle.olk_paths.specs.Trails.{path_at}
+use Rattle.olk_reports.specs.Paths.{path_at}
 use Rattle.olk_errors.specs.Found.{Outcome}
 use Rattle.olk_errors.specs.Outcomes.{of_node}
 use Rattle.olk_errors.proofs.Sinks.{walks_nowhere, walks_asked, walks_same}

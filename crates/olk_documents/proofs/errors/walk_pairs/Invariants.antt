@@ -3,7 +3,7 @@ use Rattle.std.specs.List.{zip}
 use Rattle.serde_json.specs.View.{view}
 use Rattle.olk_spec.specs.Names.{◌//◌}
 use Rattle.olk_spec.specs.Schemas.{numbered}
-use Rattle.olk_paths.specs.Trails.{path_at}
+use Rattle.olk_reports.specs.Paths.{path_at}
 use Rattle.olk_errors.proofs.Loops.{Walking}
 use Rattle.olk_documents.proofs.errors.walk_pairs.Given as goal
 

@@ -1,5 +1,5 @@
 use Rattle.olk_base.specs.Nodes.{subject_data}
-use Rattle.olk_paths.specs.Trails.{path_at}
+use Rattle.olk_reports.specs.Paths.{path_at}
 use Rattle.olk_errors.specs.Outcomes.{of_body, of_branches}
 use Rattle.olk_errors.proofs.Sinks.{walks_left, walks_before}
 use Rattle.olk_documents.proofs.Outcomes.{walks_both}

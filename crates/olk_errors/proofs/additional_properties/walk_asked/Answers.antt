@@ -2,7 +2,7 @@ use Rattle.std.proofs.Common.{refl, ℕ, arith, ◌∙◌, option_map}
 use Rattle.std.proofs.lemmas.Result.{IfOk-weaker}
 use Rattle.serde_json.specs.View.{view}
 use Rattle.olk_spec.proofs.Maps.{is_some-map}
-use Rattle.olk_paths.specs.Trails.{path_at}
+use Rattle.olk_reports.specs.Paths.{path_at}
 use Rattle.olk_tree.proofs.Lists.{next_at, past_end}
 use Rattle.olk_tree.specs.Additional.{sides_seen}
 use Rattle.olk_errors.proofs.Additional.{asked_member, named_turn, pattern_turn, spoken_expected, rest_unexpected, spoken_end, rest_end, pattern_left}

@@ -1,6 +1,6 @@
 use Rattle.std.proofs.Common.{ℕ, option_map}
 use Rattle.serde_json.specs.View.{view}
-use Rattle.olk_paths.specs.Trails.{path_at}
+use Rattle.olk_reports.specs.Paths.{path_at}
 use Rattle.olk_tree.specs.Additional.{sides_seen}
 use Rattle.olk_errors.proofs.Additional.{WalkingMember, asked_member}
 use Rattle.olk_errors.proofs.additional_properties.walk_asked.Given as goal

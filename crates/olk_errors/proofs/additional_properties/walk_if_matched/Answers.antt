@@ -2,7 +2,7 @@ use Rattle.std.proofs.Common.{◌∙◌}
 use Rattle.serde_json.specs.View.{view}
 use Rattle.olk_base.specs.Compiled.{pattern_answers, pattern_costs}
 use Rattle.olk_spec.specs.Names.{◌//◌}
-use Rattle.olk_paths.specs.Trails.{path_at}
+use Rattle.olk_reports.specs.Paths.{path_at}
 use Rattle.olk_tree.specs.Tables.{known_says}
 use Rattle.olk_errors.proofs.Additional.{if_matched_is, one_alone}
 use Rattle.olk_errors.proofs.Due.{past_none}

@@ -2,7 +2,7 @@ use Rattle.std.proofs.Common.{map}
 use Rattle.serde_json.specs.View.{members_view}
 use Rattle.olk_base.specs.Nodes.{subject_data}
 use Rattle.olk_spec.specs.Schemas.{listed}
-use Rattle.olk_paths.specs.Trails.{path_at}
+use Rattle.olk_reports.specs.Paths.{path_at}
 use Rattle.olk_tree.specs.Additional.{sides_seen}
 use Rattle.olk_errors.proofs.AdditionalMembers.{WalkingMembers}
 use Rattle.olk_errors.proofs.additional_properties.walk_members.Given as goal

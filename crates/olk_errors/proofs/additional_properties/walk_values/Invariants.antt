@@ -2,7 +2,7 @@ use Rattle.serde_json.specs.View.{members_view}
 use Rattle.olk_base.specs.Nodes.{subject_data}
 use Rattle.olk_spec.specs.Names.{◌//◌}
 use Rattle.olk_spec.specs.Schemas.{listed, members}
-use Rattle.olk_paths.specs.Trails.{path_at}
+use Rattle.olk_reports.specs.Paths.{path_at}
 use Rattle.olk_errors.proofs.Loops.{Walking}
 use Rattle.olk_errors.proofs.additional_properties.walk_values.Given as goal
 

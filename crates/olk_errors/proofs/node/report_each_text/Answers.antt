@@ -3,7 +3,7 @@ use Rattle.std.proofs.lemmas.Simd.{map-map}
 use Rattle.std.specs.Vec.Iter.{into_iter_items}
 use Rattle.olk_base.specs.Nodes.{subject_data}
 use Rattle.olk_spec.specs.Faults.{fault}
-use Rattle.olk_paths.specs.Trails.{path_at}
+use Rattle.olk_reports.specs.Paths.{path_at}
 use Rattle.olk_reports.proofs.Errors.{kind_of_leaf}
 use Rattle.olk_tree.specs.Maps.{texts_of}
 use Rattle.olk_errors.proofs.Own.{leaf_fault}

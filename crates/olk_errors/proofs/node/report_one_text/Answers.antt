@@ -2,7 +2,7 @@ use Rattle.std.proofs.Common.{ap, subst, ◌∙◌, string_bytes}
 use Rattle.olk_base.specs.Lawful.{IsOneOf}
 use Rattle.olk_base.specs.Nodes.{subject_data}
 use Rattle.olk_spec.specs.Faults.{fault, Leaf}
-use Rattle.olk_paths.specs.Trails.{path_at}
+use Rattle.olk_reports.specs.Paths.{path_at}
 use Rattle.olk_reports.proofs.Errors.{kind_of_leaf}
 use Rattle.olk_errors.proofs.Own.{leaf_error}
 use Rattle.olk_errors.proofs.Sinks.{ends_nowhere, ends_wanted}

@@ -1,7 +1,7 @@
 use Rattle.std.proofs.Common.{ap}
 use Rattle.serde_json.specs.View.{members_view}
 use Rattle.olk_spec.specs.Schemas.{listed}
-use Rattle.olk_paths.specs.Trails.{path_at}
+use Rattle.olk_reports.specs.Paths.{path_at}
 use Rattle.olk_tree.proofs.Due.{name_next, no_name_next}
 use Rattle.olk_tree.specs.Visited.{object_of}
 use Rattle.olk_errors.proofs.Loops.{walking_from, walking_turn, walking_end}

@@ -1,5 +1,5 @@
 use Rattle.std.proofs.Common.{refl}
-use Rattle.olk_paths.specs.Trails.{path_at}
+use Rattle.olk_reports.specs.Paths.{path_at}
 use Rattle.olk_tree.proofs.Lists.{next_at, past_end}
 use Rattle.olk_tree.specs.Visited.{object_of}
 use Rattle.olk_errors.proofs.Loops.{walking_start, walking_turn, walking_end}

@@ -1,5 +1,5 @@
 use Rattle.std.proofs.Common.{drop}
-use Rattle.olk_paths.specs.Trails.{path_at}
+use Rattle.olk_reports.specs.Paths.{path_at}
 use Rattle.olk_tree.specs.Visited.{object_of}
 use Rattle.olk_tree.specs.PatternProperties.{matched_mean}
 use Rattle.olk_errors.specs.Outcomes.{of_matched}

@@ -1,7 +1,7 @@
 use Rattle.std.proofs.Common.{refl}
 use Rattle.serde_json.specs.View.{view}
 use Rattle.olk_spec.specs.Names.{◌//◌}
-use Rattle.olk_paths.specs.Trails.{path_at}
+use Rattle.olk_reports.specs.Paths.{path_at}
 use Rattle.olk_errors.proofs.Patterns.{unmatched, matched_as_node}
 use Rattle.olk_errors.proofs.Sinks.{walks_past, walks_same, walks_asked}
 use Rattle.olk_errors.specs.Outcomes.{of_node}

@@ -1,7 +1,7 @@
 use Rattle.std.proofs.Common.{true}
 use Rattle.serde_json.specs.View.{members_view}
 use Rattle.olk_spec.specs.Schemas.{listed}
-use Rattle.olk_paths.specs.Trails.{path_at}
+use Rattle.olk_reports.specs.Paths.{path_at}
 use Rattle.olk_tree.specs.Questions.{always, conditional}
 use Rattle.olk_tree.specs.Matched.{match_question}
 use Rattle.olk_errors.specs.Outcomes.{of_match}

@@ -1,6 +1,6 @@
 use Rattle.std.proofs.Common.{drop, true}
 use Rattle.serde_json.specs.View.{view}
-use Rattle.olk_paths.specs.Trails.{path_at}
+use Rattle.olk_reports.specs.Paths.{path_at}
 use Rattle.olk_tree.specs.Questions.{always, conditional}
 use Rattle.olk_tree.specs.Matched.{match_question}
 use Rattle.olk_errors.specs.Outcomes.{of_match}

@@ -1,5 +1,5 @@
 use Rattle.serde_json.specs.View.{members_view}
-use Rattle.olk_paths.specs.Trails.{path_at}
+use Rattle.olk_reports.specs.Paths.{path_at}
 use Rattle.olk_errors.proofs.Loops.{walking_start, walking_turn, walking_end}
 use Rattle.olk_errors.proofs.Members.{outcome_of_walk}
 use Rattle.olk_errors.proofs.Sinks.{walks_same, walks_left}

@@ -1,5 +1,5 @@
 use Rattle.olk_spec.specs.Names.{◌//◌}
-use Rattle.olk_paths.specs.Trails.{path_at}
+use Rattle.olk_reports.specs.Paths.{path_at}
 use Rattle.olk_tree.specs.Visited.{left_of}
 use Rattle.olk_errors.proofs.Loops.{Walking}
 use Rattle.olk_errors.proofs.properties.walk_each_name.Given as goal

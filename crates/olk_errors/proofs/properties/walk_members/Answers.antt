@@ -1,5 +1,5 @@
 use Rattle.serde_json.specs.View.{members_view}
-use Rattle.olk_paths.specs.Trails.{path_at}
+use Rattle.olk_reports.specs.Paths.{path_at}
 use Rattle.olk_tree.proofs.Walked.{walks_agree}
 use Rattle.olk_errors.proofs.Members.{outcome_of_members}
 use Rattle.olk_errors.proofs.Sinks.{walks_same}

@@ -1,5 +1,5 @@
 use Rattle.olk_base.specs.Nodes.{subject_data}
-use Rattle.olk_paths.specs.Trails.{path_at}
+use Rattle.olk_reports.specs.Paths.{path_at}
 use Rattle.olk_tree.specs.Questions.{every}
 use Rattle.olk_tree.specs.Visited.{left_of}
 use Rattle.olk_tree.proofs.Due.{chosen}

@@ -4,7 +4,7 @@ use Rattle.serde_json.specs.Data.{string}
 use Rattle.olk_base.specs.Nodes.{subject_data}
 use Rattle.olk_spec.specs.Faults.{◌∼◌}
 use Rattle.olk_spec.specs.Reports.{wrapped}
-use Rattle.olk_paths.specs.Trails.{path_at}
+use Rattle.olk_reports.specs.Paths.{path_at}
 use Rattle.olk_reports.specs.Errors.{fault_of}
 use Rattle.olk_errors.proofs.Names.{names_told}
 use Rattle.olk_errors.proofs.Sinks.{ends_left, walks_nowhere}

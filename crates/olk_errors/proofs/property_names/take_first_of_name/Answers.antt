@@ -1,7 +1,7 @@
 use Rattle.std.proofs.Common.{refl, subst, string_bytes}
 use Rattle.serde_json.specs.Data.{string}
 use Rattle.olk_base.specs.Nodes.{subject_data}
-use Rattle.olk_paths.specs.Trails.{path_at}
+use Rattle.olk_reports.specs.Paths.{path_at}
 use Rattle.olk_reports.specs.Errors.{fault_of}
 use Rattle.olk_errors.proofs.Names.{name_errs, no_name_error}
 use Rattle.olk_errors.proofs.Sinks.{ends_wanted, walks_nowhere}

@@ -1,7 +1,7 @@
 use Rattle.serde_json.specs.Data.{string}
 use Rattle.serde_json.specs.View.{members_view}
 use Rattle.olk_base.specs.Nodes.{subject_data}
-use Rattle.olk_paths.specs.Trails.{path_at}
+use Rattle.olk_reports.specs.Paths.{path_at}
 use Rattle.olk_spec.specs.Schemas.{listed}
 use Rattle.olk_errors.specs.Outcomes.{of_asked_name}
 use Rattle.olk_errors.proofs.Loops.{Walking}

@@ -1,7 +1,7 @@
 use mathlib.Core.Path.{subst₂}
 use Rattle.olk_base.specs.Nodes.{subject_data}
 use Rattle.olk_spec.specs.Faults.{fault}
-use Rattle.olk_paths.specs.Trails.{path_at}
+use Rattle.olk_reports.specs.Paths.{path_at}
 use Rattle.olk_reports.proofs.Errors.{kind_of_required}
 use Rattle.olk_errors.specs.Sinks.{Takes}
 use Rattle.olk_errors.proofs.required.report_absent.Goals as goal

@@ -1,6 +1,6 @@
 use Rattle.std.proofs.Common.{drop, true}
 use Rattle.olk_base.specs.Nodes.{subject_data}
-use Rattle.olk_paths.specs.Trails.{path_at}
+use Rattle.olk_reports.specs.Paths.{path_at}
 use Rattle.olk_errors.proofs.Loops.{Walked}
 use Rattle.olk_errors.proofs.Missing.{is_there, lacked}
 use Rattle.olk_errors.proofs.required.walk_missing.Given as goal

@@ -1,6 +1,6 @@
 use Rattle.olk_base.specs.Kit.{kit}
 use Rattle.olk_base.specs.Nodes.{subject_data}
-use Rattle.olk_paths.specs.Trails.{path_at}
+use Rattle.olk_reports.specs.Paths.{path_at}
 use Rattle.olk_errors.proofs.Sinks.{walks_same}
 use Rattle.olk_documents.proofs.Outcomes.{node_outcome}
 use Rattle.olk_documents.proofs.errors.DocumentNodeWalk.+errors.Goals as goal

@@ -3,7 +3,7 @@ use Rattle.serde_json.specs.Find.{as_array}
 use Rattle.olk_base.specs.Nodes.{subject_data}
 use Rattle.olk_spec.specs.Names.{◌//◌}
 use Rattle.olk_spec.specs.Schemas.{numbered}
-use Rattle.olk_paths.specs.Trails.{path_at}
+use Rattle.olk_reports.specs.Paths.{path_at}
 use Rattle.olk_errors.specs.Outcomes.{of_each}
 use Rattle.olk_errors.proofs.Loops.{walking_start, walking_end}
 use Rattle.olk_errors.proofs.Sinks.{walks_same}

@@ -1,5 +1,5 @@
 use Rattle.olk_base.specs.Nodes.{subject_data}
-use Rattle.olk_paths.specs.Trails.{path_at}
+use Rattle.olk_reports.specs.Paths.{path_at}
 use Rattle.olk_check.proofs.Asked.{only_same}
 use Rattle.olk_errors.proofs.AdditionalHeld.{no_members_held}
 use Rattle.olk_errors.proofs.Sinks.{walks_same, walks_alone}

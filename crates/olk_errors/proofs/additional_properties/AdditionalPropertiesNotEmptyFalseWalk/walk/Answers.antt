@@ -1,6 +1,6 @@
 use Rattle.std.proofs.Common.{refl}
 use Rattle.olk_base.specs.Nodes.{subject_data}
-use Rattle.olk_paths.specs.Trails.{path_at}
+use Rattle.olk_reports.specs.Paths.{path_at}
 use Rattle.olk_tree.specs.Holdings.{not_empty_false_holds}
 use Rattle.olk_errors.proofs.AdditionalHeld.{no_regex_answers, no_regex_costs, walks_sides}
 use Rattle.olk_errors.proofs.additional_properties.AdditionalPropertiesNotEmptyFalseWalk.walk.Goals as goal

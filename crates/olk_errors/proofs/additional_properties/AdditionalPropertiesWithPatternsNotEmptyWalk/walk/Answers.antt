@@ -1,6 +1,6 @@
 use Rattle.std.proofs.Common.{refl}
 use Rattle.olk_base.specs.Nodes.{subject_data}
-use Rattle.olk_paths.specs.Trails.{path_at}
+use Rattle.olk_reports.specs.Paths.{path_at}
 use Rattle.olk_tree.specs.Holdings.{with_both_holds}
 use Rattle.olk_errors.proofs.AdditionalHeld.{walks_sides}
 use Rattle.olk_errors.proofs.additional_properties.AdditionalPropertiesWithPatternsNotEmptyWalk.walk.Goals as goal

@@ -1,5 +1,5 @@
 use Rattle.olk_base.specs.Nodes.{subject_data}
-use Rattle.olk_paths.specs.Trails.{path_at}
+use Rattle.olk_reports.specs.Paths.{path_at}
 use Rattle.olk_errors.proofs.If.{past_else, walks_else}
 use Rattle.olk_errors.specs.Outcomes.{of_node}
 use Rattle.olk_errors.proofs.if_.IfElseWalk.walk.Goals as goal

@@ -3,7 +3,7 @@ use Rattle.olk_errors.proofs.Patterns.{other_matched}
 use Rattle.olk_errors.proofs.Sinks.{walks_past, walks_same}
 use Rattle.olk_base.specs.Nodes.{subject_data}
 use Rattle.serde_json.specs.View.{members_view}
-use Rattle.olk_paths.specs.Trails.{path_at}
+use Rattle.olk_reports.specs.Paths.{path_at}
 use Rattle.olk_tree.proofs.Members_met.{object_is}
 use Rattle.olk_errors.specs.Outcomes.{of_matched}
 use Rattle.olk_errors.proofs.pattern_properties.SingleValuePatternPropertiesWalk.walk.Goals as goal

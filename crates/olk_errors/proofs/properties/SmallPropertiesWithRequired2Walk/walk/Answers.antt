@@ -2,7 +2,7 @@ use Rattle.std.proofs.Common.{[], ◌∷◌, refl, string_bytes}
 use Rattle.serde_json.specs.Data.{object}
 use Rattle.serde_json.specs.View.{members_view}
 use Rattle.olk_base.specs.Nodes.{subject_data}
-use Rattle.olk_paths.specs.Trails.{path_at}
+use Rattle.olk_reports.specs.Paths.{path_at}
 use Rattle.olk_tree.proofs.Members_met.{object_is}
 use Rattle.olk_tree.specs.Maps.{named, two_texts}
 use Rattle.olk_check.proofs.Asked.{only_same}

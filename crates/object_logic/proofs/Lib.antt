@@ -1,0 +1,6 @@
+pub mod Layers
+pub mod Verdicts
+pub mod Reports
+pub mod Going
+pub mod Appended
+mod OneVerdict

@@ -1,0 +1,49 @@
+-- Patterns beside the nodes of their entries.
+use Rattle.std.specs.Prelude.{◌≡◌, List, ◌++◌, zip}
+use Rattle.std.specs.declared.alloc.AllocError.{AllocError}
+use Rattle.std.proofs.Common.{sym, subst}
+use mathlib.Core.Path.{subst₂}
+use Rattle.serde_json.specs.Data.{Data}
+use Rattle.olk_spec.specs.Names.{Name, Path}
+use Rattle.olk_base.specs.Count.{Counts}
+use Rattle.olk_base.specs.Kit.{Kit}
+use Rattle.olk_base.specs.declared.pattern.CompiledPattern.{CompiledPattern}
+use Rattle.olk_reports.specs.declared.error.BuildError.{BuildError}
+use Rattle.olk_reports.specs.declared.error.BuildError.TheVariants.{Memory}
+use Rattle.olk_tree.specs.Answers.{Answers}
+use Rattle.olk_build.specs.Reading.{PatternsAreRead, RefusesPatterns}
+use Rattle.olk_build.proofs.Spending.{tells_left, tells_right, within_before, within_after, within_exactly, spends_append, refuses_memory}
+use Rattle.olk_build.specs.Standing.{EntriesStand}
+use Rattle.olk_build.proofs.PatternProperties.{both_stand}
+use Rattle.olk_build.specs.Building.{AreBuilt, RefusesEach, PatternsAreBuilt, RefusesPatternEntries}
+
+module _ {K R N : Type 0} (o : Kit K R) (answers : N → Answers) (es : List (Name × Data)) (l L : Path) (place : l ≡ L) (a : Counts) where
+  -- a pattern is refused
+  pub refuses_pattern : (b : Counts) {x : BuildError} → RefusesPatterns o es l a b x → (e : BuildError) → e ≡ x → RefusesPatternEntries o es L a b e
+  refuses_pattern b {x} h e q = subst₂ (λ M y. RefusesPatternEntries o es M a b y) place (sym q) record {
+    tells = tells_left _ _ x h.tells;
+    spends = within_before a b _ _ h.spends;
+  }
+
+  module _ (ps : List (CompiledPattern R)) (m b : Counts) (read : PatternsAreRead o ps es l a m) where
+    there : PatternsAreRead o ps es L a m
+    there = subst (λ M. PatternsAreRead o ps es M a m) place read
+
+    -- the patterns are read, and a subschema is refused
+    pub refuses_node : {x : BuildError} → RefusesEach o es L m b x → (e : BuildError) → e ≡ x → RefusesPatternEntries o es L a b e
+    refuses_node {x} h e q = subst (RefusesPatternEntries o es L a b) (sym q) record {
+      tells = tells_right _ _ x h.tells;
+      spends = within_after a m b _ _ there.spends h.spends;
+    }
+
+    module _ (ns : List N) (built : AreBuilt o answers ns es L m b) where
+      pub patterns_built : (entries : List (CompiledPattern R × N)) → entries ≡ zip ps ns → PatternsAreBuilt o answers entries es L a b
+      patterns_built entries e = record {
+        stand = subst (λ l. EntriesStand o answers l es L) (sym e) (both_stand o answers ps ns es L there.stand built.stand);
+        clean = λ i. there.clean i ++ built.clean i;
+        spends = spends_append a m b _ _ there.spends built.spends;
+      }
+
+      -- there is no memory for the entries
+      pub refuses_entries : {x : AllocError} (e : BuildError) → e ≡ Memory x → RefusesPatternEntries o es L a b e
+      refuses_entries e q = refuses_memory (within_exactly (spends_append a m b _ _ there.spends built.spends)) e q

@@ -1,0 +1,217 @@
+-- What holds `propertyDependencies`.
+use Rattle.olk_build.proofs.Together.{by_its_name}
+use Rattle.std.specs.Prelude.{◌≡◌, ⊤, ℕ, min, ◌&&◌, List, [], ◌∷◌, ◌++◌, map, length, get_or, take, drop, codes, option_to_list, bytes_eq, Vec, true}
+use Rattle.std.specs.List.{list_all, flat_map, zip}
+use Rattle.std.specs.Ordering.{nat_cmp, is_eq}
+use Rattle.std.specs.Cmp.Lexicographic.{slice_cmp}
+use Rattle.std.specs.declared.alloc.Global.{Global}
+use Rattle.std.specs.declared.cmp.Ordering.{Ordering}
+use Rattle.std.specs.declared.cmp.Ordering.TheVariants.{Less, Equal, Greater}
+use Rattle.std.proofs.Common.{suc, refl, sym, ◌∙◌, ap, subst}
+use Rattle.std.proofs.lemmas.List.{take_at, drop_at, take_min, drop_min, append-nil}
+use Rattle.std.proofs.lemmas.Map.Text.{is_eq-slice_cmp}
+use Rattle.std.proofs.lemmas.Slice.Zip.{firsts-zip, seconds-zip}
+use mathlib.Core.Bool.{true≢false}
+use Rattle.serde_json.specs.Data.{Data, Members}
+use Rattle.olk_spec.specs.Names.{Name, Path, ◌//◌, lookup_name, first_if_equal, is_empty}
+use Rattle.olk_spec.specs.Schemas.{members, at, as_text}
+use Rattle.olk_spec.proofs.Walks.{same_name}
+use Rattle.olk_base.specs.Kit.{Kit}
+use Rattle.olk_meaning.specs.PropertyDependencies.{chosen, chosen_by, choices, choice_answers}
+use Rattle.olk_meaning.proofs.PropertyDependencies.{property_dependencies_told}
+use Rattle.olk_meaning.specs.Chosen.{property_dependencies_form}
+use Rattle.olk_meaning.proofs.Standing.{each_placed, property_dependencies_stand}
+use Rattle.olk_tree.specs.Formed.{is_paired}
+use Rattle.olk_tree.specs.Maps.{keys_in, nodes_in, named}
+use Rattle.olk_tree.specs.PropertyDependencies.{chosen_at, chosen_nodes}
+use Rattle.olk_tree.specs.Validators.{answers_of}
+use Rattle.olk_tree.specs.declared.map.SmallMap.{SmallMap}
+use Rattle.olk_tree.specs.declared.node.KeywordOver.{KeywordOver}
+use Rattle.olk_tree.specs.declared.node.KeywordOver.TheVariants as keyword
+use Rattle.olk_tree.specs.Answers.{Answers}
+use Rattle.olk_build.specs.Reading.{names_of}
+use Rattle.olk_build.specs.declared.shape.Shape.TheVariants as shape
+use Rattle.olk_build.specs.Forms.{HasEntries, AreCut, IsPropertyDependencies}
+use Rattle.olk_build.specs.Holding.{StandInner}
+use Rattle.olk_build.specs.Made.{MakesPropertyDependencies}
+use Rattle.olk_build.specs.Making.{KeywordMeans, MakesMember}
+use Rattle.olk_build.proofs.EntryNodes.{AnswersFor, AnswerEach, each_append, each_count, schemas_answer}
+use Rattle.olk_meaning.specs.Told.{schema_answers}
+use Rattle.olk_meaning.proofs.Rows.{Rows}
+use Rattle.olk_build.proofs.Held.{each_asks, nodes_told, means_told}
+use Rattle.olk_build.proofs.Formed.{has_form, entries_zipped, paired, each_keys, each_held_formed, each_held_placed, stand_in, stand_as}
+use Rattle.olk_spec.proofs.Truth.{and_from}
+
+-- maps, made of the lists of names and the nodes that are left
+abbrev pub MadeByCutting : {N : Type 0} → List (List Name) × List N → List (SmallMap N) → Type 0
+MadeByCutting x maps = AreCut x.0 x.1 maps
+
+-- as many nodes are taken as are wanted, or all
+module _ {N : Type 0} (n : ℕ) (ns taken left : List N) (parts : ns ≡ taken ++ left) (count : length taken ≡ min n (length ns)) where
+  pub taken_first : taken ≡ take n ns
+  taken_first = sym (take_at taken left (length taken) refl) ∙ (λ i. take (count i) (sym parts i)) ∙ take_min n ns
+
+  pub left_behind : left ≡ drop n ns
+  left_behind = sym (drop_at taken left (length taken) refl) ∙ (λ i. drop (count i) (sym parts i)) ∙ drop_min n ns
+
+  -- with names beside the nodes that are taken, one map more is cut
+  pub one_cut : (names : List Name) → length names ≡ n → (m : SmallMap N) → HasEntries names taken m → (ts : List (List Name)) (maps : List (SmallMap N))
+      → AreCut ts left maps → AreCut (names ∷ ts) ns (m ∷ maps)
+  one_cut names len m held ts maps h =
+      ((held.0, held.1 ∙ taken_first ∙ ap (λ k. take k ns) (sym len)), subst (λ l. AreCut ts l maps) (left_behind ∙ ap (λ k. drop k ns) (sym len)) h)
+
+module _ {K R N : Type 0} (o : Kit K R) (answers : N → Answers) where
+  abbrev SchemaFor : N → Name × Data → Path → Type 0
+  SchemaFor = AnswersFor o answers (schema_answers o.world)
+
+  abbrev SchemaEach : List N → Rows → Path → Type 0
+  SchemaEach = AnswerEach o answers (schema_answers o.world)
+
+  -- ---- the nodes that are chosen stand for the schemas that are
+
+  module _ {X : Type 0} (f : X → List N) (g : X → Rows) (L : Path) (each : (x : X) → SchemaEach (f x) (g x) L) where
+    each_of_all : (xs : List X) → SchemaEach (flat_map f xs) (flat_map g xs) L
+    each_of_all [] = tt
+    each_of_all (x ∷ xs) = each_append o answers (schema_answers o.world) (f x) (flat_map f xs) (g x) (flat_map g xs) L (each x) (each_of_all xs)
+
+  -- what a look-up finds among the nodes, and among the entries
+  found_answers : (t : Name) (ns : List N) (es : Rows) (L : Path) → SchemaEach ns es L → SchemaEach (option_to_list (lookup_name t (zip (keys_in es) ns)))
+      (map (λ s. (t, s)) (option_to_list (lookup_name t es))) L
+  found_answers t [] [] L h = tt
+  found_answers t (n ∷ ns) (e ∷ es) L h = by (slice_cmp nat_cmp t e.0) (is_eq-slice_cmp t e.0) (found_answers t ns es L h.1)
+    where
+      by : (c : Ordering) → is_eq c ≡ bytes_eq t e.0 → SchemaEach (option_to_list (lookup_name t (zip (keys_in es) ns))) (map (λ s. (t, s)) (option_to_list (lookup_name t es))) L
+          → SchemaEach (option_to_list (first_if_equal c n (lookup_name t (zip (keys_in es) ns)))) (map (λ s. (t, s)) (option_to_list (first_if_equal c e.1 (lookup_name t es)))) L
+      by Less q k = k
+      by Equal q k = (subst (λ a. SchemaFor n (a, e.1) L) (sym (same_name t e.0 (sym q))) h.0, tt)
+      by Greater q k = k
+  found_answers t _ _ L h = absurd h
+
+  -- a map whose nodes stand for what is in the entry
+  record MapAnswers (m : SmallMap N) (e : Name × Data) (L : Path) : Type 0 where
+    nodes : List N
+    entries : HasEntries (names_of e.1) nodes m
+    held : named m ≡ zip (names_of e.1) nodes
+    each : SchemaEach nodes (members e.1) (L // e.0)
+
+  -- a map for each entry
+  abbrev MapsAnswer : List (SmallMap N) → Rows → Path → Type 0
+  MapsAnswer [] [] L = ⊤
+  MapsAnswer (m ∷ maps) (e ∷ es) L = MapAnswers m e L × MapsAnswer maps es L
+  MapsAnswer _ _ L = ⊥
+
+  maps_formed : (maps : List (SmallMap N)) (es : Rows) (L : Path) → MapsAnswer maps es L → list_all (λ m. is_paired m.names m.nodes && list_all (has_form o answers) (nodes_in (named m))) maps ≡ true
+  maps_formed [] [] L h = refl
+  maps_formed (m ∷ maps) (e ∷ es) L h = and_from _ _
+      (and_from _ _ (paired (names_of e.1) h.0.nodes (each_count o answers _ _ _ _ h.0.each) m.names m.nodes h.0.entries.0 h.0.entries.1) (each_held_formed o answers (named m) _ _ _ h.0.held _ h.0.each))
+      (maps_formed maps es L h.1)
+  maps_formed _ _ L h = absurd h
+
+  -- the names of each
+  maps_names : (maps : List (SmallMap N)) (es : Rows) (L : Path) → MapsAnswer maps es L → map (λ m. keys_in (named m)) maps ≡ map (λ e. names_of e.1) es
+  maps_names [] [] L h = refl
+  maps_names (m ∷ maps) (e ∷ es) L h =
+      λ i. each_keys o answers (named m) _ _ _ h.0.held _ h.0.each i ∷ maps_names maps es L h.1 i
+  maps_names _ _ L h = absurd h
+
+  -- as many as entries
+  maps_count : (maps : List (SmallMap N)) (es : Rows) (L : Path) → MapsAnswer maps es L → length maps ≡ length (keys_in es)
+  maps_count [] [] L h = refl
+  maps_count (m ∷ maps) (e ∷ es) L h = ap suc (maps_count maps es L h.1)
+  maps_count _ _ L h = absurd h
+
+  maps_placed : (maps : List (SmallMap N)) (es : Rows) (L : Path) → MapsAnswer maps es L
+      → flat_map (λ m. flat_map (stand_in o answers) (nodes_in (named m))) maps ≡ flat_map (λ e. each_placed o.world (L // e.0) (members e.1)) es
+  maps_placed [] [] L h = refl
+  maps_placed (m ∷ maps) (e ∷ es) L h = λ i. each_held_placed o answers (named m) _ _ _ h.0.held _ h.0.each i ++ maps_placed maps es L h.1 i
+  maps_placed _ _ L h = absurd h
+
+  module _ (v : Data) where
+    chosen_answer : (m : SmallMap N) (e : Name × Data) (L : Path) → MapAnswers m e L → SchemaEach (flat_map (chosen_at m) (at e.0 v)) (chosen v e) (L // e.0)
+    chosen_answer m e L h = each_of_all (chosen_at m) (chosen_by e.1) (L // e.0)
+        (λ w. each_of_all (λ t. option_to_list (lookup_name t (named m))) (λ t. map (λ s. (t, s)) (at t e.1)) (L // e.0)
+        (λ t. subst (λ ds. SchemaEach (option_to_list (lookup_name t ds)) (map (λ s. (t, s)) (at t e.1)) (L // e.0)) (sym h.held) (found_answers t h.nodes (members e.1) (L // e.0) h.each)) (as_text w)) (at e.0 v)
+
+    abbrev chosen_of : List (SmallMap N) → Rows → List N
+    chosen_of maps es = chosen_nodes (zip (keys_in es) maps) v
+
+    -- schemas of an entry, told of the keyword
+    under_key : (k : Name) (ns : List N) (cs : Rows) (L : Path) → SchemaEach ns cs (L // k) → AnswerEach o answers (choice_answers o.world) ns (map (λ c. (k, c.0, c.1)) cs) L
+    under_key k [] [] L h = tt
+    under_key k (n ∷ ns) (c ∷ cs) L h = (
+      record { verdict = h.0.verdict; asks_within = h.0.asks_within; faults = h.0.faults; evaluation = h.0.evaluation; formed = h.0.formed; forms = h.0.forms },
+      under_key k ns cs L h.1,
+    )
+    under_key k _ _ L h = absurd h
+
+    choices_answer : (maps : List (SmallMap N)) (es : Rows) (L : Path) → MapsAnswer maps es L → AnswerEach o answers (choice_answers o.world) (chosen_of maps es) (choices es v) L
+    choices_answer [] [] L h = tt
+    choices_answer (m ∷ maps) (e ∷ es) L h = each_append o answers (choice_answers o.world) (flat_map (chosen_at m) (at e.0 v)) (chosen_of maps es) (map (λ c. (e.0, c.0, c.1)) (chosen v e)) (choices es v) L
+        (under_key e.0 (flat_map (chosen_at m) (at e.0 v)) (chosen v e) L (chosen_answer m e L h.0)) (choices_answer maps es L h.1)
+    choices_answer _ _ L h = absurd h
+
+  -- ---- the validator
+
+  abbrev choices_of : SmallMap (SmallMap N) → Path → KeywordOver K R N
+  choices_of m L = keyword.PropertyDependencies (record { dependencies = m; location = L })
+
+  module _ (m : SmallMap (SmallMap N)) (maps : List (SmallMap N)) (L : Path) (d : Data) (names : m.names ≡ names_of d) (nodes : m.nodes.items ≡ maps) (stand : MapsAnswer maps (members d) L) where
+    held : named m ≡ zip (names_of d) maps
+    held = entries_zipped (names_of d) maps m (names, nodes)
+
+    held_maps : nodes_in (named m) ≡ maps
+    held_maps = ap nodes_in held ∙ seconds-zip (names_of d) maps (maps_count maps (members d) L stand)
+
+    choices_are : IsPropertyDependencies {K = K} {R = R} L (names_of d) (map (λ e. names_of e.1) (members d)) (choices_of m L)
+    choices_are = (
+      ap keys_in held ∙ firsts-zip (names_of d) maps (maps_count maps (members d) L stand),
+      ap (map (λ m. keys_in (named m))) held_maps ∙ maps_names maps (members d) L stand,
+      refl,
+    )
+
+    means_property_dependencies : (ms : Members) (P : Path) → L ≡ P // codes "propertyDependencies" → KeywordMeans o answers ms (choices_of m L ∷ []) (codes "propertyDependencies", d) P
+    unfolding answers_of
+    means_property_dependencies ms P p =
+        means_told o answers ms (choices_of m L) (codes "propertyDependencies", d) P L _ p (property_dependencies_told o.world ms d)
+        (nodes_told o answers (choice_answers o.world) (choices (members d)) (choices_of m L) (chosen_nodes (named m)) L (each_asks o answers (choices_of m L) (chosen_nodes (named m)) L _ _ refl)
+        (λ v. subst (λ ds. AnswerEach o answers (choice_answers o.world) (chosen_nodes ds v) (choices (members d) v) L) (sym held) (choices_answer v maps (members d) L stand))
+        (and_from _ _ (paired (names_of d) maps (maps_count maps (members d) L stand) m.names m.nodes names nodes)
+        (ap (list_all (λ m. is_paired m.names m.nodes && list_all (has_form o answers) (nodes_in (named m)))) held_maps ∙ maps_formed maps (members d) L stand)))
+        (λ own. append-nil (stand_as o answers (choices_of m L)) ∙ ap (λ l. (L, property_dependencies_form) ∷ flat_map (λ m. flat_map (stand_in o answers) (nodes_in (named m))) l) held_maps
+        ∙ ap (λ l. (L, property_dependencies_form) ∷ l) (maps_placed maps (members d) L stand)
+        ∙ (λ i. (p i, property_dependencies_form) ∷ flat_map (λ e. each_placed o.world (p i // e.0) (members e.1)) (members d)) ∙ sym (property_dependencies_stand o.world ms P d))
+
+  -- ---- what is made of the nodes
+
+  maps_answer : (ts : List (List Name)) (ns : List N) (maps : List (SmallMap N)) (es : Rows) (L : Path) → AreCut ts ns maps
+      → ts ≡ map (λ e. names_of e.1) es → StandInner o answers ns es L → MapsAnswer maps es L
+  maps_answer [] ns [] [] L h q stand = tt
+  maps_answer [] ns [] (e ∷ es) L h q stand = absurd (true≢false (ap is_empty q))
+  maps_answer (t ∷ ts) ns (m ∷ maps) [] L h q stand = absurd (true≢false (sym (ap is_empty q)))
+  maps_answer (t ∷ ts) ns (m ∷ maps) (e ∷ es) L h q stand =
+      let here = stand.0 in
+      let after = stand.1 in
+      let name : t ≡ names_of e.1 = ap (λ l. get_or l 0 []) q in
+      let each = schemas_answer o answers _ _ _ stand.3 in
+      let count : length here ≡ length t = each_count o answers _ _ _ _ each ∙ sym (ap length name) in
+      let first : take (length t) ns ≡ here = ap (take (length t)) stand.2 ∙ take_at here after (length t) count in (
+        record {
+          nodes = here;
+          entries = (h.0.0 ∙ name, h.0.1 ∙ first);
+          held = entries_zipped (names_of e.1) here m (h.0.0 ∙ name, h.0.1 ∙ first);
+          each = each;
+        },
+        maps_answer ts (drop (length t) ns) maps es L h.1 (ap (drop 1) q) (subst (λ l. StandInner o answers l es L) (sym (ap (drop (length t)) stand.2 ∙ drop_at here after (length t) count)) stand.4),
+      )
+  maps_answer _ ns _ es L h q stand = absurd h
+
+  module _ (keys : List Name) (maps : Vec (SmallMap N) Global) (texts : Vec (List Name) Global) (ns : List N) (L : Path) (is : AreCut texts.items ns maps.items) where
+    abbrev together : SmallMap (SmallMap N)
+    together = record { names = keys; nodes = maps }
+
+    pub makes_property_dependencies : MakesMember o answers (shape.PropertyDependencies keys texts) L ns (choices_of together L ∷ [])
+    makes_property_dependencies ms x P p s h = by_its_name o answers s.0 p
+        (means_property_dependencies together maps.items L x.1 s.2 refl (maps_answer texts.items ns maps.items (members x.1) L is s.3 h) ms P)
+
+    pub keys_of_property_dependencies : MakesPropertyDependencies o answers (shape.PropertyDependencies keys texts) L ns (choices_of together L)
+    keys_of_property_dependencies x s h = choices_are together maps.items L x.1 s.2 refl (maps_answer texts.items ns maps.items (members x.1) L is s.3 h)

@@ -1,0 +1,21 @@
+use Rattle.olk_build.proofs.Spending.{exit_with}
+use Rattle.olk_build.proofs.ReadEntries.{none_so_far, one_more_entry, entry_refused, entries_shown, entries_right}
+use Rattle.olk_build.proofs.dependencies.names_of_entries.Goals as goal
+
+pub loop-key-init : goal.loop-key-init
+loop-key-init c = none_so_far c.new-required.ensures.items c.into_iter-key-iterator.ensures.into_iter_gives.0
+
+pub loop-key-preserved : goal.loop-key-preserved
+loop-key-preserved c =
+    one_more_entry c.loop-key.invariant c.in-Some.ensures.steps c.in_ok-append.ensures.items c.in_ok-names.ensures.names
+    (rw (← c.as_str.ensures.value) c.in_ok-names.ensures.right)
+
+pub returns-in_err-names-clause-refused : goal.returns-in_err-names-clause-refused
+returns-in_err-names-clause-refused c =
+    exit_with _ _ _ c.from_residual.ensures.1 (entry_refused c.loop-key.invariant c.in-Some.ensures.steps _ (rw (← c.as_str.ensures.value) c.in_err-names.ensures.refused))
+
+pub returns-clause-names : goal.returns-clause-names
+returns-clause-names c = entries_shown c.loop-key.invariant c.in-None.ensures.steps.0
+
+pub returns-clause-right : goal.returns-clause-right
+returns-clause-right c = entries_right c.loop-key.invariant c.in-None.ensures.steps.0

@@ -1,0 +1,22 @@
+use Rattle.olk_build.proofs.Spending.{exit, exit_with, tells_left, tells_memory}
+use Rattle.olk_build.proofs.dependencies.required_of_object.Goals as goal
+
+pub returns-in_err-required-clause-refused : goal.returns-in_err-required-clause-refused
+returns-in_err-required-clause-refused c =
+    exit_with _ _ _ c.from_residual-in_err-required.ensures.1 (rw c.in_ok-entries.ensures.object c.in_err-required.ensures.refused)
+
+pub returns-in_err-entries-clause-refused : goal.returns-in_err-entries-clause-refused
+returns-in_err-entries-clause-refused c =
+    exit_with _ _ _ c.from_residual.ensures.1 (tells_left _ _ _ c.in_err-entries.ensures.refused)
+
+pub returns-in_err-keys-clause-refused : goal.returns-in_err-keys-clause-refused
+returns-in_err-keys-clause-refused c = exit _ _ _ c.from_residual-in_err-keys.ensures.1 (tells_memory _)
+
+pub returns-clause-keys : goal.returns-clause-keys
+returns-clause-keys c = rw c.in_ok-entries.ensures.object c.in_ok-keys.ensures
+
+pub returns-clause-names : goal.returns-clause-names
+returns-clause-names c = rw c.in_ok-entries.ensures.object c.in_ok-required.ensures.names
+
+pub returns-clause-right : goal.returns-clause-right
+returns-clause-right c = rw c.in_ok-entries.ensures.object c.in_ok-required.ensures.right

@@ -1,0 +1,5 @@
+use Rattle.olk_build.proofs.PropertyNames.{makes_no_names}
+use Rattle.olk_build.proofs.property_names.make_false.Goals as goal
+
+pub returns-clause-makes : goal.returns-clause-makes
+returns-clause-makes g c = makes_no_names _ _ c.args.location

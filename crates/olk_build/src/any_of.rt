@@ -1,0 +1,75 @@
+//! `anyOf`: how it is read, compiled and made.
+ghost use Rattle.std.specs.Prelude.{◌≡◌, codes, is_none, false, ◌∷◌, []};
+ghost use Rattle.serde_json.specs.View.{view, members_view};
+ghost use Rattle.olk_reports.specs.Paths.{one_below};
+ghost use Rattle.olk_base.specs.Kit.{kit};
+ghost use Rattle.olk_build.specs.Forms.{IsAnyOf, IsFormOfAnyOf};
+ghost use Rattle.olk_build.specs.Building.{IsMember};
+ghost use Rattle.olk_build.specs.Beside.{GivesMember, Gives};
+ghost use Rattle.olk_build.specs.Making.{MakesMember};
+
+use crate::{Context, compile_keyword};
+use olk_base::{Leaf, MakeLeaf, MakeRegex, RegexEngine};
+use olk_reports::{BuildError, Location};
+use olk_tree::any_of::{AnyOf, SingleAnyOf};
+use olk_tree::built_node::BuiltNode;
+use olk_tree::node::KeywordOver;
+use serde_json::{Map, Value};
+use std::alloc::Global;
+
+/// The keyword of `anyOf` in the object at the context's place (JSON Schema 2020-12 Core,
+/// 10.2.1.2): of one branch the single form, else the other.
+///
+/// The meter rises by the cost of the keyword, or by a part of it where nothing is built; the
+/// context's place is left as it was.
+///
+/// # Errors
+///
+/// One of the malformations of the keyword; else out of memory. There always is an answer.
+pub fn compile<'a, L: MakeLeaf, M: MakeRegex, N: BuiltNode<L::Leaf, M::Engine>>(
+    alloc: Global,
+    ctx: &mut Context<'_, L, M>,
+    parent: &'a Map<String, Value>,
+    schema: &'a Value,
+) -> Option<Result<KeywordOver<L::Leaf, M::Engine, N>, BuildError<'a>>>
+    ensures gives { GivesMember (kit L.Leaf.Leaf M.Engine.RegexEngine)
+        (members_view parent.now.entries) (codes "anyOf", view schema.now)
+        ctx.old.place ctx.old.meter.now ctx.new.meter.now N.answers result }
+    ensures form { Gives (members_view parent.now.entries)
+        (codes "anyOf", view schema.now) result
+        (IsAnyOf (one_below ctx.old.place (codes "anyOf")) (view schema.now)) }
+    ensures always { IsMember (members_view parent.now.entries)
+        (codes "anyOf", view schema.now)
+        → is_none result ≡ false }
+    ensures place { ctx.new.place ≡ ctx.old.place }
+    ensures same_meter { ctx.new.meter.ghost_name ≡ ctx.old.meter.ghost_name }
+{
+    compile_keyword(alloc, ctx, parent, "anyOf", schema)
+}
+
+ghost use Rattle.olk_build.specs.declared.shape.Shape.TheVariants as shape;
+
+/// The form for so many branches.
+fn form<K, R, N: Drop>(location: Location, mut schemas: Vec<N>) -> KeywordOver<K, R, N>
+    ensures { IsFormOfAnyOf location schemas.items result }
+{
+    if schemas.len() == 1
+        && let Some(node) = schemas.pop()
+    {
+        KeywordOver::SingleAnyOf(SingleAnyOf { node, location })
+    } else {
+        KeywordOver::AnyOf(AnyOf { schemas, location })
+    }
+}
+
+/// The validator of the branches' nodes.
+pub fn make<K: Leaf, R: RegexEngine, N: BuiltNode<K, R>>(
+    location: Location,
+    nodes: Vec<N>,
+) -> KeywordOver<K, R, N>
+    ensures form { IsFormOfAnyOf location nodes.items result }
+    ensures makes { MakesMember (kit K.Leaf R.RegexEngine)
+        N.answers shape.AnyOf location nodes.items (result ∷ []) }
+{
+    form(location, nodes)
+}

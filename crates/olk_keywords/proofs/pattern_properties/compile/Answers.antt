@@ -1,7 +1,0 @@
-use Rattle.olk_keywords.proofs.pattern_properties.compile.Goals as goal
-
-pub returns-clause-gives : goal.returns-clause-gives
-returns-clause-gives g c = c.compile_keyword.ensures.gives
-
-pub returns-clause-form : goal.returns-clause-form
-returns-clause-form g c = c.compile_keyword.ensures.form

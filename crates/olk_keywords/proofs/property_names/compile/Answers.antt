@@ -1,4 +1,0 @@
-use Rattle.olk_keywords.proofs.property_names.compile.Goals as goal
-
-pub returns-clause-gives : goal.returns-clause-gives
-returns-clause-gives g c = c.compile_keyword.ensures.gives

@@ -1,5 +1,0 @@
-use Rattle.olk_make.proofs.Makes.{makes_any_of}
-use Rattle.olk_make.proofs.any_of.make.Goals as goal
-
-pub returns-clause-makes : goal.returns-clause-makes
-returns-clause-makes g c = makes_any_of _ _ c.form.result c.args.location c.args.nodes.items c.form.ensures

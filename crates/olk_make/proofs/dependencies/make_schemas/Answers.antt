@@ -1,8 +1,0 @@
-use Rattle.olk_make.proofs.DependencyKeywords.{makes_dependent_schemas, keys_of_dependent_schemas}
-use Rattle.olk_make.proofs.dependencies.make_schemas.Goals as goal
-
-pub returns-clause-form : goal.returns-clause-form
-returns-clause-form g c = keys_of_dependent_schemas _ _ c.args.keys c.args.nodes c.args.location
-
-pub returns-clause-makes : goal.returns-clause-makes
-returns-clause-makes g c = makes_dependent_schemas _ _ c.args.keys c.args.nodes c.args.location

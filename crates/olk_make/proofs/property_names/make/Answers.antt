@@ -1,9 +1,0 @@
-use Rattle.std.proofs.Common.{refl}
-use Rattle.olk_make.proofs.PropertyNames.{makes_property_names}
-use Rattle.olk_make.proofs.property_names.make.Goals as goal
-
-pub returns-clause-form : goal.returns-clause-form
-returns-clause-form g c = refl
-
-pub returns-clause-makes : goal.returns-clause-makes
-returns-clause-makes g c = makes_property_names _ _ c.in-Some.node c.args.location c.pop.new.self.items c.args.nodes.items c.in-Some.ensures.items

@@ -1,5 +1,0 @@
-use Rattle.olk_make.proofs.PropertyNames.{makes_no_names}
-use Rattle.olk_make.proofs.property_names.make_false.Goals as goal
-
-pub returns-clause-makes : goal.returns-clause-makes
-returns-clause-makes g c = makes_no_names _ _ c.args.location

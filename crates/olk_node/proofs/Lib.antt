@@ -1,4 +1,0 @@
-pub mod Layers
-pub mod Verdicts
-pub mod Reports
-pub mod Going

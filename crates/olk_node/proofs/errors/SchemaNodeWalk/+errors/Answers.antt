@@ -1,8 +1,0 @@
-use Rattle.olk_base.specs.Kit.{kit}
-use Rattle.olk_base.specs.Nodes.{subject_data}
-use Rattle.olk_paths.specs.Trails.{path_at}
-use Rattle.olk_node.proofs.Going.{place_walked}
-use Rattle.olk_node.proofs.errors.SchemaNodeWalk.+errors.Goals as goal
-
-pub returns : goal.returns
-returns g t c = place_walked (kit g.K.Leaf g.R.RegexEngine) c.args.self.now (subject_data c.args.node) (path_at c.args.trail.now) c.as_str.ensures c.walk_body.ensures

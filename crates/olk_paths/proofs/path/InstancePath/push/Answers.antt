@@ -1,5 +1,0 @@
-use Rattle.std.proofs.Common.{rules}
-use Rattle.olk_paths.proofs.path.InstancePath.push.Goals as goal
-
-pub returns-clause-path : goal.returns-clause-path
-returns-clause-path c = search rules

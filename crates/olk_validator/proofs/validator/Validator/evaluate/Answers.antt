@@ -1,7 +1,0 @@
-use Rattle.std.proofs.Common.{[]}
-use Rattle.serde_json.specs.View.{view}
-use Rattle.olk_node.proofs.Verdicts.{certain_of_schema}
-use Rattle.olk_validator.proofs.validator.Validator.evaluate.Goals as goal
-
-pub returns-clause-certain : goal.returns-clause-certain
-returns-clause-certain g c S stands = certain_of_schema {P = []} (view c.args.instance.now) stands.root c.in_ok-outcome.ensures.certain

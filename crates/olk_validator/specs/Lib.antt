@@ -1,2 +1,0 @@
-pub mod Validators
-pub mod OneVerdict
