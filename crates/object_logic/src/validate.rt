@@ -10,9 +10,11 @@ use olk_evaluate::Evaluate;
 use olk_reports::{EvaluationNode, InstancePath, ValidateError, ValidationError};
 use std::alloc::{AllocError, Global};
 
-/// What can be asked in all four ways, which go by one meaning, `Means`: they give one verdict on
-/// each value, with either answer for matches that are left unfinished (JSON Schema 2020-12 Core,
-/// 10); `verdicts_of` asks for each. All that is `Errors` and `Evaluate` has it.
+/// On the other side stands what can be asked in all four ways, which give one verdict.
+///
+/// They go by one meaning, `Means`, with either answer for matches that are left unfinished (JSON
+/// Schema 2020-12 Core, 10); `verdicts_of` asks for each. No caller implements it: all that is
+/// `Errors` and `Evaluate` has it.
 pub trait Validate<'a>: Errors<'a> + Evaluate<'a> {}
 
 impl<'a, T: Errors<'a> + Evaluate<'a>> Validate<'a> for T {}

@@ -11,9 +11,9 @@ use olk_tree::Reports;
 use std::alloc::{AllocError, Global};
 use std::mem;
 
-/// What walks over a value and hands its errors to a sink.
+/// On the other side stands a validator, which walks over a value and hands its errors to a sink.
 ///
-/// Each validator implements it; callers ask by `Errors`.
+/// Who writes a validator implements it; callers ask by `Errors`.
 pub trait Walk<'a>: Check + Reports {
     ghost use Rattle.std.specs.Prelude.{OnOk, IfErr};
     ghost use Rattle.olk_base.specs.Nodes.{subject_data};
@@ -45,7 +45,9 @@ pub trait Walk<'a>: Check + Reports {
             (subject_data node.entry) (path_at trail.now)) };
 }
 
-/// What can be asked what is wrong with a value: all that walks. Implement `Walk`.
+/// On the other side stands what says what is wrong with a value: its first error, or all of them.
+///
+/// No caller implements it: all that is `Walk` has it by one implementation.
 pub trait Errors<'a>: IsValid + Reports {
     ghost use Rattle.std.specs.Prelude.{◌≡◌, OnOk, OnErr, IfErr};
     ghost use Rattle.olk_base.specs.Nodes.{data_of};
