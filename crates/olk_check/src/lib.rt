@@ -9,9 +9,9 @@ ghost use Rattle.olk_check.specs.Asks.{Asks};
 use olk_base::{Asked, Node, Subject, ValidationContext};
 use olk_tree::Means;
 
-/// On the other side stands what accepts or refuses a value: a validator, a keyword or a node.
+/// What can be asked whether it accepts a value.
 ///
-/// No caller implements it: all that is `Check` has it by one implementation.
+/// All that is `Check` has it by one implementation: implement `Check`.
 pub trait IsValid: Means {
     ghost use Rattle.olk_base.specs.Nodes.{data_of};
     ghost use Rattle.olk_check.specs.Asks.{Asks};
@@ -25,9 +25,9 @@ pub trait IsValid: Means {
         ensures { Asks ctx.old ctx.new (Self.means self.now (data_of node.entry)) result };
 }
 
-/// On the other side stands a validator, whose verdict is compiled for values and for names.
+/// What checks a value, or a name alone: the verdict of `IsValid`, compiled once for each.
 ///
-/// Who writes a validator implements it, and keywords and nodes do; callers ask by `IsValid`.
+/// Each validator implements it, and so do keywords, bodies and nodes.
 pub trait Check: Means {
     ghost use Rattle.olk_check.specs.Asks.{Asks};
 
