@@ -6,7 +6,7 @@ ghost use Rattle.olk_spec.specs.Faults.{MultipleTypes};
 ghost use Rattle.olk_spec.specs.Malformed.{unless_kind};
 ghost use Rattle.olk_meaning.specs.AdditionalProperties.{is_rule};
 ghost use Rattle.olk_build.specs.Refusing.{TellsOneOf};
-ghost use Rattle.olk_build.specs.declared.shape.Shape.TheVariants.{AdditionalProperties, NoOthers, AnyOthers};
+ghost use Rattle.olk_build.specs.declared.shape.Shape.TheVariants as shape;
 ghost use Rattle.std.specs.Option.{IfNone};
 ghost use Rattle.olk_spec.specs.Names.{lookup_name, Name, Path};
 ghost use Rattle.olk_reports.specs.Paths.{one_below};
@@ -50,8 +50,9 @@ pub(crate) fn shape_of_others<'a, K: Drop, R: Drop>(
     value: &'a Value,
 ) -> Result<Shape<K, R>, Stop<'a>>
     ensures rule { IfOk result (λ x. is_rule (view value.now) ≡ true) }
-    ensures shape { IfOk result (λ x. x ≡ cond (is_object (view value.now)) AdditionalProperties
-        (cond (is_truth false (view value.now)) NoOthers AnyOthers)) }
+    ensures shape { IfOk result (λ x. x ≡ cond (is_object (view value.now))
+        shape.AdditionalProperties (cond (is_truth false (view value.now)) shape.NoOthers
+        shape.AnyOthers)) }
     ensures refused { IfErr result (TellsOneOf (unless_kind (is_rule (view value.now))
         MultipleTypes (view value.now) location.now)) }
 {
@@ -295,7 +296,7 @@ fn form<R: Drop, N: Drop>(
 /// # Errors
 ///
 /// Out of memory.
-pub fn make<K: Leaf, R: RegexEngine, N: BuiltNode<K, R>>(
+pub(crate) fn make<K: Leaf, R: RegexEngine, N: BuiltNode<K, R>>(
     alloc: Global,
     plan: Plan<'_>,
     place: &Location,

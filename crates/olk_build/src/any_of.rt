@@ -7,6 +7,7 @@ ghost use Rattle.olk_build.specs.Forms.{IsAnyOf, IsFormOfAnyOf};
 ghost use Rattle.olk_build.specs.Building.{IsMember};
 ghost use Rattle.olk_build.specs.Beside.{GivesMember, Gives};
 ghost use Rattle.olk_build.specs.Making.{MakesMember};
+ghost use Rattle.olk_build.specs.declared.shape.Shape.TheVariants as shape;
 
 use crate::{Context, compile_keyword};
 use olk_base::{Leaf, MakeLeaf, MakeRegex, RegexEngine};
@@ -47,8 +48,6 @@ pub fn compile<'a, L: MakeLeaf, M: MakeRegex, N: BuiltNode<L::Leaf, M::Engine>>(
     compile_keyword(alloc, ctx, parent, "anyOf", schema)
 }
 
-ghost use Rattle.olk_build.specs.declared.shape.Shape.TheVariants as shape;
-
 /// The form for so many branches.
 fn form<K, R, N: Drop>(location: Location, mut schemas: Vec<N>) -> KeywordOver<K, R, N>
     ensures { IsFormOfAnyOf location schemas.items result }
@@ -63,7 +62,7 @@ fn form<K, R, N: Drop>(location: Location, mut schemas: Vec<N>) -> KeywordOver<K
 }
 
 /// The validator of the branches' nodes.
-pub fn make<K: Leaf, R: RegexEngine, N: BuiltNode<K, R>>(
+pub(crate) fn make<K: Leaf, R: RegexEngine, N: BuiltNode<K, R>>(
     location: Location,
     nodes: Vec<N>,
 ) -> KeywordOver<K, R, N>

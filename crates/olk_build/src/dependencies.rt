@@ -13,6 +13,7 @@ ghost use Rattle.olk_build.specs.Building.{IsMember};
 ghost use Rattle.olk_build.specs.Beside.{GivesMember, Gives};
 ghost use Rattle.olk_build.specs.Made.{MakesDependencies};
 ghost use Rattle.olk_build.specs.Making.{MakesMember};
+ghost use Rattle.olk_build.specs.declared.shape.Shape.TheVariants as shape;
 
 use crate::reading::{items_of_array, members_of_object, texts_of_items};
 use crate::refusal::{Stop, refuse};
@@ -291,8 +292,6 @@ pub fn compile_dependent_schemas<'a, L: MakeLeaf, M: MakeRegex, N: BuiltNode<L::
     compile_keyword(alloc, ctx, parent, "dependentSchemas", schema)
 }
 
-ghost use Rattle.olk_build.specs.declared.shape.Shape.TheVariants as shape;
-
 /// The node of a list of names, at the keyword's place.
 ///
 /// # Errors
@@ -370,7 +369,7 @@ fn nodes_in_order<K: Leaf, R: RegexEngine, N: BuiltNode<K, R>>(
 /// # Errors
 ///
 /// Out of memory.
-pub fn make_required<K: Leaf, R: RegexEngine, N: BuiltNode<K, R>>(
+pub(crate) fn make_required<K: Leaf, R: RegexEngine, N: BuiltNode<K, R>>(
     alloc: Global,
     location: Location,
     keys: SortedNames,
@@ -389,7 +388,7 @@ pub fn make_required<K: Leaf, R: RegexEngine, N: BuiltNode<K, R>>(
 }
 
 /// The validator of `dependentSchemas` with these keys, and the node of each.
-pub fn make_schemas<K: Leaf, R: RegexEngine, N: BuiltNode<K, R>>(
+pub(crate) fn make_schemas<K: Leaf, R: RegexEngine, N: BuiltNode<K, R>>(
     location: Location,
     keys: SortedNames,
     nodes: Vec<N>,
@@ -411,7 +410,7 @@ pub fn make_schemas<K: Leaf, R: RegexEngine, N: BuiltNode<K, R>>(
 /// # Errors
 ///
 /// Out of memory.
-pub fn make<K: Leaf, R: RegexEngine, N: BuiltNode<K, R>>(
+pub(crate) fn make<K: Leaf, R: RegexEngine, N: BuiltNode<K, R>>(
     alloc: Global,
     location: Location,
     keys: SortedNames,

@@ -25,7 +25,7 @@ use std::alloc::{AllocError, Global};
 ///
 /// Out of memory.
 #[inline(never)]
-pub fn make_keyword<K: Leaf, R: RegexEngine, N: BuiltNode<K, R>>(
+pub(crate) fn make_keyword<K: Leaf, R: RegexEngine, N: BuiltNode<K, R>>(
     alloc: Global,
     plan: Plan<'_>,
     place: &Location,

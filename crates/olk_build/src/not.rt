@@ -8,6 +8,7 @@ ghost use Rattle.olk_build.specs.Building.{IsMember};
 ghost use Rattle.olk_build.specs.Beside.{GivesMember, Gives};
 ghost use Rattle.std.specs.Option.{IfSome, IfNone};
 ghost use Rattle.olk_build.specs.Making.{MakesMember};
+ghost use Rattle.olk_build.specs.declared.shape.Shape.TheVariants as shape;
 
 use crate::{Context, compile_keyword};
 use olk_base::{Leaf, MakeLeaf, MakeRegex, RegexEngine};
@@ -47,10 +48,8 @@ pub fn compile<'a, L: MakeLeaf, M: MakeRegex, N: BuiltNode<L::Leaf, M::Engine>>(
     compile_keyword(alloc, ctx, parent, "not", schema)
 }
 
-ghost use Rattle.olk_build.specs.declared.shape.Shape.TheVariants as shape;
-
 /// The validator of a schema's node, and none where there is no node.
-pub fn make<K: Leaf, R: RegexEngine, N: BuiltNode<K, R>>(
+pub(crate) fn make<K: Leaf, R: RegexEngine, N: BuiltNode<K, R>>(
     location: Location,
     original: Value,
     mut nodes: Vec<N>,

@@ -15,6 +15,7 @@ ghost use Rattle.olk_build.specs.Forms.{IsPatternProperties, IsFormOfPatternProp
 ghost use Rattle.olk_build.specs.Building.{IsMember, PatternsAreBuilt, RefusesPatternEntries};
 ghost use Rattle.olk_build.specs.Beside.{GivesMember, Gives};
 ghost use Rattle.olk_build.specs.Making.{MakesMember};
+ghost use Rattle.olk_build.specs.declared.shape.Shape.TheVariants as shape;
 
 use crate::context::Makers;
 use crate::reading::members_of_object;
@@ -91,7 +92,7 @@ fn read_pattern<'a, L: MakeLeaf, M: MakeRegex>(
 ///
 /// The first pattern that does not build is refused, as a bare name below the keyword at the place;
 /// else out of memory.
-pub fn patterns_of_entries<'a, L: MakeLeaf, M: MakeRegex>(
+pub(crate) fn patterns_of_entries<'a, L: MakeLeaf, M: MakeRegex>(
     alloc: Global,
     makers: &Makers<'_, L, M>,
     meter: &mut Meter,
@@ -204,14 +205,12 @@ pub fn compile_patterns<'a, L: MakeLeaf, M: MakeRegex, N: BuiltNode<L::Leaf, M::
     Ok(with_nodes(alloc, compiled, nodes)?)
 }
 
-ghost use Rattle.olk_build.specs.declared.shape.Shape.TheVariants as shape;
-
 /// Each pattern with its node, as far as there are both.
 ///
 /// # Errors
 ///
 /// Out of memory.
-pub fn with_nodes<R: Drop, N: Drop>(
+pub(crate) fn with_nodes<R: Drop, N: Drop>(
     alloc: Global,
     patterns: Vec<CompiledPattern<R>>,
     nodes: Vec<N>,
@@ -252,7 +251,7 @@ fn form<K, R: Drop, N: Drop>(
 /// # Errors
 ///
 /// Out of memory.
-pub fn make<K: Leaf, R: RegexEngine, N: BuiltNode<K, R>>(
+pub(crate) fn make<K: Leaf, R: RegexEngine, N: BuiltNode<K, R>>(
     alloc: Global,
     location: Location,
     patterns: Vec<CompiledPattern<R>>,

@@ -13,6 +13,7 @@ ghost use Rattle.olk_build.specs.Beside.{GivesMember, Gives};
 ghost use Rattle.olk_spec.specs.Names.{Path};
 ghost use Rattle.olk_tree.specs.Ascending.{Ascend};
 ghost use Rattle.olk_build.specs.Making.{MakesClaims};
+ghost use Rattle.olk_build.specs.declared.shape.Shape.TheVariants as shape;
 
 use crate::{Context, compile_declared, compile_keyword};
 use olk_base::{Leaf, MakeLeaf, MakeRegex, RegexEngine};
@@ -127,8 +128,6 @@ pub fn compile_big_map<'a, L: MakeLeaf, M: MakeRegex, N: BuiltNode<L::Leaf, M::E
     Ok(BigMap { names, nodes })
 }
 
-ghost use Rattle.olk_build.specs.declared.shape.Shape.TheVariants as shape;
-
 /// The map of these names, each with the node beside it.
 pub(crate) fn map_of<N: Drop>(names: SortedNames, nodes: Vec<N>) -> PropertiesMap<N>
     ensures entries { IsMapOver names nodes.items result }
@@ -202,7 +201,7 @@ fn form<K, R, N: Drop>(
 /// # Errors
 ///
 /// Out of memory.
-pub fn make<K: Leaf, R: RegexEngine, N: BuiltNode<K, R>>(
+pub(crate) fn make<K: Leaf, R: RegexEngine, N: BuiltNode<K, R>>(
     alloc: Global,
     plan: Plan<'_>,
     place: &Location,

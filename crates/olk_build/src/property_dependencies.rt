@@ -14,6 +14,7 @@ ghost use Rattle.olk_build.specs.Beside.{GivesMember, Gives};
 ghost use Rattle.std.specs.Vec.Iter.{into_iter_items, into_iter_len};
 ghost use Rattle.olk_build.specs.Made.{MakesPropertyDependencies};
 ghost use Rattle.olk_build.specs.Making.{MakesMember};
+ghost use Rattle.olk_build.specs.declared.shape.Shape.TheVariants as shape;
 
 use crate::reading::{members_of_object, names_of_object};
 use crate::refusal::Stop;
@@ -113,8 +114,6 @@ pub fn compile<'a, L: MakeLeaf, M: MakeRegex, N: BuiltNode<L::Leaf, M::Engine>>(
     compile_keyword(alloc, ctx, parent, "propertyDependencies", schema)
 }
 
-ghost use Rattle.olk_build.specs.declared.shape.Shape.TheVariants as shape;
-
 /// The next nodes, so many, or all where there are no more.
 ///
 /// # Errors
@@ -168,7 +167,7 @@ fn cut<N: Drop>(
 /// # Errors
 ///
 /// Out of memory.
-pub fn make<K: Leaf, R: RegexEngine, N: BuiltNode<K, R>>(
+pub(crate) fn make<K: Leaf, R: RegexEngine, N: BuiltNode<K, R>>(
     alloc: Global,
     location: Location,
     keys: SortedNames,

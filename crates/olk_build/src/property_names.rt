@@ -2,7 +2,7 @@
 ghost use Rattle.std.specs.Prelude.{◌≡◌, false, cond, ◌||◌, true, not, is_none, codes, ◌∷◌, [], option_to_list};
 ghost use Rattle.serde_json.specs.View.{view, members_view};
 ghost use Rattle.olk_spec.specs.Schemas.{is_object, is_truth};
-ghost use Rattle.olk_build.specs.declared.shape.Shape.TheVariants.{PropertyNames, NoNames, AnyNames};
+ghost use Rattle.olk_build.specs.declared.shape.Shape.TheVariants as shape;
 ghost use Rattle.std.specs.Option.{IfNone, IfSome};
 ghost use Rattle.olk_reports.specs.Paths.{one_below};
 ghost use Rattle.olk_base.specs.Kit.{kit};
@@ -24,8 +24,8 @@ use std::alloc::Global;
 /// The shape of `propertyNames`: an object is a schema for each name, `false` allows no name,
 /// anything else any.
 pub(crate) fn shape_of_names<K: Drop, R: Drop>(value: &Value) -> Shape<K, R>
-    ensures { result ≡ cond (is_object (view value.now)) PropertyNames
-        (cond (is_truth false (view value.now)) NoNames AnyNames) }
+    ensures { result ≡ cond (is_object (view value.now)) shape.PropertyNames
+        (cond (is_truth false (view value.now)) shape.NoNames shape.AnyNames) }
 {
     if value.is_object() {
         Shape::PropertyNames
@@ -84,10 +84,8 @@ fn restricts_names(schema: &Value) -> bool
     schema.is_object() || schema.as_bool() == Some(false)
 }
 
-ghost use Rattle.olk_build.specs.declared.shape.Shape.TheVariants as shape;
-
 /// The validator of a schema's node, and none where there is no node.
-pub fn make<K: Leaf, R: RegexEngine, N: BuiltNode<K, R>>(
+pub(crate) fn make<K: Leaf, R: RegexEngine, N: BuiltNode<K, R>>(
     location: Location,
     mut nodes: Vec<N>,
 ) -> Option<KeywordOver<K, R, N>>
@@ -103,7 +101,7 @@ pub fn make<K: Leaf, R: RegexEngine, N: BuiltNode<K, R>>(
 }
 
 /// The validator of `false`, which allows no name.
-pub fn make_false<K: Leaf, R: RegexEngine, N: BuiltNode<K, R>>(
+pub(crate) fn make_false<K: Leaf, R: RegexEngine, N: BuiltNode<K, R>>(
     location: Location,
 ) -> KeywordOver<K, R, N>
     ensures form { IsPropertyNamesFalse location result }

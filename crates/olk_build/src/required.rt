@@ -10,6 +10,7 @@ ghost use Rattle.olk_build.specs.Building.{IsMember};
 ghost use Rattle.olk_build.specs.Beside.{GivesMember, Gives};
 ghost use Rattle.olk_spec.specs.Names.{Path};
 ghost use Rattle.olk_build.specs.Making.{MakesClaims};
+ghost use Rattle.olk_build.specs.declared.shape.Shape.TheVariants as shape;
 
 use crate::{Context, compile_keyword};
 use olk_base::{Leaf, MakeLeaf, MakeRegex, RegexEngine};
@@ -61,11 +62,9 @@ pub fn compile<'a, L: MakeLeaf, M: MakeRegex, N: BuiltNode<L::Leaf, M::Engine>>(
     compile_keyword(alloc, ctx, parent, "required", schema)
 }
 
-ghost use Rattle.olk_build.specs.declared.shape.Shape.TheVariants as shape;
-
 /// The validator of the names, unless the plan fuses them: two into `properties`, or one into
 /// `additionalProperties`.
-pub fn make<K: Leaf, R: RegexEngine, N: BuiltNode<K, R>>(
+pub(crate) fn make<K: Leaf, R: RegexEngine, N: BuiltNode<K, R>>(
     plan: Plan<'_>,
     location: Location,
     required: Vec<String>,
