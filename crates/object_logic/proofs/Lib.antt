@@ -1,6 +1,6 @@
 pub mod Layers
-pub mod Verdicts
-pub mod Reports
+pub mod NodeVerdicts
+pub mod NodeReports
 pub mod Going
 pub mod Appended
 mod OneVerdict

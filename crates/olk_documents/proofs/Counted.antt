@@ -45,9 +45,6 @@ module _ {X : Type 0} (f : X → Question) (test : ℕ → Bool) where
     pub goes_on : (end : Asking) (result : Bool) → Asks b end (counted f test n rest) result → Asks a end (counted f test 0 all) result
 
 module _ {X : Type 0} {f : X → Question} {test : ℕ → Bool} {all : List X} where
-  pub count_start : {a : Asking} → CountLeft f test all all 0 a a
-  count_start = record { goes_on = λ c r h. h }
-
   module _ {rest : List X} {n : ℕ} {a b : Asking} (so_far : CountLeft f test all rest n a b) where
     pub count_accepted : {x : X} {more : List X} {c : Asking} → rest ≡ x ∷ more → Asks b c (f x) true → CountLeft f test all more (n + 1) a c
     count_accepted {x} {more} next k = record { goes_on = λ d r l. so_far.goes_on d r (rw next (accepted_next f test n x more k l)) }

@@ -3,8 +3,8 @@ use Rattle.std.proofs.lemmas.Result.{on_ok_weaker}
 use Rattle.serde_json.specs.View.{view}
 use Rattle.olk_spec.specs.Meaning.{report}
 use Rattle.olk_base.specs.Kit.{kit, world}
-use Rattle.object_logic.proofs.Verdicts.{certain_of_schema}
-use Rattle.object_logic.proofs.Reports.{report_of_schema}
+use Rattle.object_logic.proofs.NodeVerdicts.{certain_of_schema}
+use Rattle.object_logic.proofs.NodeReports.{report_of_schema}
 use Rattle.olk_errors.specs.Found.{Appends}
 use Rattle.object_logic.proofs.Appended.{none_appended}
 use Rattle.object_logic.proofs.validator.Validator.collect_errors.Goals as goal

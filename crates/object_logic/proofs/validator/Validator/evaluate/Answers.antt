@@ -1,6 +1,6 @@
 use Rattle.std.proofs.Common.{[]}
 use Rattle.serde_json.specs.View.{view}
-use Rattle.object_logic.proofs.Verdicts.{certain_of_schema}
+use Rattle.object_logic.proofs.NodeVerdicts.{certain_of_schema}
 use Rattle.object_logic.proofs.validator.Validator.evaluate.Goals as goal
 
 pub returns-clause-certain : goal.returns-clause-certain

@@ -1,6 +1,6 @@
 use Rattle.std.proofs.Common.{[], arith}
 use Rattle.olk_tree.specs.Questions.{of_unfinished}
-use Rattle.object_logic.proofs.Verdicts.{of_schema}
+use Rattle.object_logic.proofs.NodeVerdicts.{of_schema}
 use Rattle.object_logic.proofs.validator.Validator.is_valid.Goals as goal
 
 pub returns-clause-context : goal.returns-clause-context

@@ -3,8 +3,8 @@ use Rattle.std.proofs.lemmas.Result.{on_ok_weaker}
 use Rattle.serde_json.specs.View.{view}
 use Rattle.olk_base.specs.Kit.{kit, world}
 use Rattle.object_logic.specs.Nodes.{answers}
-use Rattle.object_logic.proofs.Verdicts.{certain_of_schema}
-use Rattle.object_logic.proofs.Reports.{accepts_of_schema, refusal_of_schema}
+use Rattle.object_logic.proofs.NodeVerdicts.{certain_of_schema}
+use Rattle.object_logic.proofs.NodeReports.{accepts_of_schema, refusal_of_schema}
 use Rattle.olk_errors.specs.Found.{IsLikeOneOf, IsRefusal}
 use Rattle.olk_errors.proofs.Appending.{told_so, if_told}
 use Rattle.object_logic.proofs.validator.Validator.validate.Goals as goal
