@@ -1,8 +1,8 @@
 //! What building and asking count.
 use crate::asked::{Asked, Question, told_by};
-use crate::counting::Counting;
 use crate::rows::{Form, Table, expect, refusal};
 use object_logic::{Meter, ValidateError, ValidationContext, Validator, holds_whole_numbers};
+use olk_base_tests::counting::Counting;
 use olk_bench::{BenchLeaves, BenchRegexes};
 use serde_json::Value;
 use std::alloc::{AllocError, Global};

@@ -1,8 +1,8 @@
 //! What schemas show of values, with a leaf set and a matcher.
 use crate::asked::{Asked, Question, told_by};
-use crate::doubles::{Equality, NoTexts};
 use crate::rows::{Form, Table, expect};
 use olk_base::ValidationContext;
+use olk_base_tests::doubles::{Equality, NoTexts};
 use olk_reports::{AnnotationEntry, ErrorEntry, Evaluation};
 use serde_json::Value;
 use std::alloc::{AllocError, Global};

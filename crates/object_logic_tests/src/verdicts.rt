@@ -1,9 +1,9 @@
 //! One verdict, however it is asked for.
-use crate::doubles::{EqualTo, Equality, NoText, NoTexts};
 use crate::rows::{Form, Table, expect, refusal};
 use object_logic::{
     BuildError, Context, Meter, Node, SchemaNode, Validate, ValidationContext, compile, verdicts_of,
 };
+use olk_base_tests::doubles::{EqualTo, Equality, NoText, NoTexts};
 use serde_json::Value;
 use std::alloc::{AllocError, Global};
 use std::test::Fail;

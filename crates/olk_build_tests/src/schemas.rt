@@ -1,9 +1,9 @@
 //! Whole schemas: what is counted of those that are built, and what is told of those that are
 //! refused.
-use crate::doubles::{EqualTo, Equality, NoText, NoTexts};
 use crate::shown::{PlainNode, Shown};
-use crate::tables::expect_rows;
 use olk_base::Meter;
+use olk_base_tests::doubles::{EqualTo, Equality, NoText, NoTexts};
+use olk_base_tests::tables::expect_rows;
 use olk_build::{Context, compile};
 use olk_reports::{BuildError, ValidationError};
 use olk_tree::built_node::BuiltNode;

@@ -1,7 +1,7 @@
 //! Rows of the vocabulary: a keyword, its value, an instance, and what is told.
-use crate::leaves::told_of_row;
-use crate::tables::expect_rows;
 use olk_base::MakeLeaf;
+use olk_base_tests::leaves::told_of_row;
+use olk_base_tests::tables::expect_rows;
 use olk_vocabulary::Vocabulary;
 use std::alloc::Global;
 use std::test::Fail;

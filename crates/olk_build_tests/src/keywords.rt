@@ -1,9 +1,9 @@
 //! What the module of a keyword compiles of its member of an object.
-use crate::doubles::{EqualTo, Equality, NoText, NoTexts};
 use crate::lines::{push_all, push_node, push_nodes, push_pattern, push_patterns};
 use crate::shown::{PlainNode, Shown};
-use crate::tables::expect_rows;
 use olk_base::{CompiledPattern, Meter};
+use olk_base_tests::doubles::{EqualTo, Equality, NoText, NoTexts};
+use olk_base_tests::tables::expect_rows;
 use olk_build::{
     Context, additional_properties, all_of, any_of, dependencies, if_, not, pattern_properties,
     property_dependencies, property_names,

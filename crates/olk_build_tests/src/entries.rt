@@ -1,9 +1,9 @@
 //! Maps and patterns that are compiled by themselves.
-use crate::doubles::{EqualTo, Equality, NoText, NoTexts};
 use crate::lines::{push_nodes, push_patterns};
 use crate::shown::{PlainNode, Shown};
-use crate::tables::expect_rows;
 use olk_base::{CompiledPattern, Meter};
+use olk_base_tests::doubles::{EqualTo, Equality, NoText, NoTexts};
+use olk_base_tests::tables::expect_rows;
 use olk_build::{Context, pattern_properties, properties};
 use olk_reports::BuildError;
 use olk_tree::built_node::BuiltNode;

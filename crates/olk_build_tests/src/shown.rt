@@ -1,7 +1,7 @@
 //! A node, as the tests look at it. Their functions take any node that is shown and name the real
 //! one once, since a type that is written out is dear to prove.
-use crate::doubles::{EqualTo, NoText};
 use object_logic::SchemaNode;
+use olk_base_tests::doubles::{EqualTo, NoText};
 use olk_tree::{Body, RequiredValidator};
 
 pub(crate) type PlainNode = SchemaNode<NoText, EqualTo>;

@@ -1,8 +1,8 @@
 //! Whether `properties` fuses the names that `required` lists.
-use crate::doubles::{EqualTo, Equality, NoText, NoTexts};
 use crate::shown::{PlainNode, Shown};
-use crate::tables::expect_rows;
 use olk_base::Meter;
+use olk_base_tests::doubles::{EqualTo, Equality, NoText, NoTexts};
+use olk_base_tests::tables::expect_rows;
 use olk_build::{Context, compile, properties, required};
 use olk_reports::BuildError;
 use olk_tree::KeywordOver;

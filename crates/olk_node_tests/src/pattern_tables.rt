@@ -1,6 +1,6 @@
 //! The table of patterns, made with the bench's matcher.
-use crate::tables::{expect_rows, two};
 use olk_base::{CompiledPattern, MakeError, Meter, compile_pattern};
+use olk_base_tests::tables::{expect_rows, two};
 use olk_bench::{BenchRegex, BenchRegexes};
 use olk_tree::pattern_table::{PatternIndex, PatternTable, precompute_property_pattern_indices};
 use serde_json::{Map, Value};

@@ -1,9 +1,9 @@
 //! Whole schemas: which variants are built of them.
-use crate::doubles::{EqualTo, Equality, NoText, NoTexts};
 use crate::lines::push_all;
 use crate::shown::PlainNode;
-use crate::tables::expect_rows;
 use olk_base::{CompiledPattern, Meter};
+use olk_base_tests::doubles::{EqualTo, Equality, NoText, NoTexts};
+use olk_base_tests::tables::expect_rows;
 use olk_build::{Context, compile};
 use olk_reports::BuildError;
 use olk_tree::additional_properties::Restriction;

@@ -11,7 +11,7 @@ pub struct NoText;
 
 impl Leaf for NoText {
     ghost use Rattle.std.specs.Prelude.{codes};
-    ghost use Rattle.object_logic_tests.specs.Plain.{is_keyword, fits_text, text_faults};
+    ghost use Rattle.olk_base_tests.specs.Plain.{is_keyword, fits_text, text_faults};
 
     ghost reads = { is_keyword };
 
@@ -84,7 +84,7 @@ pub struct EqualTo {
 
 impl RegexEngine for EqualTo {
     ghost use Rattle.std.specs.Prelude.{true, string_bytes};
-    ghost use Rattle.object_logic_tests.specs.Plain.{is_pattern, equals};
+    ghost use Rattle.olk_base_tests.specs.Plain.{is_pattern, equals};
 
     ghost builds = { is_pattern };
 

@@ -1,11 +1,11 @@
 //! Validators that are built by hand, over a leaf that refuses texts.
-use crate::doubles::{EqualTo, Equality, NoText};
 use crate::objects::{add_names, add_text, beside, both, sorted_names};
-use crate::tables::{expect_rows, three};
 use object_logic::SchemaNode;
 use olk_base::{
     CompiledPattern, MakeRegex, Meter, Node, RegexEngine, ValidationContext, compile_pattern,
 };
+use olk_base_tests::doubles::{EqualTo, Equality, NoText};
+use olk_base_tests::tables::{expect_rows, three};
 use olk_check::{IsValid, matches};
 use olk_reports::Location;
 use olk_tree::all_of::{AllOf, SingleValueAllOf};

@@ -1,0 +1,15 @@
+//! Tests of the validators as they are made by hand, of looking up names, and of the tables of
+//! patterns.
+//!
+//! Stands on `olk_node` and what is below, whose public calls alone it asks, and on nothing of
+//! building. The tests are in its modules.
+#![tactic(auto)]
+
+#[cfg(test)]
+mod check;
+#[cfg(test)]
+mod names;
+#[cfg(test)]
+mod objects;
+#[cfg(test)]
+mod pattern_tables;
