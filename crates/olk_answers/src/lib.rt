@@ -1,7 +1,7 @@
 //! What programs answer: an input line by line, and refusals, verdicts, errors and evaluations as
 //! compact JSON.
 //!
-//! A status says how far a program came. Stands on `olk_reports`. Tested by `object_logic_tests`.
+//! A status says how far a program came. Stands on `olk_reports`. Tested by `olk_base_tests`.
 #![tactic(auto)]
 
 mod errors;

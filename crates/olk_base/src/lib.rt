@@ -1,6 +1,6 @@
 //! Names, patterns, the traits of leaves and matchers, the meter and the context.
 //!
-//! Stands on the definitions alone. Tested by `object_logic_tests`.
+//! Stands on the definitions alone. Tested by `olk_base_tests`.
 #![tactic(auto)]
 
 pub mod analysis;

@@ -1,7 +1,7 @@
 //! A leaf set and a matcher of few words, makers that count, and the tests of the lines, names,
 //! patterns, reports, answers and the bench.
 //!
-//! Stands on `olk_lines`, `olk_bench` and `olk_answers`, and on no validator. The tests are in its
+//! Stands on `olk_bench` and `olk_answers`, and on no validator. The tests are in its
 //! modules.
 #![tactic(auto)]
 

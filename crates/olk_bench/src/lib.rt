@@ -1,7 +1,7 @@
 //! A small set of leaves and a plain matcher, for the programs, tests and measurements.
 //!
 //! They can be used as they are: docs/CALLING.md says what they lack. Stands on `olk_base`. Tested
-//! by `object_logic_tests`.
+//! by `olk_base_tests`.
 #![tactic(auto)]
 
 mod leaf;

@@ -1,76 +1,49 @@
 -- What holds `additionalProperties`, with all that it takes over.
-use Rattle.std.specs.Prelude.{◌≡◌, ◌<◌, ℕ, suc, Bool, true, false, not, ◌||◌, List, [], ◌∷◌, ◌++◌, map, zip, length, slice_get, slice_index_or as get_or, codes, Option, Some, None, is_some, option_map, option_to_list, cond, ◌&&◌}
-use Rattle.std.specs.Ordering.{nat_cmp, is_eq}
-use Rattle.std.specs.Cmp.Lexicographic.{slice_cmp}
-use Rattle.std.proofs.Common.{refl, sym, ◌∙◌, ap, subst, arith}
-use Rattle.std.proofs.lemmas.List.{append-nil, length-map}
-use Rattle.std.proofs.lemmas.Map.Text.{is_eq-slice_cmp}
-use mathlib.Core.Bool.{true≢false}
+use Rattle.std.proofs.Common.{◌≡◌, ◌<◌, ℕ, suc, Bool, true, false, not, ◌||◌, List, [], ◌∷◌, ◌++◌, map, zip, length, slice_get, slice_index_or as get_or, codes, Option, Some, None, is_some}
+use Rattle.std.proofs.Common.{option_map, option_to_list, cond, ◌&&◌, nat_cmp, is_eq, refl, sym, ◌∙◌, ap, subst, arith, append-nil, true≢false, Less}
 use Rattle.serde_json.specs.Data.{Data, boolean, Members}
 use Rattle.olk_spec.specs.Names.{Name, Text, Path, ◌//◌, lookup_name, is_among}
-use Rattle.std.specs.declared.cmp.Ordering.TheVariants.{Less}
 use Rattle.olk_spec.specs.Schemas.{listed, members, is_object, is_truth}
 use Rattle.olk_spec.specs.Faults.{Fault, ◌∼◌}
-use Rattle.olk_spec.specs.Malformed.{has_repeat}
-use Rattle.olk_spec.specs.Meaning.{meaning_step}
-use Rattle.olk_spec.specs.Tree.{Tree}
-use Rattle.olk_spec.proofs.Truth.{and_from}
-use Rattle.olk_spec.proofs.Maps.{is_some-map}
-use Rattle.olk_base.specs.Kit.{Kit}
-use Rattle.olk_base.specs.Compiled.{pattern_answers}
-use Rattle.olk_base.specs.declared.pattern.CompiledPattern.{CompiledPattern}
 use Rattle.olk_meaning.specs.AdditionalProperties.{entries_in, declared_beside, declares_beside, matches_beside}
 use Rattle.olk_meaning.specs.Conditions.{Known, is_restriction, is_restricted, known_of}
-use Rattle.olk_meaning.specs.Fused.{fused_one}
 use Rattle.olk_meaning.specs.Chosen.{size_for, restriction_form, standing_step, validators}
 use Rattle.olk_meaning.specs.Members.{member_report, member_standing}
 use Rattle.std.specs.List.{flat_map, list_all, zip}
 use Rattle.olk_meaning.specs.Plans.{Planned, plan_of, head, claims}
-use Rattle.olk_meaning.proofs.AdditionalPlaces.{either_way, true_allows, allowing_means_nothing}
-use Rattle.olk_meaning.proofs.Claims.{claims_itself, heads_elsewhere}
-use Rattle.olk_meaning.proofs.Heads.{names_of}
-use Rattle.olk_meaning.proofs.OneFused.{clean_one_fused}
-use Rattle.olk_meaning.proofs.Conditions.{restricted_read}
-use Rattle.olk_meaning.proofs.PropertyNames.{false_is_no_object}
-use Rattle.olk_meaning.proofs.Standing as standing
+use Rattle.olk_meaning.proofs.AdditionalProperties.{either_way, true_allows, allowing_means_nothing}
+use Rattle.olk_meaning.proofs.Claims.{claims_itself, heads_elsewhere, fuses_one_name, free_takes_nothing}
 use Rattle.olk_meaning.proofs.Standing.{each_placed, size_declared}
-use Rattle.olk_meaning.proofs.TakenOver.{fuses_one_name, free_takes_nothing}
 use Rattle.olk_tree.specs.Additional.{Held, placed, mapped_places, patterns_in, known_by, required_text, required_place}
-use Rattle.olk_tree.specs.Holdings.{held}
 use Rattle.olk_tree.specs.Maps.{keys_in, nodes_in, mapped}
-use Rattle.olk_tree.specs.Ascending.{Ascend}
-use Rattle.olk_tree.specs.Questions.{Question}
 use Rattle.olk_tree.specs.Sides.{AnswersAs, EntriesAnswer, PatternsAnswer, RestAnswers, RestrictionStands}
-use Rattle.olk_tree.specs.Tables.{Table}
 use Rattle.olk_tree.proofs.RestrictionMeans.{restriction_accepts, restriction_asks, restriction_finds, restriction_shows}
-use Rattle.olk_tree.specs.declared.additional_properties.Restriction.{Restriction}
-use Rattle.olk_tree.specs.declared.additional_properties.Restriction.TheVariants as by
-use Rattle.olk_tree.specs.declared.properties_map.PropertiesMap.{PropertiesMap}
-use Rattle.olk_tree.specs.declared.node.KeywordOver.{KeywordOver}
-use Rattle.olk_tree.specs.declared.node.KeywordOver.TheVariants as keyword
-use Rattle.olk_tree.specs.Answers.{Answers}
-use Rattle.olk_tree.specs.Places.{Stands}
-use Rattle.olk_build.specs.declared.shape.Shape.TheVariants as shape
 use Rattle.olk_build.specs.Forms.{IsMapOf, IsRestriction, HasMapFor, IsFormOfAdditionalProperties, IsAdditionalProperties}
-use Rattle.olk_build.specs.Holding.{StandEach, which, all_malformed}
+use Rattle.olk_build.specs.Standing.{StandEach, which, all_malformed, Fills, EntriesStand, DeclaredStand, PatternsStand, RestStands, BesideStands}
 use Rattle.olk_build.specs.Making.{KeywordsMean, MakesRestriction, MakesPart}
-use Rattle.olk_build.specs.Standing.{Fills, EntriesStand, DeclaredStand, PatternsStand, RestStands, BesideStands}
-use Rattle.olk_build.specs.declared.part.Beside.{Beside}
-use Rattle.olk_build.specs.declared.part.DeclaredNodes.{DeclaredNodes}
-use Rattle.olk_build.specs.declared.part.Patterns.{Patterns}
-use Rattle.olk_build.specs.declared.part.Taken.{Taken}
 use Rattle.olk_build.proofs.Together.{MeanClaim, claim_by_name, means_nothing}
 use Rattle.olk_build.proofs.PatternProperties.{all_formed}
-use Rattle.olk_build.proofs.EntryNodes.{AnswerEach, each_count, last_stands, schemas_answer}
-use Rattle.olk_meaning.specs.Told.{schema_answers}
-use Rattle.olk_meaning.proofs.Rows.{Rows}
-use Rattle.olk_build.proofs.Formed.{has_form, is_formed, just_one_formed, each_keys, each_nodes, each_held_formed, map_zipped, map_formed, entry_formed, case_formed, stand_in, stand_as, each_held_placed, map_sized, entries_placed}
-use Rattle.olk_tree.specs.AdditionalProperties.{additional_properties_answers}
+use Rattle.olk_build.proofs.Formed.{AnswerEach, each_count, last_stands, schemas_answer, has_form, is_formed, just_one_formed, each_keys, each_nodes, each_held_formed, map_zipped, map_formed}
+use Rattle.olk_build.proofs.Formed.{entry_formed, case_formed, stand_in, stand_as, each_held_placed, map_sized, entries_placed}
 use Rattle.olk_tree.specs.Formed.{is_map_formed, size_of, names_beside, is_table_formed}
-use Rattle.olk_tree.specs.Validators.{answers_of}
 use Rattle.olk_tree.proofs.Formed.{table_formed}
-use Rattle.std.specs.Option.{option_map_or}
 use Rattle.std.proofs.Math.Bool.{or-true, and-true}
+use Rattle.std.specs.{Cmp.Lexicographic.slice_cmp, Option.option_map_or}
+use Rattle.std.proofs.{lemmas.List.length-map, lemmas.Map.Text.is_eq-slice_cmp}
+use Rattle.olk_spec.specs.{Malformed.has_repeat, Meaning.meaning_step, Tree.Tree}
+use Rattle.olk_spec.proofs.{Truth.and_from, Maps.is_some-map}
+use Rattle.olk_base.specs.{Kit.Kit, Compiled.pattern_answers, declared.pattern.CompiledPattern.CompiledPattern}
+use Rattle.olk_meaning.specs.{Fused.fused_one, Told.schema_answers}
+use Rattle.olk_meaning.proofs.{Listed.names_of, Clean.clean_one_fused, Conditions.restricted_read, PropertyNames.false_is_no_object, Rows.Rows}
+use Rattle.olk_tree.specs.{Holdings.held, Ascending.Ascend, Questions.Question, Tables.Table, declared.additional_properties.Restriction.Restriction}
+use Rattle.olk_tree.specs.{declared.properties_map.PropertiesMap.PropertiesMap, declared.node.KeywordOver.KeywordOver, Answers.Answers, Places.Stands}
+use Rattle.olk_tree.specs.{AdditionalProperties.additional_properties_answers, Validators.answers_of}
+use Rattle.olk_build.specs.{declared.part.Beside.Beside, declared.part.DeclaredNodes.DeclaredNodes, declared.part.Patterns.Patterns}
+use Rattle.olk_build.specs.declared.part.Taken.{Taken}
+use Rattle.olk_meaning.proofs.Standing as standing
+use Rattle.olk_tree.specs.declared.additional_properties.Restriction.TheVariants as by
+use Rattle.olk_tree.specs.declared.node.KeywordOver.TheVariants as keyword
+use Rattle.olk_build.specs.declared.shape.Shape.TheVariants as shape
 
 -- ---- names that ascend are distinct
 
@@ -107,7 +80,7 @@ module _ {K R N : Type 0} (o : Kit K R) (answers : N → Answers) where
 
   patterns_answer : (ps : List (CompiledPattern R × N)) (es : Rows) (L : Path) → EntriesStand o answers ps es L → PatternsAnswer o means report tree ps es L
   patterns_answer [] [] L h = tt
-  patterns_answer (p ∷ ps) (e ∷ es) L h = (record { answers = h.0.answers; costs = h.0.costs }, answers_as p.1 e.1 (L // e.0) h.1, patterns_answer ps es L h.2)
+  patterns_answer (p ∷ ps) (e ∷ es) L h = (record { answers = h.0.0.answers; costs = h.0.0.costs }, answers_as p.1 e.1 (L // e.0) h.0.1, patterns_answer ps es L h.1)
   patterns_answer _ _ L h = absurd h
 
   rest_answers : (x : Option N) (d : Data) (L : Path) → RestStands o answers x d L → RestAnswers o means report tree x d L
@@ -223,8 +196,7 @@ module _ {K R N : Type 0} (o : Kit K R) (answers : N → Answers) where
       -- what is known of a pattern and a declared name
       all_known : (m : Option (PropertiesMap N)) → is_some m ≡ declares_beside ms → (p i : ℕ) (n : Name) (c : CompiledPattern R) → slice_get (keys_in (declared_beside ms)) p ≡ Some n
           → slice_get (map (λ e. e.0) (entries x)) i ≡ Some c → known_by (table_beside m (Some x)) p i ≡ pattern_answers o.answers c n
-      all_known (Some m) e p i n c at_name at_pattern =
-          h.table.says p i n c (ap (λ ns. slice_get ns p) names_kept ∙ at_name) at_pattern
+      all_known (Some m) e p i n c at_name at_pattern = h.table.says p i n c (ap (λ ns. slice_get ns p) names_kept ∙ at_name) at_pattern
       all_known None e p i n c at_name at_pattern = absurd (true≢false (sym (ap is_some at_name) ∙ ap (λ es. is_some (slice_get (keys_in es) p)) (none_there _ e)))
 
       all_placed : (m : Option (PropertiesMap N)) → is_some m ≡ false → place_alone m (Some x) ≡ L
@@ -280,7 +252,7 @@ module _ {K R N : Type 0} (o : Kit K R) (answers : N → Answers) where
     entries_formed : (x : Option (Patterns R N)) (a : Option Data) (L : Path) → Fills (λ x. PatternsStand o answers (known_of ms) x L) x a
         → list_all (entry_formed o answers) (patterns_in (option_map entries x)) ≡ true
     entries_formed None a L h = refl
-    entries_formed (Some x) (Some d) L h = all_formed o answers x.patterns.items (members d) L h.entries
+    entries_formed (Some x) (Some d) L h = all_formed o answers L x.patterns.items (members d) h.entries
     entries_formed (Some x) None L h = absurd h
 
   rest_formed : (x : Option N) (d : Data) (L : Path) → RestStands o answers x d L → case_formed o answers x ≡ true
@@ -371,11 +343,9 @@ module _ {K R N : Type 0} (o : Kit K R) (answers : N → Answers) where
     restriction_formed : is_formed o answers (keyword.AdditionalProperties k) ≡ true
     unfolding answers_of
     restriction_formed = ap (λ h. (additional_properties_answers o.answers o.costs h).formed (has_form o answers)) all_held
-        ∙ and_from _ _ (and_from _ _ (and_from _ _
-        (declared_formed b.properties form.0 _ _ form.1 stands.0)
+        ∙ and_from _ _ (and_from _ _ (and_from _ _ (declared_formed b.properties form.0 _ _ form.1 stands.0)
         (table_beside_formed ms restricted form.0 b.patterns _ _ (declared_names b.properties form.0 _ _ form.1 stands.0) stands.1))
-        (entries_formed ms restricted b.patterns _ _ stands.1))
-        (rest_formed rest d L rest_stands)
+        (entries_formed ms restricted b.patterns _ _ stands.1)) (rest_formed rest d L rest_stands)
 
     restriction_placed : all_malformed o ms P (listed ms) ≡ [] → flat_map (stand_as o answers) (keyword.AdditionalProperties k ∷ []) ≡ flat_map (λ m. member_standing o.world ms m (which o ms m) P) ((codes "additionalProperties", d) ∷ [])
     unfolding answers_of

@@ -1,42 +1,41 @@
--- What is built so far, and one more.
-use Rattle.std.specs.Prelude.{◌≡◌, ◌<◌, ◌≤◌, ◌+◌, ℕ, Bool, true, false, List, [], ◌∷◌, ◌++◌, map, drop, length, decimal, slice_index_or as get_or, Vec, String, string_bytes}
-use Rattle.std.specs.List.{enumerate_from}
-use Rattle.std.proofs.Common.{refl, sym, ◌∙◌, ap, arith, true≢false}
-use Rattle.std.proofs.lemmas.List.{append-nil, append_assoc, drop_more, drop_all}
+-- What is built so far, and one more; and of the places that are read in a value.
+use Rattle.std.proofs.Common.{◌≡◌, ◌<◌, ◌≤◌, ◌+◌, ℕ, Bool, true, false, List, [], ◌∷◌, ◌++◌, map, drop, length, decimal, slice_index_or as get_or, Vec, String, string_bytes, refl, sym, ◌∙◌, ap, arith}
+use Rattle.std.proofs.Common.{true≢false, subst, rules, append-nil, append_assoc, Global, BTreeMap}
+use Rattle.std.proofs.lemmas.List.{drop_more, drop_all}
 use Rattle.serde_json.specs.Data.{Data, boolean, object, Members}
 use Rattle.serde_json.specs.View.{view, members_view}
-use Rattle.serde_json.specs.declared.value.Value.{Value}
+use Rattle.serde_json.specs.declared.value.Value.{Value, Array, Object, out-Value, roll-Value, the_lemmas}
 use Rattle.olk_spec.specs.Names.{Name, Path, ◌//◌, put_if}
-use Rattle.olk_spec.specs.Faults.{Fault, fault, MultipleTypes, like_through}
+use Rattle.olk_spec.specs.Faults.{fault, MultipleTypes, like_through}
 use Rattle.olk_spec.specs.Schemas.{listed, members}
-use Rattle.olk_spec.specs.Malformed.{malformations_at}
-use Rattle.olk_spec.specs.Meaning.{meaning}
-use Rattle.olk_spec.specs.Costs.{Cost, cost, one_place}
-use Rattle.olk_spec.specs.Tree.{plain}
+use Rattle.olk_spec.specs.Malformed.{malformations_at, items_of_array}
+use Rattle.olk_spec.specs.Costs.{cost, one_place, no_cost}
 use Rattle.olk_spec.proofs.Order.{∼_same}
 use Rattle.olk_base.specs.Count.{Counts, count_compiled}
 use Rattle.olk_reports.specs.declared.error.BuildError.{BuildError}
-use Rattle.olk_reports.specs.declared.error.BuildError.TheVariants.{Memory}
-use Rattle.std.specs.declared.alloc.AllocError.{AllocError}
 use Rattle.olk_base.specs.Kit.{Kit}
-use Rattle.olk_tree.specs.Answers.{Answers}
 use Rattle.olk_tree.specs.Places.{AnswersBy, Stands}
-use Rattle.std.specs.declared.alloc.Global.{Global}
-use Rattle.olk_spec.specs.World.{World}
 use Rattle.olk_build.specs.Refusing.{TellsOneOf, Refuses}
-use Rattle.olk_build.specs.Holding.{StandEach, StandInner}
-use Rattle.olk_build.specs.Building.{IsBuilt, ObjectIsBuilt, RefusesObject, AreBuilt, InnerAreBuilt, RefusesSchema, RefusesEach, RefusesInner, no_lists, entries_read, is_read, each_malformed, each_cost}
-use Rattle.olk_build.specs.Placing.{PlacesAreBuilt, RefusesPlaces}
-use Rattle.olk_build.proofs.ReadSoFar.{SoFar, none_so_far, all_so_far, memory_so_far, refused_so_far, one_more_so_far, memory_past}
-use Rattle.olk_build.specs.declared.shape.ReadPlaces.TheVariants.{Entries}
-use Rattle.olk_tree.specs.declared.node.KeywordOver.{KeywordOver}
-use Rattle.olk_tree.specs.declared.node.Body.{Body}
+use Rattle.olk_build.specs.Standing.{StandEach, StandInner, StandAt}
+use Rattle.olk_build.specs.Building.{IsBuilt, ObjectIsBuilt, RefusesObject, RefusesSchema, RefusesEach, RefusesInner, no_lists, entries_read, is_read, each_malformed, each_cost, PlacesAreBuilt}
+use Rattle.olk_build.specs.Building.{RefusesPlaces, places_malformed, places_cost}
+use Rattle.olk_build.proofs.Spending.{SoFar, refused_so_far, one_more_so_far, one_more_pair, spends_append, spends_same, spends_place, within_after, within_same, within_exactly, tells_same}
+use Rattle.olk_build.proofs.Spending.{spends_nothing}
+use Rattle.olk_build.specs.declared.shape.ReadPlaces.TheVariants.{Entries, Nothing, Itself, SchemaEntries, InnerEntries, Branches}
 use Rattle.olk_tree.specs.declared.node.Body.TheVariants.{True, False, Keywords}
-use Rattle.olk_build.proofs.Spending.{spends_append, spends_same, spends_place, within_after, within_same, within_exactly, tells_same}
 use Rattle.olk_meaning.specs.Chosen.{object_form, validators}
 use Rattle.olk_meaning.proofs.Standing.{object_stands}
-use Rattle.olk_meaning.proofs.Objects.{IsNoSchema, no_schema_malformed, no_schema_cost, object_accepts, object_asks, object_report, object_tree, object_malformed, object_cost}
-use Rattle.olk_tree.specs.Questions.{of_asked}
+use Rattle.olk_meaning.proofs.Facts.{IsNoSchema, no_schema_malformed, no_schema_cost, object_accepts, object_asks, object_report, object_tree, object_malformed, object_cost}
+use Rattle.olk_build.proofs.Shapes.{rolled}
+use Rattle.serde_json.specs.declared.value.Value.TheOpen.{Value-F}
+use Rattle.serde_json.specs.declared.value.Value.TheVariants.{rolls-Array, rolls-Object}
+use Rattle.olk_build.specs.declared.shape.ReadPlaces.{ReadPlaces}
+use denote.Param.Weighed.{most}
+use Rattle.std.specs.{List.enumerate_from, Prelude.⊤, Map.values_of}
+use Rattle.olk_spec.specs.{Meaning.meaning, Tree.plain, World.World}
+use Rattle.olk_tree.specs.{Answers.Answers, declared.node.KeywordOver.KeywordOver, declared.node.Body.Body, Questions.of_asked}
+
+-- ---- what is built so far, and one more
 
 abbrev pub truth_body : {W : Type 0} → Bool → Body W
 truth_body true = True
@@ -123,27 +122,9 @@ module _ {K R N : Type 0} {o : Kit K R} {answers : N → Answers} {n : N} {P : P
   }
 
 module _ {K R N : Type 0} (o : Kit K R) (answers : N → Answers) where
-  -- ---- nodes for schemas under names
-
-  each_push : (P : Path) (ns : List N) (es : List (Name × Data)) (n : N) (e : Name × Data) → StandEach o answers ns es P → Stands o answers n e.1 (P // e.0)
-      → StandEach o answers (ns ++ n ∷ []) (es ++ e ∷ []) P
-  each_push P [] [] n e h s = (s, tt)
-  each_push P (y ∷ ns) (x ∷ es) n e h s = (h.0, each_push P ns es n e h.1 s)
-  each_push P _ _ n e h s = absurd h
-
-  -- what is wrong with an entry, what it costs, and what stands for entries
-  abbrev pub entry_wrong : Path → Name × Data → List Fault
-  entry_wrong P e = malformations_at o.world e.1 (P // e.0)
-
-  abbrev pub entry_costs : Name × Data → Cost
-  entry_costs e = cost o.world e.1
-
-  abbrev pub entries_stand : Path → List N → List (Name × Data) → Type 0
-  entries_stand P ns es = StandEach o answers ns es P
-
   -- nodes for the entries so far
-  pub record EntriesSoFar (P : Path) (all : List (Name × Data)) (a : Counts) (ns : List N) (left : List (Name × Data)) (m : Counts) : Type 0 where
-    pub so_far : SoFar (entry_wrong P) entry_costs (entries_stand P) all a ns left m
+  abbrev pub EntriesSoFar : Path → List (Name × Data) → Counts → List N → List (Name × Data) → Counts → Type 0
+  EntriesSoFar P all a ns left m = SoFar (λ e. malformations_at o.world e.1 (P // e.0)) (λ e. cost o.world e.1) (λ ns es. StandEach o answers ns es P) all a ns left m
 
   -- ---- nodes for the entries of each of these
 
@@ -152,67 +133,25 @@ module _ {K R N : Type 0} (o : Kit K R) (answers : N → Answers) where
   inner_push P ns here [] e h s = (here, [], ap (λ l. l ++ here) h ∙ sym (append-nil here), s, refl)
   inner_push P ns here (x ∷ es) e h s = (h.0, h.1 ++ here, ap (λ l. l ++ here) h.2 ∙ append_assoc h.0 h.1 here, h.3, inner_push P h.1 here es e h.4 s)
 
-  abbrev pub inner_wrong : Path → Name × Data → List Fault
-  inner_wrong P e = each_malformed o (P // e.0) (members e.1)
-
-  abbrev pub inner_costs : Name × Data → Cost
-  inner_costs e = each_cost o (members e.1)
-
-  abbrev pub inner_stand : Path → List N → List (Name × Data) → Type 0
-  inner_stand P ns es = StandInner o answers ns es P
-
   -- and for the entries of those so far
-  pub record InnerSoFar (P : Path) (all : List (Name × Data)) (a : Counts) (ns : List N) (left : List (Name × Data)) (m : Counts) : Type 0 where
-    pub so_far : SoFar (inner_wrong P) inner_costs (inner_stand P) all a ns left m
+  abbrev pub InnerSoFar : Path → List (Name × Data) → Counts → List N → List (Name × Data) → Counts → Type 0
+  InnerSoFar P all a ns left m = SoFar (λ e. each_malformed o (P // e.0) (members e.1)) (λ e. each_cost o (members e.1)) (λ ns es. StandInner o answers ns es P) all a ns left m
 
 module _ {K R N : Type 0} {o : Kit K R} {answers : N → Answers} {P : Path} {all : List (Name × Data)} {a : Counts} {ns : List N} {left : List (Name × Data)} where
-  pub no_entries : ns ≡ [] → left ≡ all → EntriesSoFar o answers P all a ns left a
-  no_entries e w = record { so_far = none_so_far (rw e tt) w }
-
-  module _ {m : Counts} (h : EntriesSoFar o answers P all a ns left m) where
-    pub entries_built : left ≡ [] → AreBuilt o answers ns all P a m
-    entries_built e = let r = all_so_far h.so_far e in record { stand = r.stand; clean = r.clean; spends = r.spends }
-
-    pub entries_memory : {w : AllocError} (e : BuildError) → e ≡ Memory w → RefusesEach o all P a m e
-    entries_memory e q = memory_so_far h.so_far e q
-
-    module _ {x : Name × Data} {rest : List (Name × Data)} (next : left ≡ x ∷ rest) {L : Path} (place : L ≡ P // x.0) {b : Counts} where
+  module _ {m b : Counts} {x : Name × Data} {rest : List (Name × Data)} {L : Path} where
+    module _ (h : EntriesSoFar o answers P all a ns left m) (next : left ≡ x ∷ rest) (place : L ≡ P // x.0) where
       pub entry_refused : {e : BuildError} → RefusesSchema o x.1 L m b e → RefusesEach o all P a b e
-      entry_refused r = refused_so_far h.so_far next (rw (← place) r)
+      entry_refused r = refused_so_far h next (rw (← place) r)
 
-      module _ {n : N} (built : IsBuilt o answers n x.1 L m b) where
-        pub one_more_entry : {new : List N} → new ≡ ns ++ n ∷ [] → EntriesSoFar o answers P all a new rest b
-        one_more_entry q = record {
-          so_far = one_more_so_far h.so_far next built.spends
-              (rw q (each_push o answers P ns h.so_far.done n x h.so_far.built.stand (rw (← place) built.stands))) (rw (← place) built.clean);
-        }
+      pub one_more_entry : {n : N} → IsBuilt o answers n x.1 L m b → {new : List N} → new ≡ ns ++ n ∷ [] → EntriesSoFar o answers P all a new rest b
+      one_more_entry built q = one_more_pair (λ n e. Stands o answers n e.1 (P // e.0)) h next q built.spends (rw (← place) built.stands) (rw (← place) built.clean)
 
-        pub entry_memory : {w : AllocError} (e : BuildError) → e ≡ Memory w → RefusesEach o all P a b e
-        entry_memory e q = memory_past h.so_far next built.spends e q
-
-  pub no_inner : ns ≡ [] → left ≡ all → InnerSoFar o answers P all a ns left a
-  no_inner e w = record { so_far = none_so_far e w }
-
-  module _ {m : Counts} (h : InnerSoFar o answers P all a ns left m) where
-    pub inner_built : left ≡ [] → InnerAreBuilt o answers ns all P a m
-    inner_built e = let r = all_so_far h.so_far e in record { stand = r.stand; clean = r.clean; spends = r.spends }
-
-    pub inner_memory : {w : AllocError} (e : BuildError) → e ≡ Memory w → RefusesInner o all P a m e
-    inner_memory e q = memory_so_far h.so_far e q
-
-    module _ {x : Name × Data} {rest : List (Name × Data)} (next : left ≡ x ∷ rest) {L : Path} (place : L ≡ P // x.0) {b : Counts} where
+    module _ (h : InnerSoFar o answers P all a ns left m) (next : left ≡ x ∷ rest) (place : L ≡ P // x.0) where
       pub inner_refused : {e : BuildError} → RefusesPlaces o Entries x.1 L m b e → RefusesInner o all P a b e
-      inner_refused r = refused_so_far h.so_far next (rw (← place) r)
+      inner_refused r = refused_so_far h next (rw (← place) r)
 
-      module _ {here : List N} (built : PlacesAreBuilt o answers Entries here x.1 L m b) where
-        pub one_more_inner : {new : List N} → new ≡ ns ++ here → InnerSoFar o answers P all a new rest b
-        one_more_inner q = record {
-          so_far = one_more_so_far h.so_far next built.spends
-              (rw q (inner_push o answers P ns here h.so_far.done x h.so_far.built.stand (rw (← place) built.stand))) (rw (← place) built.clean);
-        }
-
-        pub more_inner_memory : {w : AllocError} (e : BuildError) → e ≡ Memory w → RefusesInner o all P a b e
-        more_inner_memory e q = memory_past h.so_far next built.spends e q
+      pub one_more_inner : {here : List N} → PlacesAreBuilt o answers Entries here x.1 L m b → {new : List N} → new ≡ ns ++ here → InnerSoFar o answers P all a new rest b
+      one_more_inner built q = one_more_so_far h next built.spends (rw q (inner_push o answers P ns _ h.done x h.built.stand (rw (← place) built.stand))) (rw (← place) built.clean)
 
 -- ---- entries that are read
 
@@ -230,3 +169,54 @@ module _ {n : String Global} {v : Value} {left rest : List (String Global × Val
       → entries_read passes (listed (members_view left)) ≡ (string_bytes n, view v) ∷ entries_read passes (listed (members_view rest))
   at_an_entry true r e = ap (λ l. no_lists (listed (members_view l))) steps ∙ ap (λ b. put_if b (string_bytes n, view v) (no_lists (listed (members_view rest)))) (sym r ∙ e)
   at_an_entry false r e = ap (λ l. listed (members_view l)) steps
+
+-- ---- values that are no object, and no array
+
+no_members_layer : (x : Value-F Value) → ((m : BTreeMap (String Global) Value) → roll-Value x ≡ Object m → ⊥) → members (view (roll-Value x)) ≡ []
+no_members_layer (Value-F.Object m) h = absurd (h m (rolls-Object m))
+no_members_layer _ h = search (rules, the_lemmas)
+
+pub no_object_no_members : (v : Value) → ((m : BTreeMap (String Global) Value) → v ≡ Object m → ⊥) → members (view v) ≡ []
+no_object_no_members v = subst (λ x. ((m : BTreeMap (String Global) Value) → x ≡ Object m → ⊥) → members (view x) ≡ []) (rolled v) (no_members_layer (out-Value v))
+
+no_items_layer : (x : Value-F Value) → ((ds : Vec Value Global) → roll-Value x ≡ Array ds → ⊥) → items_of_array (view (roll-Value x)) ≡ []
+no_items_layer (Value-F.Array ds) h = absurd (h ds (rolls-Array ds))
+no_items_layer _ h = search (rules, the_lemmas)
+
+pub no_array_no_items : (v : Value) → ((ds : Vec Value Global) → v ≡ Array ds → ⊥) → items_of_array (view v) ≡ []
+no_array_no_items v = subst (λ x. ((ds : Vec Value Global) → x ≡ Array ds → ⊥) → items_of_array (view x) ≡ []) (rolled v) (no_items_layer (out-Value v))
+
+abbrev pub NoneIn : Data → ReadPlaces → Type 0
+NoneIn d Nothing = ⊤
+NoneIn d Itself = ⊥
+NoneIn d Branches = items_of_array d ≡ []
+NoneIn d r = members d ≡ []
+
+module _ {K R N : Type 0} {o : Kit K R} {answers : N → Answers} {d : Data} {L : Path} {a : Counts} where
+  -- ---- where there are none
+
+  nothing_stands : (r : ReadPlaces) → StandAt o answers r [] d L → places_malformed o r d L ≡ [] → places_cost o r d ≡ no_cost → PlacesAreBuilt o answers r [] d L a a
+  nothing_stands r h c e = record { stand = h; clean = c; spends = spends_same a a _ _ (sym e) (spends_nothing a) }
+
+  pub none_are_built : (r : ReadPlaces) → NoneIn d r → PlacesAreBuilt o answers r [] d L a a
+  none_are_built Nothing e = nothing_stands Nothing refl refl refl
+  none_are_built Itself e = absurd e
+  none_are_built Entries e = nothing_stands Entries (rw e tt) (rw e refl) (rw e refl)
+  none_are_built SchemaEntries e = nothing_stands SchemaEntries (rw e tt) (rw e refl) (rw e refl)
+  none_are_built InnerEntries e = nothing_stands InnerEntries (rw e refl) (rw e refl) (rw e refl)
+  none_are_built Branches e = nothing_stands Branches (rw e tt) (rw e refl) (rw e refl)
+
+  -- ---- the value itself
+
+  pub itself_is_built : {n : N} {b : Counts} → IsBuilt o answers n d L a b → PlacesAreBuilt o answers Itself (n ∷ []) d L a b
+  itself_is_built h = record { stand = h.stands; clean = h.clean; spends = h.spends }
+
+-- ---- a value among the values of a map is no larger than the largest of them
+
+module _ {K V : Type 0} (size : V → ℕ) where
+  among_these : (before : List (K × V)) (k : K) (v : V) (next : List (K × V)) → size v ≤ most size (values_of (before ++ (k, v) ∷ next))
+  among_these [] k v next = omega arith
+  among_these (x ∷ before) k v next = let h = among_these before k v next in omega (arith, h)
+
+  pub size_among : (before : List (K × V)) (k : K) (v : V) (next all : List (K × V)) → before ++ (k, v) ∷ next ≡ all → size v ≤ most size (values_of all)
+  size_among before k v next all e = subst (λ l. size v ≤ most size (values_of l)) e (among_these before k v next)

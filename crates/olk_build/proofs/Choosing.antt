@@ -1,37 +1,30 @@
 -- What is made of a part is the validator of its member.
-use Rattle.std.specs.Prelude.{◌≡◌, ℕ, suc, ◌&&◌, ◌||◌, Bool, true, false, not, List, [], ◌∷◌, map, zip, length, codes, bytes_eq, Option, Some, None, is_some, option_map}
+use Rattle.std.proofs.Common.{◌≡◌, ℕ, ◌&&◌, ◌||◌, Bool, true, false, not, List, [], ◌∷◌, map, zip, length, codes, Option, Some, None, is_some, option_map, refl, sym, ◌∙◌, ap, subst, inl, inr}
+use Rattle.std.proofs.Common.{true≢false}
 use Rattle.std.specs.List.{enumerate_from}
-use Rattle.std.proofs.Common.{refl, sym, ◌∙◌, ap, subst, inl, inr}
-use Rattle.std.proofs.lemmas.List.{length-map}
-use Rattle.std.proofs.lemmas.List.FromFn.{length-enumerate_from}
-use Rattle.std.proofs.Math.Bool.{and-false}
-use mathlib.Core.Bool.{true≢false}
+use Rattle.std.proofs.Math.Bool.{and-false, and-true}
 use Rattle.serde_json.specs.Data.{Data, boolean, object, Members}
 use Rattle.olk_spec.specs.Names.{Name, Path, ◌//◌, lookup_name}
 use Rattle.olk_spec.specs.Schemas.{listed, members, numbered, is_object, is_truth}
 use Rattle.olk_spec.specs.Malformed.{items_of_array}
-use Rattle.olk_spec.specs.Vocabulary.{Keyword, properties, pattern_properties, additional_properties, required, dependent_required, dependent_schemas, dependencies, property_names, property_dependencies, all_of, any_of, one_of, not_keyword, if_keyword, then_keyword, else_keyword, leaf, unread, keyword_named}
-use Rattle.olk_spec.proofs.Walks.{same_name}
-use Rattle.olk_base.specs.Kit.{Kit}
-use Rattle.olk_base.specs.declared.pattern.CompiledPattern.{CompiledPattern}
+use Rattle.olk_spec.specs.Vocabulary.{Keyword, properties, pattern_properties, additional_properties, required, dependent_required, dependent_schemas, dependencies, property_names}
+use Rattle.olk_spec.specs.Vocabulary.{property_dependencies, all_of, any_of, one_of, not_keyword, if_keyword, then_keyword, else_keyword, leaf, unread, keyword_named}
 use Rattle.olk_meaning.specs.Conditions.{known_of, is_condition, is_restricted, is_conditional_name}
 use Rattle.olk_meaning.specs.Plans.{plan_of}
-use Rattle.olk_meaning.proofs.PropertyNames.{false_is_no_object}
-use Rattle.olk_build.specs.Reading.{ArePatterns, reads_of, IsShape, Fits}
-use Rattle.olk_build.specs.declared.shape.Shape.{Shape}
-use Rattle.olk_build.specs.declared.shape.Shape.TheVariants as shape
-use Rattle.olk_build.specs.declared.shape.ReadPlaces.TheVariants.{Itself}
-use Rattle.olk_tree.specs.Answers.{Answers}
-use Rattle.olk_tree.specs.declared.node.KeywordOver.{KeywordOver}
-use Rattle.olk_tree.specs.declared.node.KeywordOver.TheVariants as keyword
+use Rattle.olk_build.specs.Reading.{ArePatterns, IsPattern, reads_of, IsShape, Fits}
 use Rattle.olk_build.specs.Chooser.{IsLeafAt, HasForm, IsChosen}
-use Rattle.olk_build.specs.Forms.{IsFormOfAllOf, IsFormOfAnyOf, IsFormOfOneOf, IsAllOf, IsAnyOf, IsOneOf, IsNot, IsRequired, IsIf, IsProperties, IsPatternProperties, IsAdditionalProperties, IsDependencies, IsDependentRequired, IsDependentSchemas, IsPropertyNames, IsPropertyNamesFalse, IsPropertyDependencies}
-use Rattle.olk_build.specs.Holding.{StandEach}
+use Rattle.olk_build.specs.Forms.{IsFormOfAllOf, IsFormOfAnyOf, IsFormOfOneOf, IsAllOf, IsAnyOf, IsOneOf, IsNot, IsRequired, IsIf, IsProperties, IsPatternProperties, IsAdditionalProperties}
+use Rattle.olk_build.specs.Forms.{IsDependencies, IsDependentRequired, IsDependentSchemas, IsPropertyNames, IsPropertyNamesFalse, IsPropertyDependencies}
+use Rattle.olk_build.specs.Standing.{StandEach, StandAt, EntriesStand, Fills, is_taken, is_if_shape, is_restriction_shape, CasesStand, BesideStands}
 use Rattle.olk_build.specs.Made.{IsMade, MakesOthers}
-use Rattle.olk_build.specs.Standing.{StandAt, EntriesStand, Fills, is_taken, is_if_shape, is_restriction_shape, CasesStand, BesideStands}
-use Rattle.olk_build.specs.declared.part.DeclaredNodes.{DeclaredNodes}
-use Rattle.olk_build.specs.declared.part.Patterns.{Patterns}
-use Rattle.olk_build.specs.declared.part.Taken.{Taken}
+use Rattle.std.proofs.{lemmas.List.length-map, lemmas.List.FromFn.length-enumerate_from, lemmas.Slice.Zip.AllZip-long}
+use Rattle.olk_base.specs.{Kit.Kit, declared.pattern.CompiledPattern.CompiledPattern}
+use Rattle.olk_meaning.proofs.{PropertyNames.false_is_no_object, Conditions.of_conditional}
+use Rattle.olk_build.specs.{declared.shape.Shape.Shape, declared.shape.ReadPlaces.TheVariants.Itself}
+use Rattle.olk_tree.specs.{Answers.Answers, declared.node.KeywordOver.KeywordOver, Questions.conditional, Places.Stands}
+use Rattle.olk_build.specs.{declared.part.DeclaredNodes.DeclaredNodes, declared.part.Patterns.Patterns, declared.part.Taken.Taken}
+use Rattle.olk_build.specs.declared.shape.Shape.TheVariants as shape
+use Rattle.olk_tree.specs.declared.node.KeywordOver.TheVariants as keyword
 
 -- ---- branches, and how many there are
 
@@ -54,24 +47,17 @@ module _ {K R N : Type 0} {L M : Path} (ns : List N) (d : Data) (e : length ns �
 -- ---- as many as there are
 
 module _ {K R N : Type 0} (o : Kit K R) (answers : N → Answers) where
-  stand_length : (ns : List N) (es : List (Name × Data)) (P : Path) → StandEach o answers ns es P → length ns ≡ length es
-  stand_length [] [] P h = refl
-  stand_length (n ∷ ns) (e ∷ es) P h = ap (λ k. suc k) (stand_length ns es P h.1)
-  stand_length _ _ P h = absurd h
-
   pub branches_length : (ns : List N) (d : Data) (P : Path) → StandEach o answers ns (numbered (items_of_array d)) P → length ns ≡ length (items_of_array d)
-  branches_length ns d P h = stand_length ns (numbered (items_of_array d)) P h ∙ length-map (enumerate_from 0 (items_of_array d)) _ ∙ length-enumerate_from 0 (items_of_array d)
-
-  zip_length : (ps : List (CompiledPattern R)) (ns : List N) (es : List (Name × Data)) (L : Path) → ArePatterns o ps es → StandEach o answers ns es L → length (zip ps ns) ≡ length es
-  zip_length [] ns [] L h s = refl
-  zip_length (p ∷ ps) [] (e ∷ es) L h s = absurd s
-  zip_length (p ∷ ps) (n ∷ ns) (e ∷ es) L h s = ap (λ k. suc k) (zip_length ps ns es L h.1 s.1)
-  zip_length _ ns _ L h s = absurd h
+  branches_length ns d P h = sym (AllZip-long (λ n e. Stands o answers n e.1 (P // e.0)) ns (numbered (items_of_array d)) h) ∙ length-map (enumerate_from 0 (items_of_array d)) _ ∙ length-enumerate_from 0 (items_of_array d)
 
   pub entries_length : (ps : List (CompiledPattern R × N)) (es : List (Name × Data)) (L : Path) → EntriesStand o answers ps es L → length ps ≡ length es
-  entries_length [] [] L h = refl
-  entries_length (p ∷ ps) (e ∷ es) L h = ap (λ k. suc k) (entries_length ps es L h.2)
-  entries_length _ _ L h = absurd h
+  entries_length ps es L h = sym (AllZip-long (λ e d. IsPattern o e.0 d.0 × Stands o answers e.1 d.1 (L // d.0)) ps es h)
+
+  pub both_stand : (ps : List (CompiledPattern R)) (ns : List N) (ds : List (Name × Data)) (L : Path) → ArePatterns o ps ds → StandEach o answers ns ds L → EntriesStand o answers (zip ps ns) ds L
+  both_stand [] ns [] L h s = tt
+  both_stand (p ∷ ps) [] (d ∷ ds) L h s = absurd s
+  both_stand (p ∷ ps) (n ∷ ns) (d ∷ ds) L h s = ((h.0, s.0), both_stand ps ns ds L h.1 s.1)
+  both_stand _ ns _ L h s = absurd h
 
 module _ {X : Type 0} (Means : X → Data → Type 0) where
   pub filled_as : (t : Option X) (a : Option Data) → Fills Means t a → is_some t ≡ is_some a
@@ -103,11 +89,7 @@ first_false true b e = absurd (true≢false e)
 module _ {K R N : Type 0} (o : Kit K R) (answers : N → Answers) (ms : Members) (P : Path) where
   -- a keyword that tells members by their names, and that no other takes
   unrestricted : (r c : Bool) → ((r && true) || (c && false)) ≡ false → r ≡ false
-  unrestricted r c e = first_false r (c && false) ((λ i. both r i || (c && false)) ∙ e)
-    where
-      both : (r : Bool) → r ≡ (r && true)
-      both true = refl
-      both false = refl
+  unrestricted r c e = first_false r (c && false) (ap (λ b. b || (c && false)) (sym (and-true r)) ∙ e)
 
   module _ (k : Name) (d : Data) (L : Path) (place : L ≡ P // k) (ns : List N) (t : Taken R N) where
     abbrev Chosen : Option (KeywordOver K R N) → Type 0
@@ -133,13 +115,7 @@ module _ {K R N : Type 0} (o : Kit K R) (answers : N → Answers) (ms : Members)
 
     -- `if`, `then` or `else` that is not read
     unpaired : is_conditional_name k ≡ true → is_condition ms ≡ false → Chosen None
-    unpaired conditional alone = by (bytes_eq k (codes "if")) (bytes_eq k (codes "then")) (bytes_eq k (codes "else")) refl refl refl conditional
-      where
-        by : (a b c : Bool) → bytes_eq k (codes "if") ≡ a → bytes_eq k (codes "then") ≡ b → bytes_eq k (codes "else") ≡ c → (a || (b || (c || false))) ≡ true → Chosen None
-        by true b c i j l e = named if_keyword None (ap (keyword_named o.world) (same_name k (codes "if") i)) (ap not alone)
-        by false true c i j l e = named then_keyword None (ap (keyword_named o.world) (same_name k (codes "then") j)) refl
-        by false false true i j l e = named else_keyword None (ap (keyword_named o.world) (same_name k (codes "else") l)) refl
-        by false false false i j l e = absurd (true≢false (sym e))
+    unpaired conditional alone = of_conditional (λ n. IsChosen {K = K} {R = R} {N = N} ms P (keyword_named o.world n) (n, d) None) (ap not alone) refl refl k conditional
 
     -- nothing is without a node
     no_node : {T : Type 0} → StandAt o answers Itself ns d L → ns ≡ [] → T
@@ -153,7 +129,7 @@ module _ {K R N : Type 0} (o : Kit K R) (answers : N → Answers) (ms : Members)
     )
     chosen (shape.PatternProperties v) s f stand cases beside free (Some x) form = named pattern_properties (Some x) (ap (keyword_named o.world) s.0) (
       unrestricted (is_restricted ms) (is_condition ms) (subst (λ n. is_taken (plan_of ms) n ≡ false) s.0 free),
-      subst (λ T. T) (λ i. IsPatternProperties (place i) (zip_length o answers v.items ns (members d) L s.2 stand i) x) form,
+      subst (λ T. T) (λ i. IsPatternProperties (place i) (entries_length o answers (zip v.items ns) (members d) L (both_stand o answers v.items ns (members d) L s.2 stand) i) x) form,
     )
     chosen shape.AdditionalProperties s f stand cases beside free (Some x) form = named additional_properties (Some x) (ap (keyword_named o.world) s.0) (object_is_not_true d s.1, others true (sym s.1) (beside refl) x form)
     chosen shape.AdditionalProperties s f stand cases beside free None form = no_node stand form

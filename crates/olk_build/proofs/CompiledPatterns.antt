@@ -1,21 +1,16 @@
 -- Patterns beside the nodes of their entries.
-use Rattle.std.specs.Prelude.{◌≡◌, List, ◌++◌, zip}
+use Rattle.std.proofs.Common.{◌≡◌, List, ◌++◌, zip, sym, subst, subst₂}
 use Rattle.std.specs.declared.alloc.AllocError.{AllocError}
-use Rattle.std.proofs.Common.{sym, subst}
-use mathlib.Core.Path.{subst₂}
 use Rattle.serde_json.specs.Data.{Data}
 use Rattle.olk_spec.specs.Names.{Name, Path}
-use Rattle.olk_base.specs.Count.{Counts}
-use Rattle.olk_base.specs.Kit.{Kit}
-use Rattle.olk_base.specs.declared.pattern.CompiledPattern.{CompiledPattern}
-use Rattle.olk_reports.specs.declared.error.BuildError.{BuildError}
-use Rattle.olk_reports.specs.declared.error.BuildError.TheVariants.{Memory}
 use Rattle.olk_tree.specs.Answers.{Answers}
 use Rattle.olk_build.specs.Reading.{PatternsAreRead, RefusesPatterns}
 use Rattle.olk_build.proofs.Spending.{tells_left, tells_right, within_before, within_after, within_exactly, spends_append, refuses_memory}
 use Rattle.olk_build.specs.Standing.{EntriesStand}
-use Rattle.olk_build.proofs.PatternProperties.{both_stand}
+use Rattle.olk_build.proofs.Choosing.{both_stand}
 use Rattle.olk_build.specs.Building.{AreBuilt, RefusesEach, PatternsAreBuilt, RefusesPatternEntries}
+use Rattle.olk_base.specs.{Count.Counts, Kit.Kit, declared.pattern.CompiledPattern.CompiledPattern}
+use Rattle.olk_reports.specs.{declared.error.BuildError.BuildError, declared.error.BuildError.TheVariants.Memory}
 
 module _ {K R N : Type 0} (o : Kit K R) (answers : N → Answers) (es : List (Name × Data)) (l L : Path) (place : l ≡ L) (a : Counts) where
   -- a pattern is refused

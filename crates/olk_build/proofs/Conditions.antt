@@ -1,54 +1,39 @@
 -- What holds `if`, with `then` and `else`.
-use Rattle.std.specs.Prelude.{◌≡◌, ◌≤◌, ℕ, ◌+◌, Bool, true, false, not, cond, ◌&&◌, ◌||◌, List, [], ◌∷◌, ◌++◌, map, codes, sum_by, is_some, Option, Some, None, option_to_list, IsPermutation, bytes_eq}
+use Rattle.std.proofs.Common.{◌≡◌, ◌≤◌, ℕ, ◌+◌, Bool, true, false, not, cond, ◌&&◌, ◌||◌, List, [], ◌∷◌, ◌++◌, map, codes, sum_by, is_some, Option, Some, None, option_to_list, IsPermutation, bytes_eq}
+use Rattle.std.proofs.Common.{refl, sym, ◌∙◌, ap, subst, arith, append-nil, true≢false, subst₂}
 use Rattle.std.specs.List.{list_all, flat_map}
 use Rattle.std.specs.Option.{IfSome, IfNone}
-use Rattle.std.proofs.Common.{refl, sym, ◌∙◌, ap, subst, ◌⊎◌, inl, inr, arith}
-use Rattle.std.proofs.lemmas.List.{append-nil}
-use Rattle.std.proofs.lemmas.List.Folds.{list_all-append}
 use Rattle.std.proofs.lemmas.List.Sums.{sum_by-append, sum_by-cons}
-use Rattle.std.proofs.lemmas.Grind.{flat_map-append}
 use Rattle.std.proofs.Math.Bool.{or-true, and-true}
-use mathlib.Core.Bool.{true≢false}
-use mathlib.Core.Path.{subst₂}
 use Rattle.serde_json.specs.Data.{Data, Members}
 use Rattle.olk_spec.specs.Names.{Name, Path, ◌//◌, lookup_name, put_if}
 use Rattle.olk_spec.specs.Faults.{Fault, ◌∼◌, like_empty}
-use Rattle.olk_spec.specs.Schemas.{listed}
-use Rattle.olk_spec.specs.Malformed.{has_repeat}
 use Rattle.olk_spec.specs.Meaning.{accepts, asks, report, tree}
 use Rattle.olk_spec.specs.Tree.{Tree, plain}
 use Rattle.olk_base.specs.Kit.{Kit}
 use Rattle.olk_tree.specs.Questions.{Question, always, conditional, of_asked}
-use Rattle.olk_tree.specs.Validators.{answers_of}
 use Rattle.olk_tree.specs.Shown.{branch_trees, if_tree}
-use Rattle.olk_tree.specs.declared.node.KeywordOver.{KeywordOver}
-use Rattle.olk_tree.specs.declared.node.KeywordOver.TheVariants as keyword
-use Rattle.olk_tree.specs.Answers.{Answers}
-use Rattle.olk_tree.specs.Places.{Stands}
 use Rattle.olk_meaning.specs.Chosen.{if_form, validators}
 use Rattle.olk_meaning.specs.Members.{member_accepts, member_asks, member_report, member_child, member_standing}
 use Rattle.olk_meaning.specs.Conditions.{is_condition}
 use Rattle.olk_meaning.specs.Plans.{Planned, plan_of, is_case, tells_members, head, claims}
-use Rattle.olk_meaning.proofs.Claims.{members_found, claims_condition, claims_itself, heads_elsewhere}
-use Rattle.olk_meaning.proofs.TakenOver.{never_taken}
-use Rattle.olk_meaning.proofs.Conditions as fact
-use Rattle.olk_meaning.proofs.Heads.{names_of}
-use Rattle.olk_meaning.proofs.AdditionalPlaces.{either_way}
-use Rattle.olk_meaning.proofs.Exchanged.{all_there, sum_there, find_there}
-use Rattle.olk_meaning.proofs.Standing.{if_stands}
+use Rattle.olk_meaning.proofs.Claims.{members_found, claims_condition, claims_itself, heads_elsewhere, never_taken}
+use Rattle.olk_meaning.proofs.Facts.{all_there, sum_there, find_there}
 use Rattle.olk_build.specs.Forms.{IsFormOfIf, IsIf}
-use Rattle.olk_build.specs.Holding.{which, Covers}
+use Rattle.olk_build.specs.Standing.{which, Covers, Fills, is_taken}
 use Rattle.olk_build.specs.Making.{KeywordsMean, MakesCondition, MakesPart}
-use Rattle.olk_build.specs.Standing.{Fills, is_taken}
-use Rattle.olk_build.specs.declared.shape.Shape.TheVariants as shape
-use Rattle.olk_build.specs.declared.part.Cases.{Cases}
-use Rattle.olk_build.specs.declared.part.Taken.{Taken}
 use Rattle.olk_build.proofs.Choosing.{filled_as}
 use Rattle.olk_build.proofs.Held.{question, shown, found}
 use Rattle.olk_build.proofs.Together.{MeanClaim, claim_by_name, means_permuted, means_nothing}
-use Rattle.olk_build.proofs.EntryNodes.{last_stands}
-use Rattle.olk_meaning.proofs.Rows.{Rows}
-use Rattle.olk_build.proofs.Formed.{just_one_formed, case_formed, if_formed, stand_as, if_placed, case_as}
+use Rattle.olk_build.proofs.Formed.{last_stands, just_one_formed, case_formed, if_formed, stand_as, if_placed, case_as}
+use Rattle.std.proofs.{lemmas.List.Folds.list_all-append, lemmas.Grind.flat_map-append}
+use Rattle.olk_spec.specs.{Schemas.listed, Malformed.has_repeat}
+use Rattle.olk_tree.specs.{Validators.answers_of, declared.node.KeywordOver.KeywordOver, Answers.Answers, Places.Stands}
+use Rattle.olk_meaning.proofs.{Listed.names_of, AdditionalProperties.either_way, Standing.if_stands, Rows.Rows}
+use Rattle.olk_build.specs.{declared.part.Cases.Cases, declared.part.Taken.Taken}
+use Rattle.olk_tree.specs.declared.node.KeywordOver.TheVariants as keyword
+use Rattle.olk_meaning.proofs.Conditions as fact
+use Rattle.olk_build.specs.declared.shape.Shape.TheVariants as shape
 
 pub form_is_if : {K R N : Type 0} (L : Path) (n : N) (t e : Option N) (k : KeywordOver K R N) → IsFormOfIf L n t e k → IsIf L (is_some t) (is_some e) k
 form_is_if L n (Some t) None (keyword.IfThen k) f = f.2
@@ -238,8 +223,7 @@ module _ {K R N : Type 0} (o : Kit K R) (answers : N → Answers) where
         }
 
         shown_together : (u : Bool) (v : Data) (Q : Path) → shown o answers u k v Q ∷ [] ≡ flat_map (λ m. member_child o.world ms m (which o ms m) u v P Q) ((codes "if", d) ∷ [])
-        shown_together u v Q =
-            ap (λ t. t ∷ []) (form_shows L n t e k form u v Q
+        shown_together u v Q = ap (λ t. t ∷ []) (form_shows L n t e k form u v Q
             ∙ (λ i. plain (place i) Q (cond (stands.verdict u v i) (subst_tree u v Q i ∷ case_shows u v t _ _ Q then_stands i)
             (case_shows u v e _ _ Q else_stands i)))
             ∙ ap (plain (P // codes "if") Q) (one_shown (tested u v) (tree o.world u d v (P // codes "if") Q) (case_trees u v at_then (P // codes "then") Q)
@@ -261,12 +245,10 @@ module _ {K R N : Type 0} (o : Kit K R) (answers : N → Answers) where
         means_condition p plans = means_permuted o answers ms P (k ∷ []) three (claims (head p) (listed ms) (codes "if", d)) ((codes "if", d) ∷ [])
             (subst (λ l. IsPermutation l (claims (head p) (listed ms) (codes "if", d)))
             (λ i. (codes "if", d) ∷ members_found ms distinct (codes "then") at_then refl i ++ members_found ms distinct (codes "else") at_else refl i)
-            (claims_condition ms distinct p plans d there))
-            (record {
+            (claims_condition ms distinct p plans d there)) (record {
               covers = mean_together;
               shows = λ clean u v Q. shown_together u v Q;
-              formed =
-                  just_one_formed o answers k (if_formed o answers L n t e k form stands.formed (filled_formed t _ _ then_stands)
+              formed = just_one_formed o answers k (if_formed o answers L n t e k form stands.formed (filled_formed t _ _ then_stands)
                   (filled_formed e _ _ else_stands));
               forms = λ clean. placed_together;
             })
@@ -315,17 +297,11 @@ module _ {K R N : Type 0} (o : Kit K R) (answers : N → Answers) where
   pub part_of_unpaired : {L P : Path} {p : Planned} (ns : List N) (t : Taken R N) → MakesPart o answers shape.Unpaired L ns t P p []
   part_of_unpaired {L} {P} ns t ms m place named fits stand cases beside distinct there chosen untaken =
       let nothing = fact.unpaired_means_nothing o.world ms m named fits (ap is_some there) in
-      subst (λ q. MeanClaim o answers ms q [] m P) (sym chosen)
-      (subst (λ rows. KeywordsMean o answers ms [] rows (m ∷ []) P) (sym
+      subst (λ q. MeanClaim o answers ms q [] m P) (sym chosen) (subst (λ rows. KeywordsMean o answers ms [] rows (m ∷ []) P) (sym
       (claims_itself ms distinct (head (plan_of ms)) m (heads_elsewhere (plan_of ms) m.0 (apart_from (codes "properties") refl refl refl)
       (apart_from (codes "required") refl refl refl) (λ e. absurd (true≢false (sym e ∙ fits)))
       (never_taken (plan_of ms) m.0 (apart_from (codes "additionalProperties") refl refl refl) (apart_from (codes "properties") refl refl refl) (apart_from
       (codes "patternProperties") refl refl refl) (apart_from (codes "required") refl refl refl))) there)) (means_nothing o answers ms P m nothing))
     where
       apart_from : (n : Name) → bytes_eq n (codes "if") ≡ false → bytes_eq n (codes "then") ≡ false → bytes_eq n (codes "else") ≡ false → bytes_eq n m.0 ≡ false
-      apart_from n a b c = by (fact.conditional_named m.0 named)
-        where
-          by : (m.0 ≡ codes "if") ⊎ (m.0 ≡ codes "then") ⊎ (m.0 ≡ codes "else") → bytes_eq n m.0 ≡ false
-          by (inl q) = ap (bytes_eq n) q ∙ a
-          by (inr (inl q)) = ap (bytes_eq n) q ∙ b
-          by (inr (inr q)) = ap (bytes_eq n) q ∙ c
+      apart_from n a b c = fact.of_conditional (λ k. bytes_eq n k ≡ false) a b c m.0 named

@@ -1,45 +1,34 @@
 -- What holds `dependentRequired`, `dependentSchemas` and `dependencies`.
 use Rattle.olk_build.proofs.Together.{by_its_name}
-use Rattle.std.specs.Prelude.{◌≡◌, Bool, true, false, not, cond, List, [], ◌∷◌, map, get_or, drop, codes, Option, Some, None, is_some, unwrap_or, Vec, String}
+use Rattle.std.proofs.Common.{◌≡◌, Bool, true, false, not, cond, List, [], ◌∷◌, map, get_or, drop, codes, Option, Some, None, is_some, unwrap_or, Vec, String, Global, refl, sym, ◌∙◌, ap, subst, arith}
+use Rattle.std.proofs.Common.{append-nil, true≢false, subst₂}
 use Rattle.std.specs.List.{flat_map, zip}
-use Rattle.std.specs.declared.alloc.Global.{Global}
-use Rattle.std.proofs.Common.{refl, sym, ◌∙◌, ap, subst, arith}
-use Rattle.std.proofs.lemmas.List.{append-nil}
-use mathlib.Core.Bool.{true≢false}
-use mathlib.Core.Path.{subst₂}
 use Rattle.serde_json.specs.Data.{Data, Members}
 use Rattle.olk_spec.specs.Names.{Name, Path, ◌//◌, filter_once, put_if, is_empty}
 use Rattle.olk_spec.specs.Schemas.{is_array, members, has, texts}
-use Rattle.olk_spec.specs.Accepts.{missing}
-use Rattle.olk_spec.specs.Reports.{required_faults}
-use Rattle.olk_spec.specs.Tree.{erring}
-use Rattle.olk_spec.proofs.Order.{∼_same}
-use Rattle.olk_spec.proofs.Truth.{and_from}
 use Rattle.olk_base.specs.Kit.{Kit}
 use Rattle.olk_meaning.specs.Dependencies.{due_entries, are_lists, list_answers, either_answers, dependency_answers}
 use Rattle.olk_meaning.proofs.Dependencies.{dependent_required_told, dependent_schemas_told, dependencies_told}
 use Rattle.olk_tree.specs.Questions.{always, of_asked}
-use Rattle.olk_meaning.specs.Chosen.{Form, Placed, names_form, dependencies_form, dependent_required_form, dependent_schemas_form}
+use Rattle.olk_meaning.specs.Chosen.{Form, names_form, dependencies_form, dependent_required_form, dependent_schemas_form}
 use Rattle.olk_meaning.proofs.Standing.{each_placed, dependency_placed, dependent_required_stands, dependent_schemas_stand, dependencies_stand}
 use Rattle.olk_tree.specs.Dependencies.{due_nodes, due_answers}
-use Rattle.olk_tree.specs.declared.map.SmallMap.{SmallMap}
 use Rattle.olk_tree.specs.Maps.{keys_in, named}
-use Rattle.olk_tree.specs.Validators.{answers_of}
-use Rattle.olk_tree.specs.declared.node.KeywordOver.{KeywordOver}
-use Rattle.olk_tree.specs.declared.node.KeywordOver.TheVariants as keyword
-use Rattle.olk_tree.specs.Answers.{Answers}
-use Rattle.olk_tree.specs.Places.{Stands}
 use Rattle.olk_build.specs.Reading.{list_of, names_in, names_in_list}
 use Rattle.olk_build.specs.Forms.{IsListAt, AreListsAt, AreInOrder, IsDependencies, IsDependentRequired, IsDependentSchemas}
-use Rattle.olk_build.specs.Holding.{StandEach}
-use Rattle.olk_build.specs.declared.shape.Shape.TheVariants as shape
-use Rattle.olk_build.specs.Made.{MakesDependencies}
+use Rattle.olk_build.specs.{Standing.StandEach, Made.MakesDependencies}
 use Rattle.olk_build.specs.Making.{KeywordMeans, MakesMember}
-use Rattle.olk_build.proofs.EntryNodes.{AnswersFor, AnswerEach, each_count, schema_answer, schemas_answer}
+use Rattle.olk_build.proofs.Formed.{AnswersFor, AnswerEach, each_count, schema_answer, schemas_answer, has_form, is_formed, entries_zipped, paired, each_keys, each_held_formed, each_held_placed}
+use Rattle.olk_build.proofs.Formed.{stand_in, stand_as}
 use Rattle.olk_meaning.specs.Told.{EntryAnswers, entries_told, schema_answers}
 use Rattle.olk_meaning.proofs.Rows.{Rows}
 use Rattle.olk_build.proofs.Held.{AnswersTold, each_asks, nodes_told, means_told}
-use Rattle.olk_build.proofs.Formed.{has_form, is_formed, entries_zipped, paired, each_keys, each_held_formed, each_held_placed, stand_in, stand_as}
+use Rattle.std.proofs.lemmas.List.Concat.{flat_map_single}
+use Rattle.olk_spec.specs.{Accepts.missing, Reports.required_faults, Tree.erring}
+use Rattle.olk_spec.proofs.{Order.∼_same, Truth.and_from}
+use Rattle.olk_tree.specs.{declared.map.SmallMap.SmallMap, Validators.answers_of, declared.node.KeywordOver.KeywordOver, Answers.Answers, Places.Stands}
+use Rattle.olk_tree.specs.declared.node.KeywordOver.TheVariants as keyword
+use Rattle.olk_build.specs.declared.shape.Shape.TheVariants as shape
 
 module _ {K R N : Type 0} (o : Kit K R) (answers : N → Answers) where
   -- the nodes of the entries that are due
@@ -80,15 +69,9 @@ module _ {K R N : Type 0} (o : Kit K R) (answers : N → Answers) where
       pub means_dependent_required : form ≡ dependent_required_form → are_lists d ≡ true → AnswerEach o answers list_answers ns (members d) L → L ≡ P // codes "dependentRequired"
           → KeywordMeans o answers ms (k ∷ []) (codes "dependentRequired", d) P
       means_dependent_required kind lists each p = means_told o answers ms k (codes "dependentRequired", d) P L _ p (dependent_required_told o.world ms d lists) (due_told list_answers each)
-          (λ own. due_placed list_answers each ∙ (λ i. (p i, kind i) ∷ each_at_once (p i) (members d)) ∙ ap (λ l. (P // codes "dependentRequired", dependent_required_form) ∷ l) (once_each (members d))
+          (λ own. due_placed list_answers each ∙ (λ i. (p i, kind i) ∷ flat_map (λ e. (p i, names_form) ∷ []) (members d))
+          ∙ ap (λ l. (P // codes "dependentRequired", dependent_required_form) ∷ l) (flat_map_single (λ e. (P // codes "dependentRequired", names_form)) (members d))
           ∙ sym (dependent_required_stands o.world ms P d))
-        where
-          each_at_once : Path → Rows → List Placed
-          each_at_once M es = flat_map (λ e. (M, names_form) ∷ []) es
-
-          once_each : (es : Rows) → each_at_once (P // codes "dependentRequired") es ≡ map (λ e. (P // codes "dependentRequired", names_form)) es
-          once_each [] = refl
-          once_each (e ∷ es) = ap (λ l. (P // codes "dependentRequired", names_form) ∷ l) (once_each es)
 
       pub means_dependent_schemas : form ≡ dependent_schemas_form → AnswerEach o answers (schema_answers o.world) ns (members d) L → L ≡ P // codes "dependentSchemas"
           → KeywordMeans o answers ms (k ∷ []) (codes "dependentSchemas", d) P

@@ -1,83 +1,61 @@
 -- What holds a keyword.
-use Rattle.std.specs.Prelude.{◌≡◌, cond, Option, Some, None, is_some, option_to_list, ◌≤◌, ℕ, ◌+◌, Bool, true, false, not, ◌&&◌, ◌||◌, List, [], ◌∷◌, ◌++◌, map, sum_by, codes, Vec, String, string_bytes, bytes_eq, IsPermutation, length, nat_lt}
+use Rattle.std.proofs.Common.{◌≡◌, cond, Option, Some, None, is_some, option_to_list, ◌≤◌, ℕ, ◌+◌, Bool, true, false, not, ◌&&◌, ◌||◌, List, [], ◌∷◌, ◌++◌, map, sum_by, codes, Vec, String}
+use Rattle.std.proofs.Common.{string_bytes, bytes_eq, IsPermutation, length, nat_lt, nat_cmp, is_eq, Ordering, Less, Equal, Greater, Global, refl, sym, ◌∙◌, ap, subst, arith, append-nil, true≢false}
+use Rattle.std.proofs.Common.{subst₂}
 use Rattle.std.specs.List.{list_all, list_any, flat_map, zip}
-use Rattle.std.specs.Ordering.{nat_cmp, is_eq}
-use Rattle.std.specs.Cmp.Lexicographic.{slice_cmp}
-use Rattle.std.specs.declared.cmp.Ordering.{Ordering}
-use Rattle.std.specs.declared.cmp.Ordering.TheVariants.{Less, Equal, Greater}
-use Rattle.std.proofs.lemmas.Map.Text.{is_eq-slice_cmp}
-use Rattle.std.specs.declared.alloc.Global.{Global}
-use Rattle.std.specs.declared.boxed.Box.{Box}
-use Rattle.std.proofs.Common.{refl, sym, ◌∙◌, ap, subst, arith}
-use Rattle.std.proofs.lemmas.List.{append-nil, length-map}
-use Rattle.std.proofs.lemmas.List.Sums.{sum_by-cons}
 use Rattle.std.proofs.Math.Bool.{and-false, and-true, or-false, or-true}
 use Rattle.olk_tree.proofs.Answering.{more_within}
-use mathlib.Core.Bool.{true≢false}
-use mathlib.Core.Path.{subst₂}
 use Rattle.serde_json.specs.Data.{Data, object, Members}
-use Rattle.serde_json.specs.View.{view}
-use Rattle.serde_json.specs.declared.value.Value.{Value}
 use Rattle.olk_spec.specs.Names.{Name, Path, ◌//◌, lookup_name, first_if_equal, filter_once, put_if, is_empty, is_among}
 use Rattle.olk_spec.specs.Vocabulary.{Keyword, properties, pattern_properties, required, leaf, unread, keyword_named}
-use Rattle.olk_spec.specs.Faults.{Fault, Kind, IsLikeKind, AnyOf, Not, Leaf, fault, Context, context, IsLikeContext, like_none, like_branch, like, like_any_of, ◌∼◌, like_empty, like_next, like_through}
+use Rattle.olk_spec.specs.Faults.{Fault, Kind, IsLikeKind, AnyOf, Not, Leaf, fault, Context, context, IsLikeContext, like_none, like_branch, like, like_any_of, ◌∼◌, like_empty, like_next}
+use Rattle.olk_spec.specs.Faults.{like_through}
 use Rattle.olk_spec.specs.Schemas.{listed, numbered, at, members, texts, is_object, read_members}
 use Rattle.olk_spec.specs.Malformed.{has_repeat, items_of_array}
 use Rattle.olk_spec.specs.Meaning.{accepts, asks, report, tree, meaning_step}
-use Rattle.olk_spec.specs.Accepts.{missing}
 use Rattle.olk_spec.specs.Reports.{required_faults, fault_if}
 use Rattle.olk_spec.specs.Tree.{Tree, leaf_node, result, plain, erring, described}
 use Rattle.olk_spec.specs.Trees.{fuses_one, fuses_two}
 use Rattle.olk_spec.proofs.Named.{Named, named as is_named}
 use Rattle.olk_spec.proofs.Order.{∼_same, ∼_append, ∼_behind, ∼_swap, ∼_flat_map_any, faults_in-from}
-use Rattle.olk_spec.proofs.Walks.{same_name}
-use Rattle.olk_spec.proofs.Truth.{and_from}
 use Rattle.olk_base.specs.Kit.{Kit}
 use Rattle.olk_tree.specs.Questions.{Question, every, some, of_asked}
 use Rattle.olk_tree.specs.Maps.{keys_in, named, mapped, nodes_in}
 use Rattle.olk_tree.specs.Validators.{answers_of, validator_means, validator_report, validator_tree}
-use Rattle.olk_tree.specs.Answers.{Answers}
 use Rattle.olk_tree.specs.Shown.{missing_trees, properties_tree, any_of_tree}
-use Rattle.olk_tree.specs.Places.{Stands}
 use Rattle.olk_meaning.specs.Conditions.{is_condition, is_restricted}
 use Rattle.olk_meaning.specs.Members.{member_asks, member_report, member_child, StandsAlone, member_standing, StandsByItself}
-use Rattle.olk_meaning.specs.Chosen.{Placed, few as few_names, many as many_names, size_for, form_of_size, fused_properties_form, required_form, single_all_of_form, all_of_form, single_any_of_form, any_of_form, not_form, leaf_form, standing_step, validators}
+use Rattle.olk_meaning.specs.Chosen.{Placed, few as few_names, many as many_names, size_for, form_of_size, fused_properties_form, required_form, single_all_of_form, all_of_form, single_any_of_form}
+use Rattle.olk_meaning.specs.Chosen.{any_of_form, not_form, leaf_form, standing_step, validators}
 use Rattle.olk_meaning.specs.Plans.{Planned, plan_of, is_case, tells_members, head, claims}
 use Rattle.olk_build.specs.Forms.{IsMapOver, IsMapFor, IsFormOfProperties, IsFormOfAllOf, IsFormOfAnyOf}
 use Rattle.olk_meaning.specs.Fused.{fused_pair, fused_one, declares_few}
-use Rattle.olk_build.specs.Holding.{StandEach, which, all_malformed, Holds, Covers}
-use Rattle.olk_build.specs.Standing.{is_taken}
+use Rattle.olk_build.specs.Standing.{StandEach, which, all_malformed, Holds, Covers, is_taken}
 use Rattle.olk_build.specs.Making.{KeywordMeans, KeywordsMean}
-use Rattle.olk_tree.specs.declared.properties_map.PropertiesMap.{PropertiesMap}
 use Rattle.olk_tree.specs.declared.properties_map.PropertiesMap.TheVariants.{Small, Big}
-use Rattle.olk_tree.specs.declared.map.SmallMap.{SmallMap}
-use Rattle.olk_tree.specs.declared.big_map.BigMap.{BigMap}
-use Rattle.olk_tree.specs.Properties.{properties_answers}
-use Rattle.olk_tree.specs.declared.properties.SmallPropertiesWithRequired2.{SmallPropertiesWithRequired2}
-use Rattle.olk_tree.specs.declared.node.KeywordOver.{KeywordOver}
+use Rattle.olk_build.proofs.Pairs.{some_accepts, some_asks}
+use Rattle.olk_meaning.proofs.Claims.{fusing_restricts, listing, fuses, claims_itself, claims_both, claims_nothing, head_itself, head_of_required, heads_elsewhere, plan_fusing, IsNoCase, IsNotTaken}
+use Rattle.olk_meaning.proofs.Claims.{free_takes_nothing, free_fuses_none, fusing_is_free, claims_no_fused}
+use Rattle.olk_build.proofs.Formed.{AnswerEach, each_count, each_accept, each_ask, each_find, each_show, schemas_answer, has_form, is_formed, just_one_formed, stand_formed, each_held_formed}
+use Rattle.olk_build.proofs.Formed.{entries_zipped, map_zipped, paired, map_formed, required2_formed, all_of_holds, any_of_holds, stand_in, stand_as, each_held_placed, map_sized, branches_placed}
+use Rattle.olk_meaning.specs.Told.{Told, IsTold, EntryAnswers, entries_told, schema_answers, branches_find, branches_shown, accepting_branches, any_shown, any_told, shown_at, shown_declared}
+use Rattle.olk_meaning.specs.Told.{declared_told, names_told, negation_told, faults_told}
+use Rattle.olk_build.proofs.Together.{MeanClaim, means_alone, means_permuted}
+use Rattle.olk_meaning.proofs.Clean.{clean_one_fused, fused, names_fused}
+use Rattle.olk_meaning.proofs.Children.{properties_child, no_required_child, properties_told, required_told, all_of_told, any_of_told, not_told, leaf_told}
+use Rattle.olk_tree.specs.Formed.{is_map_formed, is_one, size_of}
+use Rattle.std.specs.{Cmp.Lexicographic.slice_cmp, declared.boxed.Box.Box}
+use Rattle.std.proofs.{lemmas.Map.Text.is_eq-slice_cmp, lemmas.List.length-map, lemmas.List.Sums.sum_by-cons, lemmas.Slice.Zip.firsts-zip}
+use Rattle.serde_json.specs.{View.view, declared.value.Value.Value}
+use Rattle.olk_spec.specs.{Accepts.missing, declared.TheConstants.HASHMAP_THRESHOLD}
+use Rattle.olk_spec.proofs.{Walks.same_name, Truth.and_from, Maps.is_empty-map}
+use Rattle.olk_tree.specs.{Answers.Answers, Places.Stands, declared.properties_map.PropertiesMap.PropertiesMap, declared.map.SmallMap.SmallMap}
+use Rattle.olk_tree.specs.{declared.big_map.BigMap.BigMap, Properties.properties_answers}
+use Rattle.olk_tree.specs.{declared.properties.SmallPropertiesWithRequired2.SmallPropertiesWithRequired2, declared.node.KeywordOver.KeywordOver, Each.each_answers}
+use Rattle.olk_meaning.proofs.{Facts.nothing_first, Rows.Rows, Standing.each_placed, Restriction.required_shows_none, Conditions.restricted_read, Listed.names_of}
 use Rattle.olk_tree.specs.declared.node.KeywordOver.TheVariants as keyword
 use Rattle.olk_meaning.proofs.Facts as fact
-use Rattle.olk_meaning.proofs.Facts.{nothing_first}
-use Rattle.olk_build.proofs.EntryNodes.{AnswerEach, each_count, each_accept, each_ask, each_find, each_show, schemas_answer}
-use Rattle.olk_meaning.specs.Told.{Told, IsTold, EntryAnswers, entries_told, schema_answers, branches_find, branches_shown, accepting_branches, any_shown, any_told, shown_at, shown_declared, declared_told, names_told, negation_told, faults_told}
-use Rattle.olk_meaning.proofs.Rows.{Rows}
 use Rattle.olk_meaning.proofs.Standing as placed
-use Rattle.olk_meaning.proofs.Standing.{each_placed}
-use Rattle.olk_build.proofs.Together.{MeanClaim, means_alone, means_permuted}
-use Rattle.olk_meaning.proofs.Claims.{listing, fuses, claims_itself, claims_both, claims_nothing, head_itself, head_of_required, heads_elsewhere, plan_fusing, IsNoCase}
-use Rattle.olk_meaning.proofs.TakenOver.{IsNotTaken, free_takes_nothing, free_fuses_none, fusing_is_free, fused_is_restricted}
-use Rattle.olk_meaning.proofs.RestrictedClaims.{claims_no_fused}
-use Rattle.olk_meaning.proofs.RestrictionShown.{required_shows_none}
-use Rattle.olk_meaning.proofs.OneFused.{clean_one_fused}
-use Rattle.olk_meaning.proofs.Conditions.{restricted_read}
-use Rattle.olk_meaning.proofs.Heads.{names_of}
-use Rattle.olk_meaning.proofs.Clean.{fused, names_fused}
-use Rattle.olk_meaning.proofs.Children.{properties_child, no_required_child, properties_told, required_told, all_of_told, any_of_told, not_told, leaf_told}
-use Rattle.olk_spec.proofs.Maps.{is_empty-map}
-use Rattle.olk_build.proofs.Formed.{has_form, is_formed, just_one_formed, stand_formed, each_held_formed, entries_zipped, map_zipped, paired, map_formed, required2_formed, all_of_formed, any_of_formed, stand_in, stand_as, each_held_placed, map_sized, all_of_placed, any_of_placed, branches_placed}
-use Rattle.olk_tree.specs.Formed.{is_map_formed, is_one, size_of}
-use Rattle.olk_tree.specs.Each.{each_answers}
-use Rattle.olk_spec.specs.declared.TheConstants.{HASHMAP_THRESHOLD}
 
 -- ---- numbers and counts
 
@@ -155,14 +133,10 @@ module _ {K R N : Type 0} (o : Kit K R) (answers : N → Answers) where
       members_find Q _ _ h = absurd h
 
       any_accept : (ns : List N) (es : Rows) → StandEach o answers ns es L → (some at_value ns).accepts u ≡ list_any (λ e. accepts o.world u e.1 v) es
-      any_accept [] [] h = refl
-      any_accept (n ∷ ns) (e ∷ es) h = λ i. h.0.verdict u v i || any_accept ns es h.1 i
-      any_accept _ _ h = absurd h
+      any_accept ns es h = some_accepts (λ n e. Stands o answers n e.1 (L // e.0)) at_value u _ (λ n e s. s.verdict u v) ns es h
 
       pub any_ask : (ns : List N) (es : Rows) → StandEach o answers ns es L → (some at_value ns).asks of_asked u ≤ sum_by (λ e. asks o.world u e.1 v) es
-      any_ask [] [] h = omega arith
-      any_ask (n ∷ ns) (e ∷ es) h = more_within _ _ _ _ _ (h.0.asks_within u v) (any_ask ns es h.1) (sum_by-cons _ e es)
-      any_ask _ _ h = absurd h
+      any_ask ns es h = some_asks (λ n e. Stands o answers n e.1 (L // e.0)) at_value u _ (λ n e s. s.asks_within u v) ns es h
 
       pub any_context : (Q : Path) (ns : List N) (es : Rows) → StandEach o answers ns es L → IsLikeContext (found_in Q ns) (branches_find o.world u v L Q es)
       any_context Q [] [] h = like_none
@@ -172,7 +146,7 @@ module _ {K R N : Type 0} (o : Kit K R) (answers : N → Answers) where
       any_context Q _ _ h = absurd h
 
       pub branches_show : (Q : Path) (ns : List N) (es : Rows) → StandEach o answers ns es L → map (λ n. (answers n).tree u v Q) ns ≡ branches_shown o.world u v L Q es
-      branches_show Q ns es h = each_show o answers _ u v _ Q _ _ (schemas_answer o answers ns es L h)
+      branches_show Q ns es h = each_show o answers _ ns es L (schemas_answer o answers ns es L h) u v Q
 
       pub accepting_show : (Q : Path) (ns : List N) (es : Rows) → StandEach o answers ns es L → map (λ n. (answers n).tree u v Q)
           (filter_once accepts_value ns) ≡ branches_shown o.world u v L Q (accepting_branches o.world u v es)
@@ -190,14 +164,11 @@ module _ {K R N : Type 0} (o : Kit K R) (answers : N → Answers) where
       any_show Q ns es h = λ i. cond (none i) (result L Q None true [] (branches_show Q ns es h i)) (plain L Q (accepting_show Q ns es h i))
         where
           none : is_empty (filter_once accepts_value ns) ≡ is_empty (accepting_branches o.world u v es)
-          none =
-              sym (is_empty-map (λ n. (answers n).tree u v Q) (filter_once accepts_value ns)) ∙ ap is_empty (accepting_show Q ns es h)
+          none = sym (is_empty-map (λ n. (answers n).tree u v Q) (filter_once accepts_value ns)) ∙ ap is_empty (accepting_show Q ns es h)
               ∙ is_empty-map (λ e. tree o.world u e.1 v (L // e.0) Q) (accepting_branches o.world u v es)
 
       zip_names : (ns : List N) (es : Rows) → StandEach o answers ns es L → keys_in (zip (keys_in es) ns) ≡ keys_in es
-      zip_names [] [] h = refl
-      zip_names (n ∷ ns) (e ∷ es) h = ap (λ ks. e.0 ∷ ks) (zip_names ns es h.1)
-      zip_names _ _ h = absurd h
+      zip_names ns es h = firsts-zip (keys_in es) ns (each_count o answers (schema_answers o.world) ns es L (schemas_answer o answers ns es L h))
 
       member_shows : (Q : Path) (m : Name × Data) (ns : List N) (es : Rows) → StandEach o answers ns es L
           → map (λ n. (answers n).tree u m.1 (Q // m.0)) (option_to_list (lookup_name m.0 (zip (keys_in es) ns))) ≡ shown_at o.world u v L Q es m
@@ -212,16 +183,11 @@ module _ {K R N : Type 0} (o : Kit K R) (answers : N → Answers) where
           by Greater q g = g
       member_shows Q m _ _ h = absurd h
 
-      members_show : (Q : Path) (ms : Rows) (ns : List N) (es : Rows) → StandEach o answers ns es L
-          → flat_map (λ m. map (λ n. (answers n).tree u m.1 (Q // m.0)) (option_to_list (lookup_name m.0 (zip (keys_in es) ns)))) ms ≡ flat_map (shown_at o.world u v L Q es) ms
-      members_show Q [] ns es h = refl
-      members_show Q (m ∷ ms) ns es h = λ i. member_shows Q m ns es h i ++ members_show Q ms ns es h i
-
       declared_show : (Q : Path) (more : List Tree) (ns : List N) (es : Rows) → StandEach o answers ns es L
           → properties_tree (λ n. (answers n).tree u) v Q L (zip (keys_in es) ns) more ≡ shown_declared o.world u v L Q es more
       declared_show Q more ns es h =
           λ i. result L Q (cond (is_object v) (Some (map (λ m. m.0) (filter_once (λ m. is_among m.0 (zip_names ns es h i)) (members v)))) None) false []
-          (members_show Q (members v) ns es h i ++ more)
+          (flat_map (λ m. member_shows Q m ns es h i) (members v) ++ more)
 
   -- ---- one keyword
 
@@ -276,10 +242,10 @@ module _ {K R N : Type 0} (o : Kit K R) (answers : N → Answers) where
   pub nodes_told : {X : Type 0} (w : EntryAnswers X) (es : Data → List X) (k : KeywordOver K R N) (nodes : Data → List N) (L : Path) → ((u : Bool) (v : Data) → AsksNodes k nodes L u v)
       → ((v : Data) → AnswerEach o answers w (nodes v) (es v) L) → is_formed o answers k ≡ true → AnswersTold k (entries_told w es) L
   nodes_told w es k nodes L asks each formed = record {
-    verdict = λ u v. (asks u v).verdict ∙ each_accept o answers w u v L (nodes v) (es v) (each v);
-    asks_within = λ u v. at_most_through _ _ _ (asks u v).asks_within (each_ask o answers w u v L (nodes v) (es v) (each v));
-    faults = λ u v Q. subst (λ fs. fs ∼ flat_map (λ e. w.faults u e v L Q) (es v)) (sym ((asks u v).faults Q)) (each_find o answers w u v L Q (nodes v) (es v) (each v));
-    evaluation = λ u v Q. (asks u v).evaluation Q ∙ ap (plain L Q) (each_show o answers w u v L Q (nodes v) (es v) (each v));
+    verdict = λ u v. (asks u v).verdict ∙ each_accept o answers w (nodes v) (es v) L (each v) u v;
+    asks_within = λ u v. at_most_through _ _ _ (asks u v).asks_within (each_ask o answers w (nodes v) (es v) L (each v) u v);
+    faults = λ u v Q. subst (λ fs. fs ∼ flat_map (λ e. w.faults u e v L Q) (es v)) (sym ((asks u v).faults Q)) (each_find o answers w (nodes v) (es v) L (each v) u v Q);
+    evaluation = λ u v Q. (asks u v).evaluation Q ∙ ap (plain L Q) (each_show o answers w (nodes v) (es v) L (each v) u v Q);
     formed = formed;
   }
 
@@ -306,8 +272,7 @@ module _ {K R N : Type 0} (o : Kit K R) (answers : N → Answers) where
         (members_find u v L Q ns (members d) stand));
     evaluation = λ u v Q. ap (λ a. a.tree (λ n. (answers n).means) (λ n. (answers n).tree) u v Q) same ∙ properties_show m ns L (members d) held stand u v Q [];
     formed = ap (λ a. a.formed (has_form o answers)) same ∙ and_from _ _ sized (each_held_formed o answers (mapped m) _ _ _ held _ (schemas_answer o answers _ _ _ stand));
-  })
-      (λ own. append-nil (stand_as o answers k) ∙ ap (λ a. a.forms (stand_in o answers)) same
+  }) (λ own. append-nil (stand_as o answers k) ∙ ap (λ a. a.forms (stand_in o answers)) same
       ∙ (λ i. (p i, form_of_size (size i)) ∷ held_placed (mapped m) ns (members d) L (P // codes "properties") held stand p i)
       ∙ sym (placed.properties_stand o.world ms P d false own.0 own.1))
 
@@ -354,8 +319,7 @@ module _ {K R N : Type 0} (o : Kit K R) (answers : N → Answers) where
     covers_both : (d : Data) → is_restricted ms ≡ false → Holds o answers ms (alone ∷ []) (codes "properties", d) properties P → Covers o answers ms
         (keyword.PropertiesWithRequired2 k ∷ []) ((codes "properties", d) ∷ (codes "required", listing t) ∷ []) P
     covers_both d unrestricted h = record {
-      verdict =
-          λ u v. ap (λ b. b && true) (both_accept u v) ∙ turned (is_empty (lacking v)) ((question alone v).accepts u)
+      verdict = λ u v. ap (λ b. b && true) (both_accept u v) ∙ turned (is_empty (lacking v)) ((question alone v).accepts u)
           ∙ (λ i. h.verdict u v i && (sym (fact.required_accepts o.world ms (listing t) u v) i && true));
       asks_within = λ u v.
           let f : Name × Data → ℕ = λ x. member_asks o.world ms x (which o ms x) u v in
@@ -363,8 +327,7 @@ module _ {K R N : Type 0} (o : Kit K R) (answers : N → Answers) where
           let s = sum_by-cons f (codes "properties", d) ((codes "required", listing t) ∷ []) in
           let q = h.asks_within (ap (λ b. b && true) unrestricted) u v in
           omega (arith, b, s, q);
-      faults = λ u v Q. subst₂ (λ x y. x ∼ y)
-          (sym (append-nil _ ∙ both_find u v Q))
+      faults = λ u v Q. subst₂ (λ x y. x ∼ y) (sym (append-nil _ ∙ both_find u v Q))
           (ap (λ l. member_report o.world ms (codes "properties", d) properties u v P Q ++ l) (sym (append-nil _ ∙ fact.required_report o.world ms (listing t) u v P Q)))
           (like_through (∼_swap (required_faults (t.0 ∷ t.1 ∷ []) v (P // codes "required") Q) (found u alone v Q))
           (∼_behind (required_faults (t.0 ∷ t.1 ∷ []) v (P // codes "required") Q) (subst (λ l. l ∼ member_report o.world ms (codes "properties", d) properties u v P Q) (append-nil (found u alone v Q)) (h.faults u v Q))));
@@ -441,8 +404,7 @@ module _ {K R N : Type 0} (o : Kit K R) (answers : N → Answers) where
             (put_if (sym (fused o.world ms P clean step ∙ ap is_some (sym chosen)) i && not (is_empty (missing (sym (names_fused step ms t both.listed_at) i) v)))
             (erring (P // codes "required") Q (required_faults (sym (names_fused step ms t both.listed_at) i) v (P // codes "required") Q)) []) ∷ [])
             ∙ sym (append-nil _ ∙ properties_child o.world u v ms P Q d there (restricted_read step ms ∙ unrestricted));
-        formed =
-            just_one_formed o answers (keyword.PropertiesWithRequired2 k)
+        formed = just_one_formed o answers (keyword.PropertiesWithRequired2 k)
             (required2_formed o answers k few ((λ i. bytes_eq (form.2 i) (form.3 i)) ∙ both.differ) (each_held_formed o answers (named k.value.properties) _ _ _ held _ (schemas_answer o answers _ _ _ stand)));
         forms = λ clean.
             let step = standing_step o.world in
@@ -494,8 +456,8 @@ module _ {K R N : Type 0} (o : Kit K R) (answers : N → Answers) where
   pub means_all_of : (k : KeywordOver K R N) (ns : List N) (L : Path) (d : Data) → IsFormOfAllOf L ns k → StandEach o answers ns (numbered (items_of_array d)) L
       → (ms : Members) (P : Path) → L ≡ P // codes "allOf" → KeywordMeans o answers ms (k ∷ []) (codes "allOf", d) P
   means_all_of k ns L d form stand ms P p = means_told ms k (codes "allOf", d) P L _ p (all_of_told o.world ms d) (nodes_told (schema_answers o.world) (λ v. numbered (items_of_array d))
-      k (λ v. ns) L (λ u v. all_form L ns u v k form) (λ v. schemas_answer o answers _ _ _ stand) (all_of_formed o answers k L ns form (stand_formed o answers _ _ _ stand)))
-      (λ own. branches_placed o answers k L (P // codes "allOf") single_all_of_form all_of_form ns d p (all_of_placed o answers k L ns form) stand ∙ sym (placed.all_of_stands o.world ms P d))
+      k (λ v. ns) L (λ u v. all_form L ns u v k form) (λ v. schemas_answer o answers _ _ _ stand) ((all_of_holds o answers k L ns form).0 (stand_formed o answers _ _ _ stand)))
+      (λ own. branches_placed o answers k L (P // codes "allOf") single_all_of_form all_of_form ns d p (all_of_holds o answers k L ns form).1 stand ∙ sym (placed.all_of_stands o.world ms P d))
 
   pub means_any_of : (k : KeywordOver K R N) (ns : List N) (L : Path) (d : Data) → IsFormOfAnyOf L ns k → StandEach o answers ns (numbered (items_of_array d)) L
       → (ms : Members) (P : Path) → L ≡ P // codes "anyOf" → KeywordMeans o answers ms (k ∷ []) (codes "anyOf", d) P
@@ -506,9 +468,9 @@ module _ {K R N : Type 0} (o : Kit K R) (answers : N → Answers) where
         (ap (λ b. fault_if (not b) (AnyOf (found_in u v Q ns)) v L Q) (sym (any_accept u v L ns es stand)) ∙ sym ((any_form L ns u v k form).faults Q))
         (fault_like (none_accepts u v es) v L Q (like_any_of (any_context u v L Q ns es stand)));
     evaluation = λ u v Q. (any_form L ns u v k form).evaluation Q ∙ any_show u v L Q ns es stand;
-    formed = any_of_formed o answers k L ns form (stand_formed o answers _ _ _ stand);
+    formed = (any_of_holds o answers k L ns form).0 (stand_formed o answers _ _ _ stand);
   })
-      (λ own. branches_placed o answers k L (P // codes "anyOf") single_any_of_form any_of_form ns d p (any_of_placed o answers k L ns form) stand ∙ sym (placed.any_of_stands o.world ms P d))
+      (λ own. branches_placed o answers k L (P // codes "anyOf") single_any_of_form any_of_form ns d p (any_of_holds o answers k L ns form).1 stand ∙ sym (placed.any_of_stands o.world ms P d))
     where
       es : Rows
       es = numbered (items_of_array d)
@@ -538,14 +500,12 @@ module _ {K R N : Type 0} (o : Kit K R) (answers : N → Answers) where
     faults = λ u v Q. ∼_same (λ i. required_faults (same i) v L Q);
     evaluation = λ u v Q. (λ i. erring L Q (required_faults (same i) v L Q));
     formed = refl;
-  })
-      (λ own. (λ i. (p i, required_form) ∷ []) ∙ sym (placed.required_stands o.world ms P d own.0 own.1))
+  }) (λ own. (λ i. (p i, required_form) ∷ []) ∙ sym (placed.required_stands o.world ms P d own.0 own.1))
 
   -- no keyword means what claims nothing and shows nothing
   pub nothing_means : (ms : Members) (m : Name × Data) (P : Path) (p : Planned) → claims (head p) (listed ms) m ≡ []
       → (all_malformed o ms P (listed ms) ≡ [] → (u : Bool) (v : Data) (Q : Path) → member_child o.world ms m (which o ms m) u v P Q ≡ [])
-      → (all_malformed o ms P (listed ms) ≡ [] → member_standing o.world ms m (which o ms m) P ≡ [])
-      → MeanClaim o answers ms p [] m P
+      → (all_malformed o ms P (listed ms) ≡ [] → member_standing o.world ms m (which o ms m) P ≡ []) → MeanClaim o answers ms p [] m P
   nothing_means ms m P p none child stands = subst (λ rows. KeywordsMean o answers ms [] rows (m ∷ []) P) (sym none) record {
     covers = record { verdict = λ u v. refl; asks_within = λ u v. omega arith; faults = λ u v Q. like_empty };
     shows = λ clean u v Q. sym (append-nil _ ∙ child clean u v Q);
@@ -562,16 +522,9 @@ module _ {K R N : Type 0} (o : Kit K R) (answers : N → Answers) where
       (λ clean. placed.required_stands_elsewhere o.world ms P d (ap (λ b. fuses_one (read_members (standing_step o.world) ms) || b) (fused o.world ms P clean (standing_step o.world) ∙ ap is_some (sym chosen))
       ∙ or-true (fuses_one (read_members (standing_step o.world) ms))))
 
-  one_restricts : (ms : Members) → is_some (fused_one ms) ≡ true → is_restricted ms ≡ true
-  one_restricts ms e = by (fused_one ms) refl e
-    where
-      by : (t : Option Name) → fused_one ms ≡ t → is_some t ≡ true → is_restricted ms ≡ true
-      by None q f = absurd (true≢false (sym f))
-      by (Some n) q f = fused_is_restricted ms n q
-
   pub means_fused_one : (d : Data) (ms : Members) (P : Path) → is_some (fused_one ms) ≡ true → MeanClaim o answers ms (plan_of ms) [] (codes "required", d) P
   means_fused_one d ms P chosen =
-      nothing_means ms (codes "required", d) P (plan_of ms) (claims_no_fused ms (one_restricts ms chosen) (listed ms) d chosen) (λ clean u v Q. required_shows_none o.world ms u v P Q d chosen)
+      nothing_means ms (codes "required", d) P (plan_of ms) (claims_no_fused ms (fusing_restricts ms chosen) (listed ms) d chosen) (λ clean u v Q. required_shows_none o.world ms u v P Q d chosen)
       (λ clean. placed.required_stands_elsewhere o.world ms P d (ap (λ b. b || fuses_two (read_members (standing_step o.world) ms)) (clean_one_fused o.world ms P clean (standing_step o.world) ∙ chosen)))
 
   pub means_required_alone : (names : Vec (String Global) Global) (L : Path) (d : Data) → map string_bytes names.items ≡ texts d → (ms : Members) (P : Path)
@@ -624,8 +577,7 @@ module _ {K R N : Type 0} (o : Kit K R) (answers : N → Answers) where
         faults = λ u v Q. ∼_same (λ i. map (λ t. fault (Leaf (name i) t) v Q L) (same v i));
         evaluation = λ u v Q. (λ i. leaf_node L Q (described (map (λ t. fault (Leaf (name i) t) v Q L) (same v i))));
         formed = refl;
-      })
-      (λ own. (λ i. (p i, leaf_form) ∷ []) ∙ ap (λ w. member_standing o.world ms (k, d) w P) (sym q))
+      }) (λ own. (λ i. (p i, leaf_form) ∷ []) ∙ ap (λ w. member_standing o.world ms (k, d) w P) (sym q))
 
   pub means_unread : (k : Name) (d : Data) → keyword_named o.world k ≡ unread → (ms : Members) (P : Path) → KeywordMeans o answers ms [] (k, d) P
   means_unread k d q ms P = record {

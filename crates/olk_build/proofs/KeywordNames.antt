@@ -1,13 +1,10 @@
 -- Which keyword a name is that is none of those that are read here.
-use Rattle.std.specs.Prelude.{◌≡◌, Bool, true, false, if◌then◌else◌, List, [], ◌∷◌, codes, bytes_eq}
-use Rattle.std.proofs.Common.{refl, sym}
-use mathlib.Core.Bool.{true≢false}
+use Rattle.std.proofs.Common.{◌≡◌, Bool, true, false, if◌then◌else◌, List, [], ◌∷◌, codes, bytes_eq, refl, sym, true≢false}
 use Rattle.olk_spec.specs.Names.{Name, is_among}
 use Rattle.olk_spec.specs.World.{World}
 use Rattle.olk_spec.specs.Vocabulary.{Keyword, unsupported, unsupported_names, leaf_or_unread, keyword_named}
-use Rattle.olk_spec.proofs.Each.{Each}
-use Rattle.olk_spec.proofs.Walks.{neither}
 use Rattle.olk_build.specs.Reading.{IsOther}
+use Rattle.olk_spec.proofs.{Each.Each, Walks.neither}
 
 else_side : (b : Bool) (w x y : Keyword) → b ≡ false → x ≡ y → (if b then w else x) ≡ y
 else_side true w x y e h = absurd (true≢false e)
@@ -25,22 +22,11 @@ module _ (W : World) (k : Name) (other : IsOther k) where
   keyword_rest : (w : Keyword) → (if is_among k unsupported_names then unsupported else leaf_or_unread (W.reads k)) ≡ w → keyword_named W k ≡ w
   keyword_rest w h =
       let q = none_among k (codes "properties" ∷ codes "patternProperties" ∷ codes "additionalProperties" ∷ codes "propertyNames" ∷ codes "required" ∷ codes "dependentRequired" ∷ codes "dependentSchemas" ∷ codes "dependencies" ∷ codes "propertyDependencies" ∷ codes "allOf" ∷ codes "anyOf" ∷ codes "oneOf" ∷ codes "not" ∷ codes "if" ∷ codes "then" ∷ codes "else" ∷ []) other in
-      else_side _ _ _ _ q.0
-      (else_side _ _ _ _ q.1.0
-      (else_side _ _ _ _ q.1.1.0
-      (else_side _ _ _ _ q.1.1.1.0
-      (else_side _ _ _ _ q.1.1.1.1.0
-      (else_side _ _ _ _ q.1.1.1.1.1.0
-      (else_side _ _ _ _ q.1.1.1.1.1.1.0
-      (else_side _ _ _ _ q.1.1.1.1.1.1.1.0
-      (else_side _ _ _ _ q.1.1.1.1.1.1.1.1.0
-      (else_side _ _ _ _ q.1.1.1.1.1.1.1.1.1.0
-      (else_side _ _ _ _ q.1.1.1.1.1.1.1.1.1.1.0
-      (else_side _ _ _ _ q.1.1.1.1.1.1.1.1.1.1.1.0
-      (else_side _ _ _ _ q.1.1.1.1.1.1.1.1.1.1.1.1.0
-      (else_side _ _ _ _ q.1.1.1.1.1.1.1.1.1.1.1.1.1.0
-      (else_side _ _ _ _ q.1.1.1.1.1.1.1.1.1.1.1.1.1.1.0
-      (else_side _ _ _ _ q.1.1.1.1.1.1.1.1.1.1.1.1.1.1.1.0 h)))))))))))))))
+      else_side _ _ _ _ q.0 (else_side _ _ _ _ q.1.0 (else_side _ _ _ _ q.1.1.0 (else_side _ _ _ _ q.1.1.1.0 (else_side _ _ _ _ q.1.1.1.1.0
+      (else_side _ _ _ _ q.1.1.1.1.1.0 (else_side _ _ _ _ q.1.1.1.1.1.1.0 (else_side _ _ _ _ q.1.1.1.1.1.1.1.0 (else_side _ _ _ _ q.1.1.1.1.1.1.1.1.0
+      (else_side _ _ _ _ q.1.1.1.1.1.1.1.1.1.0 (else_side _ _ _ _ q.1.1.1.1.1.1.1.1.1.1.0 (else_side _ _ _ _ q.1.1.1.1.1.1.1.1.1.1.1.0
+      (else_side _ _ _ _ q.1.1.1.1.1.1.1.1.1.1.1.1.0 (else_side _ _ _ _ q.1.1.1.1.1.1.1.1.1.1.1.1.1.0
+      (else_side _ _ _ _ q.1.1.1.1.1.1.1.1.1.1.1.1.1.1.0 (else_side _ _ _ _ q.1.1.1.1.1.1.1.1.1.1.1.1.1.1.1.0 h)))))))))))))))
 
   pub refused_keyword : is_among k unsupported_names ≡ true → keyword_named W k ≡ unsupported
   refused_keyword e = keyword_rest unsupported (then_side (is_among k unsupported_names) unsupported (leaf_or_unread (W.reads k)) e)

@@ -1,9 +1,6 @@
 -- The parts of a schema object: each is built, or why there is none.
-use Rattle.std.specs.Prelude.{◌≡◌, ◌+◌, Bool, true, false, List, [], ◌++◌, map}
+use Rattle.std.proofs.Common.{◌≡◌, ◌+◌, Bool, true, false, List, [], ◌++◌, map, refl, sym, ◌∙◌, ap, subst, arith, true≢false, append-nil}
 use Rattle.std.specs.List.{flat_map}
-use Rattle.std.proofs.Common.{refl, sym, ◌∙◌, ap, subst, arith}
-use mathlib.Core.Bool.{true≢false}
-use Rattle.std.proofs.lemmas.List.{append-nil}
 use Rattle.serde_json.specs.Data.{Data, boolean, Members}
 use Rattle.olk_spec.specs.Names.{Name, Path, ◌//◌, down}
 use Rattle.olk_spec.specs.Vocabulary.{Keyword, pattern_properties, additional_properties, keyword_named}
@@ -12,30 +9,22 @@ use Rattle.olk_spec.specs.Schemas.{Schema, Sub, read, read_members, members, num
 use Rattle.olk_spec.specs.Malformed.{each, itself, places_where, read_places, malformations_at, malformations_step, items_of_array}
 use Rattle.olk_spec.specs.Costs.{Cost, cost, cost_step, own_cost, total_cost, ◌⊕◌}
 use Rattle.olk_spec.proofs.Reading.{entry, place, whole_read, entries_read}
-use Rattle.olk_base.specs.Count.{Counts}
 use Rattle.olk_reports.specs.declared.error.BuildError.{BuildError}
-use Rattle.olk_base.specs.Kit.{Kit}
 use Rattle.olk_meaning.specs.Dependencies.{schema_entries}
-use Rattle.olk_build.specs.Building.{RefusesPart, later_cost}
+use Rattle.olk_build.specs.Building.{RefusesPart, later_cost, places_malformed, places_cost, PlacesAreBuilt, RefusesPlaces, IsPart}
 use Rattle.olk_build.specs.Reading.{reads_of, own_faults, own_cost_of, IsShape, Fits, IsRead, RefusesKeyword}
 use Rattle.olk_meaning.specs.Conditions.{Known, known_of, is_conditional_name, IsKnown}
-use Rattle.olk_meaning.proofs.AdditionalPlaces.{additional_places}
-use Rattle.olk_build.specs.declared.shape.ReadPlaces.{ReadPlaces}
 use Rattle.olk_build.specs.declared.shape.ReadPlaces.TheVariants.{Nothing, Itself, Entries, SchemaEntries, InnerEntries, Branches}
-use Rattle.olk_meaning.proofs.Conditions.{places_by_condition}
-use Rattle.olk_meaning.proofs.PatternProperties.{pattern_properties_known_cost}
-use Rattle.olk_build.specs.Placing.{places_malformed, places_cost, PlacesAreBuilt, RefusesPlaces, IsPart}
-use Rattle.olk_build.specs.Standing.{StandAt}
 use Rattle.olk_tree.specs.Answers.{Answers}
-use Rattle.olk_build.specs.declared.part.Part.{Part}
-use Rattle.olk_build.specs.declared.shape.Shape.{Shape}
-use Rattle.olk_build.specs.declared.shape.Shape.TheVariants as shape
 use Rattle.olk_meaning.proofs.Facts.{branch_entries, each_malformations, each_costs}
-use Rattle.olk_meaning.proofs.Dependencies.{dependencies_places}
-use Rattle.olk_meaning.proofs.PropertyNames.{false_is_no_object}
+use Rattle.olk_meaning.proofs.{Dependencies.dependencies_places, AdditionalProperties.additional_places, Conditions.places_by_condition}
+use Rattle.olk_meaning.proofs.{PatternProperties.pattern_properties_known_cost, PropertyNames.false_is_no_object}
 use Rattle.olk_meaning.proofs.PropertyDependencies.{inner_places, property_dependencies_places, inner_malformations, inner_costs}
 use Rattle.olk_spec.proofs.CostSums.{sum_last}
 use Rattle.olk_build.proofs.Spending.{spends_append, within_after, within_before, within_same, tells_left, tells_right, tells_same}
+use Rattle.olk_base.specs.{Count.Counts, Kit.Kit}
+use Rattle.olk_build.specs.{declared.shape.ReadPlaces.ReadPlaces, declared.shape.Shape.Shape, Standing.StandAt, declared.part.Part.Part}
+use Rattle.olk_build.specs.declared.shape.Shape.TheVariants as shape
 
 true_is_no_object : (d : Data) → is_truth true d ≡ true → is_object d ≡ false
 true_is_no_object (boolean b) e = refl
@@ -180,8 +169,7 @@ module _ {K R : Type 0} {o : Kit K R} {x : Shape K R} {c : Known} {k : Name} {d 
   refuses_part_inside {b = b} {e} reads w ms P p known =
       let inside = subst (λ r. RefusesPlaces o r d L m b e) reads w in
       record {
-        tells =
-            tells_right (own_faults o.world k d (P // k)) (found o ms d k P (keyword_named o.world k)) e
+        tells = tells_right (own_faults o.world k d (P // k)) (found o ms d k P (keyword_named o.world k)) e
             (tells_same (ap (places_malformed o (reads_of x) d) p ∙ sym (places_found o ms d c k known x h.shape h.fits P)) e inside.tells);
         spends = within_same (sym (cost_split ms known)) (within_before a b _ (later_cost o ms d (keyword_named o.world k)) (within_after a m b _ _ h.spends inside.spends));
       }
@@ -201,8 +189,7 @@ module _ {K R N : Type 0} {o : Kit K R} {answers : N → Answers} where
           },
           tt,
         );
-        clean =
-            append-nil _ ∙ (λ i. (ap (own_faults o.world k d) (sym e) ∙ h.clean) i
+        clean = append-nil _ ∙ (λ i. (ap (own_faults o.world k d) (sym e) ∙ h.clean) i
             ++ (places_found o ms d c k known p.shape h.shape h.fits P ∙ ap (places_malformed o (reads_of p.shape) d) (sym e) ∙ built.clean) i);
         spends = record {
           spent = own_cost_of o.world d (keyword_named o.world k) ⊕ places_cost o (reads_of p.shape) d;

@@ -1,50 +1,40 @@
 -- What holds `patternProperties`.
-use Rattle.olk_meaning.proofs.Rows.{Rows}
 use Rattle.olk_build.proofs.Together.{by_its_name}
-use Rattle.std.specs.Prelude.{◌≡◌, ◌≤◌, ◌+◌, ℕ, Bool, true, false, cond, ◌&&◌, ◌||◌, List, [], ◌∷◌, ◌++◌, map, zip, length, sum_by, codes, Vec, Some, None}
+use Rattle.std.proofs.Common.{◌≡◌, ◌≤◌, ◌+◌, ℕ, Bool, true, false, cond, ◌&&◌, ◌||◌, List, [], ◌∷◌, map, zip, length, sum_by, codes, Vec, Some, None, Global, refl, sym, ◌∙◌, ap, subst, arith}
+use Rattle.std.proofs.Common.{append-nil}
 use Rattle.std.specs.List.{list_all, flat_map}
-use Rattle.std.specs.declared.alloc.Global.{Global}
-use Rattle.std.proofs.Common.{refl, sym, ◌∙◌, ap, subst, arith}
-use Rattle.std.proofs.lemmas.List.{append-nil}
-use Rattle.std.proofs.lemmas.List.Sums.{sum_by-cons}
-use Rattle.std.proofs.Math.Bool.{and-true}
-use Rattle.olk_tree.proofs.Answering.{more_within}
 use Rattle.serde_json.specs.Data.{Data, Members}
 use Rattle.olk_spec.specs.Names.{Name, Path, ◌//◌, filter_once, put_if}
 use Rattle.olk_spec.specs.World.{reads_as, is_unfinished}
-use Rattle.olk_spec.specs.Faults.{Fault, ◌∼◌, like_empty, like_through}
+use Rattle.olk_spec.specs.Faults.{Fault, ◌∼◌, like_through}
 use Rattle.olk_spec.specs.Schemas.{is_object, members}
 use Rattle.olk_spec.specs.Meanings.{matches, is_open}
-use Rattle.olk_tree.proofs.RestrictedAsks.{open_counts}
 use Rattle.olk_spec.specs.Meaning.{accepts, asks, report, tree}
 use Rattle.olk_spec.specs.Tree.{Tree, result}
-use Rattle.olk_spec.proofs.Order.{∼_same, ∼_append, ∼_flat_map_any}
-use Rattle.olk_spec.proofs.Truth.{and_from}
-use Rattle.olk_base.specs.Kit.{Kit}
+use Rattle.olk_spec.proofs.Order.{∼_same, ∼_flat_map_any}
 use Rattle.olk_base.specs.Compiled.{pattern_answers, pattern_costs}
-use Rattle.olk_base.specs.declared.pattern.CompiledPattern.{CompiledPattern}
 use Rattle.olk_meaning.specs.PatternProperties.{matched_members, pattern_asks, patterns_told}
-use Rattle.olk_meaning.proofs.PatternProperties.{pattern_properties_told}
 use Rattle.olk_meaning.specs.Chosen.{one_or_other, single_pattern_form, patterns_form}
 use Rattle.olk_meaning.proofs.Standing.{each_placed, patterns_stand}
 use Rattle.olk_tree.specs.Matched.{matched, match_question}
 use Rattle.olk_tree.specs.Questions.{Question, every, conditional, always, of_asked}
 use Rattle.olk_tree.specs.Shown.{match_trees, match_names, patterns_tree}
 use Rattle.olk_tree.specs.PatternProperties.{matched_mean, patterns_mean, matched_report, patterns_report}
-use Rattle.olk_tree.specs.Validators.{answers_of}
-use Rattle.olk_tree.specs.declared.node.KeywordOver.{KeywordOver}
-use Rattle.olk_tree.specs.declared.node.KeywordOver.TheVariants as keyword
-use Rattle.olk_tree.specs.Answers.{Answers}
-use Rattle.olk_tree.specs.Places.{Stands}
-use Rattle.olk_build.specs.Reading.{IsPattern, ArePatterns}
-use Rattle.olk_build.specs.declared.shape.Shape.TheVariants as shape
-use Rattle.olk_build.specs.Holding.{StandEach}
-use Rattle.olk_build.specs.Forms.{IsFormOfPatternProperties, IsPatternProperties}
+use Rattle.olk_build.specs.Reading.{IsPattern}
 use Rattle.olk_build.specs.Standing.{EntriesStand}
+use Rattle.olk_build.specs.Forms.{IsFormOfPatternProperties, IsPatternProperties}
 use Rattle.olk_build.specs.Making.{KeywordMeans, MakesMember}
 use Rattle.olk_build.proofs.Held.{Answered, means_told}
-use Rattle.olk_build.proofs.Formed.{entry_formed, patterns_formed, entries_placed, patterns_placed, stand_as}
-use Rattle.olk_build.proofs.Choosing.{entries_length}
+use Rattle.olk_build.proofs.Formed.{entry_formed, patterns_hold, entries_placed, stand_as}
+use Rattle.olk_build.proofs.Choosing.{entries_length, both_stand}
+use Rattle.olk_build.proofs.Pairs.{all_hold, every_accepts, every_asks, like_flat_map, same_flat_map}
+use Rattle.olk_meaning.proofs.{Rows.Rows, PatternProperties.pattern_properties_told}
+use Rattle.std.proofs.{lemmas.List.Sums.sum_by-cons, Math.Bool.and-true}
+use Rattle.olk_tree.proofs.{Answering.more_within, RestrictedAsks.open_counts}
+use Rattle.olk_base.specs.{Kit.Kit, declared.pattern.CompiledPattern.CompiledPattern}
+use Rattle.olk_tree.specs.{Validators.answers_of, declared.node.KeywordOver.KeywordOver, Answers.Answers, Places.Stands}
+use Rattle.olk_tree.specs.declared.node.KeywordOver.TheVariants as keyword
+use Rattle.olk_build.specs.declared.shape.Shape.TheVariants as shape
 
 -- ---- patterns and nodes side by side
 
@@ -69,12 +59,6 @@ module _ {P N : Type 0} where
 module _ {K R N : Type 0} (o : Kit K R) (answers : N → Answers) where
   abbrev Entry : Type 0
   Entry = CompiledPattern R × N
-
-  pub both_stand : (ps : List (CompiledPattern R)) (ns : List N) (ds : Rows) (L : Path) → ArePatterns o ps ds → StandEach o answers ns ds L → EntriesStand o answers (zip ps ns) ds L
-  both_stand [] ns [] L h s = tt
-  both_stand (p ∷ ps) [] (d ∷ ds) L h s = absurd s
-  both_stand (p ∷ ps) (n ∷ ns) (d ∷ ds) L h s = (h.0, s.0, both_stand ps ns ds L h.1 s.1)
-  both_stand _ ns _ L h s = absurd h
 
   -- ---- what patterns with their nodes mean, and what an entry is to report, show and name
 
@@ -136,52 +120,37 @@ module _ {K R N : Type 0} (o : Kit K R) (answers : N → Answers) where
 
     module _ (v : Data) (Q : Path) where
       matched_find : matched_report o.answers (λ n. (answers n).report) u e.0 e.1 v Q ∼ entry_report u v L Q d
-      matched_find =
-          subst (λ xs. flat_map (λ x. (answers e.1).report u x.1 (Q // x.0)) xs ∼ entry_report u v L Q d) (sym (matched_same v))
+      matched_find = subst (λ xs. flat_map (λ x. (answers e.1).report u x.1 (Q // x.0)) xs ∼ entry_report u v L Q d) (sym (matched_same v))
           (∼_flat_map_any _ _ (λ x. s.faults u x.1 (Q // x.0)) (matched_members o.world u d.0 v))
 
-      trees_at : (xs : Rows) → map (λ x. (answers e.1).tree u x.1 (Q // x.0)) xs ≡ map (λ x. tree o.world u d.1 x.1 (L // d.0) (Q // x.0)) xs
-      trees_at [] = refl
-      trees_at (x ∷ xs) = λ i. s.evaluation u x.1 (Q // x.0) i ∷ trees_at xs i
-
       matched_show : map (λ x. (answers e.1).tree u x.1 (Q // x.0)) (matched o.answers u e.0 v) ≡ entry_trees u v L Q d
-      matched_show = ap (map (λ x. (answers e.1).tree u x.1 (Q // x.0))) (matched_same v) ∙ trees_at (matched_members o.world u d.0 v)
+      matched_show = ap (map (λ x. (answers e.1).tree u x.1 (Q // x.0))) (matched_same v) ∙ (λ i. map (λ x. s.evaluation u x.1 (Q // x.0) i) (matched_members o.world u d.0 v))
 
   -- ---- all patterns
 
-  module _ (L : Path) (u : Bool) (v : Data) where
-    patterns_accept : (es : List Entry) (ds : Rows) → EntriesStand o answers es ds L
-        → (all_mean v es).accepts u ≡ list_all (λ d. list_all (λ x. accepts o.world u d.1 x.1) (matched_members o.world u d.0 v)) ds
-    patterns_accept [] [] h = refl
-    patterns_accept (e ∷ es) (d ∷ ds) h = λ i. matched_accept e d L h.0 h.1 u (members v) i && patterns_accept es ds h.2 i
-    patterns_accept _ _ h = absurd h
+  module _ (L : Path) (es : List Entry) (ds : Rows) (h : EntriesStand o answers es ds L) where
+    abbrev StandsFor : Entry → Name × Data → Type 0
+    StandsFor e d = IsPattern o e.0 d.0 × Stands o answers e.1 d.1 (L // d.0)
 
-    patterns_ask : (es : List Entry) (ds : Rows) → EntriesStand o answers es ds L → (all_mean v es).asks of_asked u ≤ sum_by
-        (λ d. sum_by (λ x. pattern_asks o.world d.0 + cond (matches o.world u d.0 x.0) (asks o.world u d.1 x.1) 0) (members v)) ds
-    patterns_ask [] [] h = omega arith
-    patterns_ask (e ∷ es) (d ∷ ds) h =
-        more_within _ _ _ _ _ (matched_ask e d L h.0 h.1 u (members v)) (patterns_ask es ds h.2)
-        (sum_by-cons _ d ds)
-    patterns_ask _ _ h = absurd h
+    pub all_formed : list_all (entry_formed o answers) es ≡ true
+    all_formed = all_hold StandsFor _ (λ e d s. s.1.formed) es ds h
 
-    module _ (Q : Path) where
-      patterns_find : (es : List Entry) (ds : Rows) → EntriesStand o answers es ds L → patterns_report o.answers (λ n. (answers n).report) u es v Q ∼ flat_map
-          (entry_report u v L Q) ds
-      patterns_find [] [] h = like_empty
-      patterns_find (e ∷ es) (d ∷ ds) h = ∼_append (matched_find e d L h.0 h.1 u v Q) (patterns_find es ds h.2)
-      patterns_find _ _ h = absurd h
+    module _ (u : Bool) (v : Data) where
+      patterns_accept : (all_mean v es).accepts u ≡ list_all (λ d. list_all (λ x. accepts o.world u d.1 x.1) (matched_members o.world u d.0 v)) ds
+      patterns_accept = every_accepts StandsFor _ u _ (λ e d s. matched_accept e d L s.0 s.1 u (members v)) es ds h
 
-      patterns_show : (es : List Entry) (ds : Rows) → EntriesStand o answers es ds L → match_trees (λ n. (answers n).tree u) v Q o.answers u es ≡ flat_map
-          (entry_trees u v L Q) ds
-      patterns_show [] [] h = refl
-      patterns_show (e ∷ es) (d ∷ ds) h = λ i. matched_show e d L h.0 h.1 u v Q i ++ patterns_show es ds h.2 i
-      patterns_show _ _ h = absurd h
+      patterns_ask : (all_mean v es).asks of_asked u ≤ sum_by (λ d. sum_by (λ x. pattern_asks o.world d.0 + cond (matches o.world u d.0 x.0) (asks o.world u d.1 x.1) 0) (members v)) ds
+      patterns_ask = every_asks StandsFor _ u _ (λ e d s. matched_ask e d L s.0 s.1 u (members v)) es ds h
 
-      patterns_name : (es : List Entry) (ds : Rows) → EntriesStand o answers es ds L → match_names (λ n. (answers n).tree u) v Q o.answers u es ≡ flat_map
-          (entry_names u v) ds
-      patterns_name [] [] h = refl
-      patterns_name (e ∷ es) (d ∷ ds) h = λ i. map (λ x. x.0) (matched_same e d L h.0 h.1 u v i) ++ patterns_name es ds h.2 i
-      patterns_name _ _ h = absurd h
+      module _ (Q : Path) where
+        patterns_find : patterns_report o.answers (λ n. (answers n).report) u es v Q ∼ flat_map (entry_report u v L Q) ds
+        patterns_find = like_flat_map StandsFor _ _ (λ e d s. matched_find e d L s.0 s.1 u v Q) es ds h
+
+        patterns_show : match_trees (λ n. (answers n).tree u) v Q o.answers u es ≡ flat_map (entry_trees u v L Q) ds
+        patterns_show = same_flat_map StandsFor _ _ (λ e d s. matched_show e d L s.0 s.1 u v Q) es ds h
+
+        patterns_name : match_names (λ n. (answers n).tree u) v Q o.answers u es ≡ flat_map (entry_names u v) ds
+        patterns_name = same_flat_map StandsFor _ _ (λ e d s i. map (λ x. x.0) (matched_same e d L s.0 s.1 u v i)) es ds h
 
   -- ---- the keyword, in either form
 
@@ -209,29 +178,23 @@ module _ {K R N : Type 0} (o : Kit K R) (answers : N → Answers) where
     }
     of_patterns x f = absurd f
 
-  pub all_formed : (es : List Entry) (ds : Rows) (L : Path) → EntriesStand o answers es ds L → list_all (entry_formed o answers) es ≡ true
-  all_formed [] [] L h = refl
-  all_formed (e ∷ es) (d ∷ ds) L h = and_from _ _ h.1.formed (all_formed es ds L h.2)
-  all_formed _ _ L h = absurd h
-
   module _ (k : KeywordOver K R N) (L : Path) (es : List Entry) (form : IsFormOfPatternProperties L es k) (d : Data) (stand : EntriesStand o answers es (members d) L) where
     means_patterns : (ms : Members) (P : Path) → L ≡ P // codes "patternProperties" → KeywordMeans o answers ms (k ∷ []) (codes "patternProperties", d) P
     means_patterns ms P p = means_told o answers ms k (codes "patternProperties", d) P L (patterns_told o.world (members d)) p (pattern_properties_told o.world ms d) (record {
-      verdict = λ u v. (of_patterns L es u v k form).verdict ∙ patterns_accept L u v es (members d) stand;
-      asks_within = λ u v. let f = (of_patterns L es u v k form).asks_within in let a = patterns_ask L u v es (members d) stand in omega (arith, f, a);
-      faults = λ u v Q. like_through (∼_same ((of_patterns L es u v k form).faults Q)) (patterns_find L u v Q es (members d) stand);
+      verdict = λ u v. (of_patterns L es u v k form).verdict ∙ patterns_accept L es (members d) stand u v;
+      asks_within = λ u v. let f = (of_patterns L es u v k form).asks_within in let a = patterns_ask L es (members d) stand u v in omega (arith, f, a);
+      faults = λ u v Q. like_through (∼_same ((of_patterns L es u v k form).faults Q)) (patterns_find L es (members d) stand u v Q);
       evaluation = λ u v Q. (of_patterns L es u v k form).evaluation Q
-          ∙ (λ i. result L Q (cond (is_object v) (Some (patterns_name L u v Q es (members d) stand i)) None) false [] (patterns_show L u v Q es (members d) stand i));
-      formed = patterns_formed o answers k L es form (all_formed es (members d) L stand);
-    })
-        (λ own. append-nil (stand_as o answers k) ∙ patterns_placed o answers k L es form
+          ∙ (λ i. result L Q (cond (is_object v) (Some (patterns_name L es (members d) stand u v Q i)) None) false [] (patterns_show L es (members d) stand u v Q i));
+      formed = (patterns_hold o answers k L es form).0 (all_formed L es (members d) stand);
+    }) (λ own. append-nil (stand_as o answers k) ∙ (patterns_hold o answers k L es form).1
         ∙ (λ i. (p i, one_or_other single_pattern_form patterns_form (entries_length o answers es (members d) L stand i))
         ∷ (entries_placed o answers es (members d) L stand ∙ ap (λ M. each_placed o.world M (members d)) p) i) ∙ sym (patterns_stand o.world ms P d own))
 
   pub makes_pattern_properties : (k : KeywordOver K R N) (L : Path) (v : Vec (CompiledPattern R) Global) (ns : List N) (es : List Entry)
       → es ≡ zip v.items ns → IsFormOfPatternProperties L es k → MakesMember o answers (shape.PatternProperties v) L ns (k ∷ [])
   makes_pattern_properties k L v ns es e form ms m P p s h = by_its_name o answers s.0 p
-      (means_patterns k L es form m.1 (subst (λ l. EntriesStand o answers l (members m.1) L) (sym e) (both_stand v.items ns (members m.1) L s.2 h)) ms P)
+      (means_patterns k L es form m.1 (subst (λ l. EntriesStand o answers l (members m.1) L) (sym e) (both_stand o answers v.items ns (members m.1) L s.2 h)) ms P)
 
 -- ---- the form, by how many patterns there are
 

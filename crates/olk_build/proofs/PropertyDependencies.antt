@@ -1,46 +1,33 @@
--- What holds `propertyDependencies`.
+-- `propertyDependencies`: what is made of the nodes at its texts.
 use Rattle.olk_build.proofs.Together.{by_its_name}
-use Rattle.std.specs.Prelude.{◌≡◌, ⊤, ℕ, min, ◌&&◌, List, [], ◌∷◌, ◌++◌, map, length, get_or, take, drop, codes, option_to_list, bytes_eq, Vec, true}
-use Rattle.std.specs.List.{list_all, flat_map, zip}
-use Rattle.std.specs.Ordering.{nat_cmp, is_eq}
-use Rattle.std.specs.Cmp.Lexicographic.{slice_cmp}
-use Rattle.std.specs.declared.alloc.Global.{Global}
-use Rattle.std.specs.declared.cmp.Ordering.{Ordering}
-use Rattle.std.specs.declared.cmp.Ordering.TheVariants.{Less, Equal, Greater}
-use Rattle.std.proofs.Common.{suc, refl, sym, ◌∙◌, ap, subst}
-use Rattle.std.proofs.lemmas.List.{take_at, drop_at, take_min, drop_min, append-nil}
-use Rattle.std.proofs.lemmas.Map.Text.{is_eq-slice_cmp}
-use Rattle.std.proofs.lemmas.Slice.Zip.{firsts-zip, seconds-zip}
-use mathlib.Core.Bool.{true≢false}
+use Rattle.std.proofs.Common.{◌≡◌, true, false, List, [], ◌∷◌, map, get_or, drop, codes, Vec, ℕ, min, ◌&&◌, ◌++◌, length, take, option_to_list, bytes_eq, Global, refl, sym, ◌∙◌, ap, subst, append-nil}
+use Rattle.std.proofs.Common.{take_at, drop_at, true≢false, nat_cmp, is_eq, Ordering, Less, Equal, Greater}
+use Rattle.std.specs.List.{flat_map, zip, list_all, AllZip}
+use Rattle.std.proofs.lemmas.List.{take_min, drop_min, length-map}
 use Rattle.serde_json.specs.Data.{Data, Members}
-use Rattle.olk_spec.specs.Names.{Name, Path, ◌//◌, lookup_name, first_if_equal, is_empty}
-use Rattle.olk_spec.specs.Schemas.{members, at, as_text}
-use Rattle.olk_spec.proofs.Walks.{same_name}
+use Rattle.olk_spec.specs.Names.{Name, Path, ◌//◌, is_empty, lookup_name, first_if_equal}
+use Rattle.olk_spec.specs.Schemas.{members, texts, at, as_text}
 use Rattle.olk_base.specs.Kit.{Kit}
-use Rattle.olk_meaning.specs.PropertyDependencies.{chosen, chosen_by, choices, choice_answers}
-use Rattle.olk_meaning.proofs.PropertyDependencies.{property_dependencies_told}
-use Rattle.olk_meaning.specs.Chosen.{property_dependencies_form}
+use Rattle.olk_meaning.proofs.{PropertyDependencies.property_dependencies_told, Rows.Rows}
+use Rattle.olk_meaning.specs.{Chosen.property_dependencies_form, Told.schema_answers}
 use Rattle.olk_meaning.proofs.Standing.{each_placed, property_dependencies_stand}
-use Rattle.olk_tree.specs.Formed.{is_paired}
-use Rattle.olk_tree.specs.Maps.{keys_in, nodes_in, named}
-use Rattle.olk_tree.specs.PropertyDependencies.{chosen_at, chosen_nodes}
-use Rattle.olk_tree.specs.Validators.{answers_of}
-use Rattle.olk_tree.specs.declared.map.SmallMap.{SmallMap}
-use Rattle.olk_tree.specs.declared.node.KeywordOver.{KeywordOver}
-use Rattle.olk_tree.specs.declared.node.KeywordOver.TheVariants as keyword
-use Rattle.olk_tree.specs.Answers.{Answers}
+use Rattle.olk_tree.specs.Maps.{keys_in, named, nodes_in}
 use Rattle.olk_build.specs.Reading.{names_of}
-use Rattle.olk_build.specs.declared.shape.Shape.TheVariants as shape
 use Rattle.olk_build.specs.Forms.{HasEntries, AreCut, IsPropertyDependencies}
-use Rattle.olk_build.specs.Holding.{StandInner}
-use Rattle.olk_build.specs.Made.{MakesPropertyDependencies}
+use Rattle.olk_build.specs.{Standing.StandInner, Made.MakesPropertyDependencies}
 use Rattle.olk_build.specs.Making.{KeywordMeans, MakesMember}
-use Rattle.olk_build.proofs.EntryNodes.{AnswersFor, AnswerEach, each_append, each_count, schemas_answer}
-use Rattle.olk_meaning.specs.Told.{schema_answers}
-use Rattle.olk_meaning.proofs.Rows.{Rows}
+use Rattle.olk_build.proofs.Formed.{AnswersFor, AnswerEach, each_count, schemas_answer, has_form, entries_zipped, paired, each_keys, each_held_formed, each_held_placed, stand_in, stand_as}
 use Rattle.olk_build.proofs.Held.{each_asks, nodes_told, means_told}
-use Rattle.olk_build.proofs.Formed.{has_form, entries_zipped, paired, each_keys, each_held_formed, each_held_placed, stand_in, stand_as}
-use Rattle.olk_spec.proofs.Truth.{and_from}
+use Rattle.std.specs.Cmp.Lexicographic.{slice_cmp}
+use Rattle.std.proofs.lemmas.Map.Text.{is_eq-slice_cmp}
+use Rattle.std.proofs.lemmas.Slice.Zip.{firsts-zip, seconds-zip, AllZip-long}
+use Rattle.olk_meaning.specs.PropertyDependencies.{chosen, chosen_by, choices, choice_answers}
+use Rattle.olk_tree.specs.PropertyDependencies.{chosen_at, chosen_nodes}
+use Rattle.olk_build.proofs.Pairs.{AllZip-append, all_hold, same_map, same_flat_map}
+use Rattle.olk_spec.proofs.{Truth.and_from, Walks.same_name}
+use Rattle.olk_tree.specs.{declared.map.SmallMap.SmallMap, Validators.answers_of, declared.node.KeywordOver.KeywordOver, Answers.Answers, Formed.is_paired}
+use Rattle.olk_tree.specs.declared.node.KeywordOver.TheVariants as keyword
+use Rattle.olk_build.specs.declared.shape.Shape.TheVariants as shape
 
 -- maps, made of the lists of names and the nodes that are left
 abbrev pub MadeByCutting : {N : Type 0} → List (List Name) × List N → List (SmallMap N) → Type 0
@@ -72,7 +59,7 @@ module _ {K R N : Type 0} (o : Kit K R) (answers : N → Answers) where
   module _ {X : Type 0} (f : X → List N) (g : X → Rows) (L : Path) (each : (x : X) → SchemaEach (f x) (g x) L) where
     each_of_all : (xs : List X) → SchemaEach (flat_map f xs) (flat_map g xs) L
     each_of_all [] = tt
-    each_of_all (x ∷ xs) = each_append o answers (schema_answers o.world) (f x) (flat_map f xs) (g x) (flat_map g xs) L (each x) (each_of_all xs)
+    each_of_all (x ∷ xs) = AllZip-append (λ n e. SchemaFor n e L) (f x) (flat_map f xs) (g x) (flat_map g xs) (each x) (each_of_all xs)
 
   -- what a look-up finds among the nodes, and among the entries
   found_answers : (t : Name) (ns : List N) (es : Rows) (L : Path) → SchemaEach ns es L → SchemaEach (option_to_list (lookup_name t (zip (keys_in es) ns)))
@@ -96,35 +83,23 @@ module _ {K R N : Type 0} (o : Kit K R) (answers : N → Answers) where
 
   -- a map for each entry
   abbrev MapsAnswer : List (SmallMap N) → Rows → Path → Type 0
-  MapsAnswer [] [] L = ⊤
-  MapsAnswer (m ∷ maps) (e ∷ es) L = MapAnswers m e L × MapsAnswer maps es L
-  MapsAnswer _ _ L = ⊥
+  MapsAnswer maps es L = AllZip (λ m e. MapAnswers m e L) maps es
 
-  maps_formed : (maps : List (SmallMap N)) (es : Rows) (L : Path) → MapsAnswer maps es L → list_all (λ m. is_paired m.names m.nodes && list_all (has_form o answers) (nodes_in (named m))) maps ≡ true
-  maps_formed [] [] L h = refl
-  maps_formed (m ∷ maps) (e ∷ es) L h = and_from _ _
-      (and_from _ _ (paired (names_of e.1) h.0.nodes (each_count o answers _ _ _ _ h.0.each) m.names m.nodes h.0.entries.0 h.0.entries.1) (each_held_formed o answers (named m) _ _ _ h.0.held _ h.0.each))
-      (maps_formed maps es L h.1)
-  maps_formed _ _ L h = absurd h
+  module _ (maps : List (SmallMap N)) (es : Rows) (L : Path) (h : MapsAnswer maps es L) where
+    maps_formed : list_all (λ m. is_paired m.names m.nodes && list_all (has_form o answers) (nodes_in (named m))) maps ≡ true
+    maps_formed = all_hold (λ m e. MapAnswers m e L) _ (λ m e a. and_from _ _
+        (paired (names_of e.1) a.nodes (each_count o answers _ _ _ _ a.each) m.names m.nodes a.entries.0 a.entries.1) (each_held_formed o answers (named m) _ _ _ a.held _ a.each)) maps es h
 
-  -- the names of each
-  maps_names : (maps : List (SmallMap N)) (es : Rows) (L : Path) → MapsAnswer maps es L → map (λ m. keys_in (named m)) maps ≡ map (λ e. names_of e.1) es
-  maps_names [] [] L h = refl
-  maps_names (m ∷ maps) (e ∷ es) L h =
-      λ i. each_keys o answers (named m) _ _ _ h.0.held _ h.0.each i ∷ maps_names maps es L h.1 i
-  maps_names _ _ L h = absurd h
+    -- the names of each
+    maps_names : map (λ m. keys_in (named m)) maps ≡ map (λ e. names_of e.1) es
+    maps_names = same_map (λ m e. MapAnswers m e L) _ _ (λ m e a. each_keys o answers (named m) _ _ _ a.held _ a.each) maps es h
 
-  -- as many as entries
-  maps_count : (maps : List (SmallMap N)) (es : Rows) (L : Path) → MapsAnswer maps es L → length maps ≡ length (keys_in es)
-  maps_count [] [] L h = refl
-  maps_count (m ∷ maps) (e ∷ es) L h = ap suc (maps_count maps es L h.1)
-  maps_count _ _ L h = absurd h
+    -- as many as entries
+    maps_count : length maps ≡ length (keys_in es)
+    maps_count = sym (AllZip-long (λ m e. MapAnswers m e L) maps es h) ∙ sym (length-map es (λ e. e.0))
 
-  maps_placed : (maps : List (SmallMap N)) (es : Rows) (L : Path) → MapsAnswer maps es L
-      → flat_map (λ m. flat_map (stand_in o answers) (nodes_in (named m))) maps ≡ flat_map (λ e. each_placed o.world (L // e.0) (members e.1)) es
-  maps_placed [] [] L h = refl
-  maps_placed (m ∷ maps) (e ∷ es) L h = λ i. each_held_placed o answers (named m) _ _ _ h.0.held _ h.0.each i ++ maps_placed maps es L h.1 i
-  maps_placed _ _ L h = absurd h
+    maps_placed : flat_map (λ m. flat_map (stand_in o answers) (nodes_in (named m))) maps ≡ flat_map (λ e. each_placed o.world (L // e.0) (members e.1)) es
+    maps_placed = same_flat_map (λ m e. MapAnswers m e L) _ _ (λ m e a. each_held_placed o answers (named m) _ _ _ a.held _ a.each) maps es h
 
   module _ (v : Data) where
     chosen_answer : (m : SmallMap N) (e : Name × Data) (L : Path) → MapAnswers m e L → SchemaEach (flat_map (chosen_at m) (at e.0 v)) (chosen v e) (L // e.0)
@@ -146,7 +121,7 @@ module _ {K R N : Type 0} (o : Kit K R) (answers : N → Answers) where
 
     choices_answer : (maps : List (SmallMap N)) (es : Rows) (L : Path) → MapsAnswer maps es L → AnswerEach o answers (choice_answers o.world) (chosen_of maps es) (choices es v) L
     choices_answer [] [] L h = tt
-    choices_answer (m ∷ maps) (e ∷ es) L h = each_append o answers (choice_answers o.world) (flat_map (chosen_at m) (at e.0 v)) (chosen_of maps es) (map (λ c. (e.0, c.0, c.1)) (chosen v e)) (choices es v) L
+    choices_answer (m ∷ maps) (e ∷ es) L h = AllZip-append (λ n c. AnswersFor o answers (choice_answers o.world) n c L) (flat_map (chosen_at m) (at e.0 v)) (chosen_of maps es) (map (λ c. (e.0, c.0, c.1)) (chosen v e)) (choices es v)
         (under_key e.0 (flat_map (chosen_at m) (at e.0 v)) (chosen v e) L (chosen_answer m e L h.0)) (choices_answer maps es L h.1)
     choices_answer _ _ L h = absurd h
 
@@ -156,15 +131,15 @@ module _ {K R N : Type 0} (o : Kit K R) (answers : N → Answers) where
   choices_of m L = keyword.PropertyDependencies (record { dependencies = m; location = L })
 
   module _ (m : SmallMap (SmallMap N)) (maps : List (SmallMap N)) (L : Path) (d : Data) (names : m.names ≡ names_of d) (nodes : m.nodes.items ≡ maps) (stand : MapsAnswer maps (members d) L) where
-    held : named m ≡ zip (names_of d) maps
-    held = entries_zipped (names_of d) maps m (names, nodes)
+    keyed : named m ≡ zip (names_of d) maps
+    keyed = entries_zipped (names_of d) maps m (names, nodes)
 
     held_maps : nodes_in (named m) ≡ maps
-    held_maps = ap nodes_in held ∙ seconds-zip (names_of d) maps (maps_count maps (members d) L stand)
+    held_maps = ap nodes_in keyed ∙ seconds-zip (names_of d) maps (maps_count maps (members d) L stand)
 
     choices_are : IsPropertyDependencies {K = K} {R = R} L (names_of d) (map (λ e. names_of e.1) (members d)) (choices_of m L)
     choices_are = (
-      ap keys_in held ∙ firsts-zip (names_of d) maps (maps_count maps (members d) L stand),
+      ap keys_in keyed ∙ firsts-zip (names_of d) maps (maps_count maps (members d) L stand),
       ap (map (λ m. keys_in (named m))) held_maps ∙ maps_names maps (members d) L stand,
       refl,
     )
@@ -174,7 +149,7 @@ module _ {K R N : Type 0} (o : Kit K R) (answers : N → Answers) where
     means_property_dependencies ms P p =
         means_told o answers ms (choices_of m L) (codes "propertyDependencies", d) P L _ p (property_dependencies_told o.world ms d)
         (nodes_told o answers (choice_answers o.world) (choices (members d)) (choices_of m L) (chosen_nodes (named m)) L (each_asks o answers (choices_of m L) (chosen_nodes (named m)) L _ _ refl)
-        (λ v. subst (λ ds. AnswerEach o answers (choice_answers o.world) (chosen_nodes ds v) (choices (members d) v) L) (sym held) (choices_answer v maps (members d) L stand))
+        (λ v. subst (λ ds. AnswerEach o answers (choice_answers o.world) (chosen_nodes ds v) (choices (members d) v) L) (sym keyed) (choices_answer v maps (members d) L stand))
         (and_from _ _ (paired (names_of d) maps (maps_count maps (members d) L stand) m.names m.nodes names nodes)
         (ap (list_all (λ m. is_paired m.names m.nodes && list_all (has_form o answers) (nodes_in (named m)))) held_maps ∙ maps_formed maps (members d) L stand)))
         (λ own. append-nil (stand_as o answers (choices_of m L)) ∙ ap (λ l. (L, property_dependencies_form) ∷ flat_map (λ m. flat_map (stand_in o answers) (nodes_in (named m))) l) held_maps

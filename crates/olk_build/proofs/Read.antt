@@ -1,10 +1,6 @@
 -- What is wrong with a keyword itself, and the shape that is read.
-use Rattle.std.specs.Prelude.{◌≡◌, ◌||◌, Bool, true, false, cond, List, [], ◌∷◌, ◌++◌, codes}
-use Rattle.std.specs.List.{flat_map}
-use Rattle.std.specs.declared.alloc.AllocError.{AllocError}
-use Rattle.std.proofs.Common.{refl, sym, ◌∙◌, ap, subst}
+use Rattle.std.proofs.Common.{◌≡◌, ◌||◌, Bool, true, false, cond, List, [], ◌∷◌, ◌++◌, codes, refl, sym, ◌∙◌, ap, subst, true≢false}
 use Rattle.std.proofs.Math.Bool.{or-false}
-use mathlib.Core.Bool.{true≢false}
 use Rattle.serde_json.specs.Data.{Data, array}
 use Rattle.olk_spec.specs.Names.{Name, Path, is_among}
 use Rattle.olk_spec.specs.World.{World}
@@ -16,24 +12,21 @@ use Rattle.olk_spec.specs.Costs.{Cost, no_cost}
 use Rattle.olk_spec.proofs.Reading.{schema_of_read}
 use Rattle.olk_base.specs.Count.{Counts, count_leaf}
 use Rattle.olk_base.proofs.CountLemmas.{raised_zero}
-use Rattle.olk_reports.specs.declared.error.BuildError.{BuildError}
-use Rattle.olk_reports.specs.declared.error.BuildError.TheVariants.{Memory}
 use Rattle.olk_base.specs.Kit.{Kit}
-use Rattle.olk_meaning.specs.PatternProperties.{pattern_faults}
 use Rattle.olk_meaning.proofs.PatternProperties.{pattern_properties_refusals, unbuilt_together}
 use Rattle.olk_build.specs.Reading.{name_list_faults, list_faults, no_object_faults, IsFor, IsOther, IsShape, Fits, IsRead, own_faults, own_cost_of}
 use Rattle.olk_meaning.proofs.Dependencies.{dependent_required_refusals, dependencies_refusals}
-use Rattle.olk_meaning.proofs.PropertyDependencies.{property_dependencies_refusals}
+use Rattle.olk_meaning.proofs.{PropertyDependencies.property_dependencies_refusals, AdditionalProperties.additional_refusals}
 use Rattle.olk_build.specs.Refusing.{Spends, TellsOneOf, Refuses}
-use Rattle.olk_meaning.specs.AdditionalProperties.{is_rule}
 use Rattle.olk_meaning.specs.Conditions.{is_conditional_name, Known}
-use Rattle.olk_meaning.proofs.AdditionalPlaces.{additional_refusals}
-use Rattle.olk_build.specs.declared.reading.KeywordFor.{KeywordFor}
-use Rattle.olk_build.specs.declared.reading.KeywordFor.TheVariants as for
-use Rattle.olk_build.specs.declared.shape.Shape.{Shape}
-use Rattle.olk_build.specs.declared.shape.Shape.TheVariants as shape
 use Rattle.olk_build.proofs.KeywordNames.{refused_keyword}
 use Rattle.olk_build.proofs.Spending.{spends_nothing, spends_same, within_nothing, within_exactly, tells_same, refuses_memory}
+use Rattle.std.specs.{List.flat_map, declared.alloc.AllocError.AllocError}
+use Rattle.olk_reports.specs.{declared.error.BuildError.BuildError, declared.error.BuildError.TheVariants.Memory}
+use Rattle.olk_meaning.specs.{PatternProperties.pattern_faults, AdditionalProperties.is_rule}
+use Rattle.olk_build.specs.{declared.reading.KeywordFor.KeywordFor, declared.shape.Shape.Shape}
+use Rattle.olk_build.specs.declared.reading.KeywordFor.TheVariants as for
+use Rattle.olk_build.specs.declared.shape.Shape.TheVariants as shape
 
 pub spends_leaf : (a b : Counts) → b ≡ count_leaf a → Spends a b (record no_cost { leaf_places = 1 })
 spends_leaf a b e = e ∙ rw (raised_zero a.compiled, raised_zero a.made, raised_zero a.asked, raised_zero a.unfinished) refl

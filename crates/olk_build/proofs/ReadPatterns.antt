@@ -1,37 +1,67 @@
--- The patterns of `patternProperties`, and how many matchers a table that is made of them asks.
-use Rattle.std.specs.Prelude.{◌≡◌, ◌+◌, ℕ, Bool, true, false, cond, List, [], ◌∷◌, ◌++◌, Vec, map, length, codes}
-use Rattle.std.specs.List.{flat_map}
-use Rattle.std.specs.declared.alloc.Global.{Global}
-use Rattle.std.proofs.Common.{refl, sym, ◌∙◌, ap, subst, arith}
-use Rattle.std.proofs.lemmas.List.Sums.{sum_by-cons}
-use Rattle.serde_json.specs.Data.{Data}
-use Rattle.olk_spec.specs.Names.{Name, Path, filter_once, put_if}
-use Rattle.olk_spec.specs.Schemas.{members, is_object}
-use Rattle.olk_spec.specs.Meanings.{is_open}
+-- The patterns of `patternProperties`, one after another, and how many matchers a table that is made of them asks.
+use Rattle.std.proofs.Common.{◌≡◌, ◌⊎◌, Bool, true, false, not, cond, ◌&&◌, Option, Some, None, is_none, List, [], ◌∷◌, ◌++◌, ◌+◌, ℕ, Vec, map, length, codes, refl, sym, ◌∙◌, subst, inl, inr, ap}
+use Rattle.std.proofs.Common.{arith, true≢false, Global}
+use Rattle.serde_json.specs.Data.{Data, string}
+use Rattle.olk_spec.specs.Names.{Name, Text, Path, ◌//◌, put_if, filter_once}
+use Rattle.olk_spec.specs.Literals.{Literal, literal}
 use Rattle.olk_spec.specs.Costs.{Cost, no_cost}
-use Rattle.olk_base.specs.Count.{Counts}
-use Rattle.olk_base.specs.Compiled.{pattern_costs}
-use Rattle.olk_base.specs.Kit.{Kit}
-use Rattle.olk_base.specs.declared.pattern.CompiledPattern.{CompiledPattern}
+use Rattle.olk_base.specs.Count.{Counts, count_made}
+use Rattle.olk_base.specs.Compiled.{pattern_builds, count_open, pattern_costs}
+use Rattle.olk_base.proofs.CountLemmas.{raised_zero}
 use Rattle.olk_reports.specs.declared.error.BuildError.{BuildError}
+use Rattle.olk_meaning.specs.PatternProperties.{pattern_faults, matcher_made}
+use Rattle.olk_build.specs.Refusing.{Spends, SpendsWithin}
+use Rattle.olk_build.proofs.Spending.{spends_nothing, within_nothing, within_exactly, tells_same, SoFar}
+use Rattle.olk_build.specs.Reading.{ArePatterns, PatternsAreRead, RefusesPatterns, IsRead, RefusesKeyword}
+use Rattle.std.proofs.lemmas.List.Sums.{sum_by-cons}
+use Rattle.olk_spec.specs.Schemas.{members, is_object}
 use Rattle.olk_meaning.specs.Conditions.{Known}
-use Rattle.olk_meaning.specs.PatternProperties.{pattern_faults}
 use Rattle.olk_meaning.proofs.PatternProperties.{made_together}
 use Rattle.olk_tree.specs.Tables.{how_many_cost, count_asks, AsksAtMost}
-use Rattle.olk_build.specs.Refusing.{Spends, SpendsWithin}
-use Rattle.olk_build.specs.Reading.{ArePatterns, PatternsAreRead, RefusesPatterns, IsRead, RefusesKeyword}
-use Rattle.olk_build.specs.declared.shape.Shape.TheVariants as shape
 use Rattle.olk_build.proofs.Read.{own_for, object_is_right}
+use Rattle.std.specs.{Option.option_map_or, List.flat_map}
+use Rattle.olk_spec.specs.{World.World, Faults.Regex, Malformed.refusal, Meanings.is_open}
+use Rattle.olk_base.specs.{Kit.Kit, declared.pattern.CompiledPattern.CompiledPattern}
+use Rattle.olk_build.specs.declared.shape.Shape.TheVariants as shape
 use Rattle.olk_build.specs.declared.reading.KeywordFor.TheVariants as for
-use Rattle.olk_build.proofs.Spending.{tells_same}
+
+-- ---- one pattern
+
+module _ (W : World) (t : Text) where
+  pub refused_pattern : (L : Path) → pattern_builds W t ≡ false → pattern_faults W L t ≡ refusal Regex (string t) (L // t) ∷ []
+  refused_pattern L h = by (literal t) (W.builds t) h
+    where
+      by : (l : Option Literal) (b : Bool) → option_map_or (λ x. true) l b ≡ false → put_if (is_none l && not b) (refusal Regex (string t) (L // t)) [] ≡ refusal Regex (string t) (L // t) ∷ []
+      by None false e = refl
+      by _ _ e = absurd (true≢false e)
+
+  spends_made : (a b : Counts) → b ≡ count_made a → Spends a b (record no_cost { pattern_places = 1 })
+  spends_made a b e = e ∙ rw (raised_zero a.compiled, raised_zero a.leaves, raised_zero a.asked, raised_zero a.unfinished) refl
+
+  spends_open : (a b : Counts) → b ≡ count_open t a → Spends a b (matcher_made W t)
+  spends_open a b e = by (literal t) e
+    where
+      by : (l : Option Literal) → b ≡ option_map_or (λ x. a) l (count_made a) → Spends a b (cond (is_none l) (record no_cost { pattern_places = 1 }) no_cost)
+      by None q = spends_made a b q
+      by (Some l) q = subst (λ x. Spends a x no_cost) (sym q) (spends_nothing a)
+
+  pub spends_open_at_most : (a b : Counts) → (b ≡ a) ⊎ (b ≡ count_open t a) → SpendsWithin a b (matcher_made W t)
+  spends_open_at_most a b (inl e) = subst (λ x. SpendsWithin a x (matcher_made W t)) (sym e) within_nothing
+  spends_open_at_most a b (inr e) = within_exactly (spends_open a b e)
+
+-- ---- one after another
+
+-- the patterns so far are read
+abbrev pub PatternsSoFar : {K R : Type 0} → Kit K R → Path → List (Name × Data) → Counts → List (CompiledPattern R) → List (Name × Data) → Counts → Type 0
+PatternsSoFar o L all a ps left m = SoFar (λ e. pattern_faults o.world L e.0) (λ e. matcher_made o.world e.0) (λ ps es. ArePatterns o ps es) all a ps left m
+
+-- ---- the patterns of `patternProperties`, and how many matchers a table that is made of them asks
 
 -- each that costs is one that is open
 module _ {K R : Type 0} (o : Kit K R) where
   pub open_cost : (ps : List (CompiledPattern R)) (es : List (Name × Data)) → ArePatterns o ps es → how_many_cost o.costs ps ≡ length (filter_once (is_open o.world) (map (λ e. e.0) es))
   open_cost [] [] h = refl
-  open_cost (p ∷ ps) (e ∷ es) h =
-      sum_by-cons (λ q. cond (pattern_costs o.costs q) 1 0) p ps
-      ∙ (λ i. cond (h.0.costs i) 1 0 + open_cost ps es h.1 i)
+  open_cost (p ∷ ps) (e ∷ es) h = sum_by-cons (λ q. cond (pattern_costs o.costs q) 1 0) p ps ∙ (λ i. cond (h.0.costs i) 1 0 + open_cost ps es h.1 i)
       ∙ by (is_open o.world e.0)
     where
       by : (b : Bool) → cond b 1 0 + length (filter_once (is_open o.world) (map (λ x. x.0) es)) ≡ length (put_if b e.0 (filter_once (is_open o.world) (map (λ x. x.0) es)))

@@ -1,14 +1,10 @@
 -- Values that are an array, or none, or no object.
-use Rattle.std.specs.Prelude.{◌≡◌, false, Vec, String}
-use Rattle.std.specs.declared.alloc.Global.{Global}
-use Rattle.std.specs.BTreeMap.{BTreeMap}
-use Rattle.std.proofs.Common.{ap, ◌∙◌, subst, rules}
-use Rattle.serde_json.specs.Data.{array}
+use Rattle.std.proofs.Common.{◌≡◌, false, Vec, String, Global, BTreeMap, ap, ◌∙◌, subst, rules}
 use Rattle.serde_json.specs.View.{view, items_view}
 use Rattle.serde_json.specs.declared.value.Value.{Value, Array, Object, out-Value, roll-Value, the_lemmas}
-use Rattle.serde_json.specs.declared.value.Value.TheOpen.{Value-F}
 use Rattle.serde_json.specs.declared.value.Value.TheVariants.{rolls-Array, rolls-Object}
 use Rattle.olk_spec.specs.Schemas.{is_array, is_object}
+use Rattle.serde_json.specs.{Data.array, declared.value.Value.TheOpen.Value-F}
 
 pub rolled : (v : Value) → roll-Value (out-Value v) ≡ v
 rolled v = search (rules, the_lemmas)

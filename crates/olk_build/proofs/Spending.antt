@@ -1,19 +1,19 @@
--- What is spent and told, one thing after another.
-use Rattle.std.specs.Prelude.{◌≡◌, List, ◌∷◌, ◌++◌, Contains, Result, IfErr, IsErrAnd}
+-- What is spent and told, one thing after another: each is built, or refused, or memory is wanted.
+use Rattle.std.proofs.Common.{◌≡◌, List, ◌∷◌, ◌++◌, Contains, Result, IfErr, IsErrAnd, [], refl, sym, ◌∙◌, ap, subst, arith, append-nil, append_assoc}
 use Rattle.std.specs.declared.alloc.AllocError.{AllocError}
-use Rattle.std.specs.List.{flat_map}
-use Rattle.std.proofs.Common.{refl, sym, ◌∙◌, ap, subst, arith}
-use Rattle.std.proofs.lemmas.Grind.{flat_map-append}
+use Rattle.std.specs.List.{flat_map, AllZip}
 use Rattle.std.proofs.lemmas.List.Elements.{Contains-append_left, Contains-append_right}
-use Rattle.std.proofs.lemmas.Result.{err_from_is_err_and}
 use Rattle.olk_spec.specs.Faults.{Fault}
 use Rattle.olk_spec.specs.Costs.{Cost, no_cost, ◌⊕◌, total_cost, one_place}
 use Rattle.olk_base.specs.Count.{Counts, raised_by, count_compiled}
 use Rattle.olk_base.proofs.CountLemmas.{raised_by_none, raised_by_sum, raised_zero}
 use Rattle.olk_reports.specs.declared.error.BuildError.{BuildError}
 use Rattle.olk_reports.specs.declared.error.BuildError.TheVariants.{Refused, Memory}
-use Rattle.olk_build.specs.Refusing.{counted, Spends, IsAtMost, SpendsWithin, TellsOneOf, Refuses}
-use Rattle.olk_spec.proofs.CostSums.{sum_first, total_cost-append}
+use Rattle.olk_build.specs.Refusing.{counted, Spends, IsAtMost, SpendsWithin, TellsOneOf, Refuses, ArePaid}
+use Rattle.olk_spec.proofs.CostSums.{sum_first, total_cost-append, sum_last}
+use Rattle.std.proofs.{lemmas.Grind.flat_map-append, lemmas.Result.err_from_is_err_and, lemmas.Slice.Zip.all_zipped_more}
+
+-- ---- what is spent and told, one thing after another
 
 at_most : (c d : Cost) → IsAtMost c (c ⊕ d)
 at_most c d = record { places = omega arith; leaf_places = omega arith; pattern_places = omega arith; table_asks = omega arith }
@@ -27,8 +27,7 @@ at_most_through b c d h k =
     record {
       places = omega (arith, h.places, k.places);
       leaf_places = omega (arith, h.leaf_places, k.leaf_places);
-      pattern_places = omega
-          (arith, h.pattern_places, k.pattern_places);
+      pattern_places = omega (arith, h.pattern_places, k.pattern_places);
       table_asks = omega (arith, h.table_asks, k.table_asks);
     }
 
@@ -104,6 +103,59 @@ module _ {X : Type 0} (f : X → List Fault) (c : X → Cost) (all : List X) (a 
   }
 
   pub memory_among : (done rest : List X) {m : AllocError} (e : BuildError) → e ≡ Memory m → done ++ rest ≡ all → Spends a b (total_cost c done) → Refuses (flat_map f all) (total_cost c all) a b e
-  memory_among done rest e q p h = refuses_memory
-      (within_same (sym (total_cost-append c done rest) ∙ ap (total_cost c) p)
+  memory_among done rest e q p h = refuses_memory (within_same (sym (total_cost-append c done rest) ∙ ap (total_cost c) p)
       (within_before a b (total_cost c done) (total_cost c rest) (within_exactly h))) e q
+
+-- ---- going through things one after the other: each is built, or refused, or memory is wanted
+
+-- what is wrong with a thing, what it costs, and what stands for things
+module _ {X N : Type 0} (wrong : X → List Fault) (costs : X → Cost) (Stand : List N → List X → Type 0) (all : List X) (a : Counts) where
+  -- those that are done are paid, and the others are left
+  pub record SoFar (ns : List N) (left : List X) (m : Counts) : Type 0 where
+    pub done : List X
+    pub built : ArePaid wrong costs Stand ns done a m
+    pub whole : done ++ left ≡ all
+
+module _ {X N : Type 0} {wrong : X → List Fault} {costs : X → Cost} {Stand : List N → List X → Type 0} {all : List X} {a : Counts} {ns : List N} {left : List X} where
+  pub none_so_far : Stand ns [] → left ≡ all → SoFar wrong costs Stand all a ns left a
+  none_so_far h e = record { done = []; built = record { stand = h; clean = refl; spends = spends_nothing a }; whole = e }
+
+  module _ {m : Counts} (h : SoFar wrong costs Stand all a ns left m) where
+    pub all_so_far : left ≡ [] → ArePaid wrong costs Stand ns all a m
+    all_so_far e = subst (λ xs. ArePaid wrong costs Stand ns xs a m) (sym (append-nil h.done) ∙ ap (λ l. h.done ++ l) (sym e) ∙ h.whole) h.built
+
+    pub memory_so_far : {w : AllocError} (e : BuildError) → e ≡ Memory w → Refuses (flat_map wrong all) (total_cost costs all) a m e
+    memory_so_far e q = memory_among wrong costs all a m h.done left e q h.whole h.built.spends
+
+    -- the next of them
+    module _ {x : X} {rest : List X} (next : left ≡ x ∷ rest) where
+      there : h.done ++ x ∷ rest ≡ all
+      there = ap (λ l. h.done ++ l) (sym next) ∙ h.whole
+
+      behind : (h.done ++ x ∷ []) ++ rest ≡ all
+      behind = append_assoc h.done (x ∷ []) rest ∙ there
+
+      pub refused_so_far : {b : Counts} {e : BuildError} → Refuses (wrong x) (costs x) m b e → Refuses (flat_map wrong all) (total_cost costs all) a b e
+      refused_so_far {b} {e} r = refuses_among wrong costs all a b h.done x rest m e there h.built.spends r
+
+      module _ {b : Counts} (s : Spends m b (costs x)) where
+        spent : Spends a b (total_cost costs (h.done ++ x ∷ []))
+        spent = spends_same a b _ _ (sym (total_cost-append costs h.done (x ∷ []) ∙ ap (λ c. total_cost costs h.done ⊕ c) (sum_last (costs x))))
+            (spends_append a m b (total_cost costs h.done) (costs x) h.built.spends s)
+
+        pub one_more_so_far : {new : List N} → Stand new (h.done ++ x ∷ []) → wrong x ≡ [] → SoFar wrong costs Stand all a new rest b
+        one_more_so_far stand right = record {
+          done = h.done ++ x ∷ [];
+          built = record { stand = stand; clean = flat_map-append wrong h.done (x ∷ []) ∙ (λ i. h.built.clean i ++ (right i ++ [])); spends = spent };
+          whole = behind;
+        }
+
+        -- it is built, and then memory is wanted
+        pub memory_past : {w : AllocError} (e : BuildError) → e ≡ Memory w → Refuses (flat_map wrong all) (total_cost costs all) a b e
+        memory_past e q = memory_among wrong costs all a b (h.done ++ x ∷ []) rest e q behind spent
+
+-- the next is paid, and one thing stands for it
+module _ {X N : Type 0} (R : N → X → Type 0) {wrong : X → List Fault} {costs : X → Cost} {all : List X} {a : Counts} {ns : List N} {left : List X} {m : Counts} (h : SoFar wrong costs (λ ns xs. AllZip R ns xs) all a ns left m) where
+  pub one_more_pair : {x : X} {rest : List X} {b : Counts} {n : N} {new : List N} → left ≡ x ∷ rest → new ≡ ns ++ n ∷ [] → Spends m b (costs x) → R n x → wrong x ≡ []
+      → SoFar wrong costs (λ ns xs. AllZip R ns xs) all a new rest b
+  one_more_pair {x} {n = n} next q s r right = one_more_so_far h next s (subst (λ l. AllZip R l (h.done ++ x ∷ [])) (sym q) (all_zipped_more R ns h.done n x h.built.stand r)) right

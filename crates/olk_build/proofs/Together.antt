@@ -1,46 +1,24 @@
 -- What validators mean together.
-use Rattle.olk_meaning.proofs.Rows.{Rows}
-use Rattle.std.specs.Prelude.{◌≡◌, ◌≤◌, ◌+◌, ℕ, Some, Bool, true, false, ◌&&◌, List, [], ◌∷◌, ◌++◌, IsPermutation}
+use Rattle.std.proofs.Common.{◌≡◌, ◌≤◌, ◌+◌, ℕ, Some, Bool, true, false, ◌&&◌, List, [], ◌∷◌, ◌++◌, IsPermutation, refl, sym, ◌∙◌, ap, subst, arith, subst₂, append-nil}
 use Rattle.std.specs.List.{flat_map}
-use Rattle.std.proofs.Common.{refl, sym, ◌∙◌, ap, subst, arith}
-use mathlib.Core.Path.{subst₂}
-use Rattle.std.proofs.lemmas.List.{append-nil, map-append}
-use Rattle.std.proofs.lemmas.List.Folds.{list_all-append}
-use Rattle.std.proofs.lemmas.List.Sorted.{sum_by-IsPermutation}
 use Rattle.std.proofs.lemmas.List.Sums.{sum_by-append, sum_by-cons}
-use Rattle.std.proofs.lemmas.Grind.{flat_map-append}
-use Rattle.std.proofs.Math.Bool.{and_assoc, and-true}
+use Rattle.std.proofs.{Math.Bool.and-true, lemmas.List.map-append, lemmas.List.Folds.list_all-append, lemmas.List.Sorted.sum_by-IsPermutation, lemmas.Grind.flat_map-append}
 use Rattle.serde_json.specs.Data.{Data, Members}
 use Rattle.olk_spec.specs.Names.{Name, Path, ◌//◌, lookup_name, is_among}
 use Rattle.olk_spec.specs.Faults.{◌∼◌, like_empty, like_through}
-use Rattle.olk_spec.specs.Schemas.{listed}
-use Rattle.olk_spec.specs.Malformed.{has_repeat}
 use Rattle.olk_spec.proofs.Order.{∼_same, ∼_append, ∼_permuted}
-use Rattle.olk_spec.proofs.Truth.{and_from}
 use Rattle.olk_base.specs.Kit.{Kit}
-use Rattle.olk_tree.specs.Questions.{Question, every, of_asked}
-use Rattle.olk_tree.specs.Validators.{validator_means}
-use Rattle.olk_tree.specs.Answers.{Answers}
+use Rattle.olk_tree.specs.{Questions.of_asked, Validators.validator_means, Answers.Answers, declared.node.KeywordOver.KeywordOver}
 use Rattle.olk_meaning.specs.Conditions.{is_restricted}
 use Rattle.olk_meaning.specs.Plans.{Planned, head, tells_members, claims}
 use Rattle.olk_meaning.specs.Members.{member_accepts, member_asks, member_report, StandsAlone, StandsByItself}
-use Rattle.olk_spec.proofs.Each.{Each}
-use Rattle.olk_build.specs.Holding.{all_malformed, which, ask, find, Covers}
+use Rattle.olk_build.specs.Standing.{all_malformed, which, ask, find, Covers}
 use Rattle.olk_build.specs.Making.{KeywordMeans, KeywordsMean}
-use Rattle.olk_tree.specs.declared.node.KeywordOver.{KeywordOver}
-use Rattle.olk_meaning.proofs.Claims.{list_all-permuted}
-use Rattle.olk_meaning.proofs.Conditions.{MeansNothing}
-use Rattle.olk_meaning.proofs.Heads.{names_of, claims_are_all}
-
--- ---- questions one after another
-
-every-append : {X : Type 0} (f : X → Question) (xs ys : List X) (u : Bool) → ((every f (xs ++ ys)).accepts u ≡ ((every f xs).accepts u && (every f ys).accepts u))
-    × ((every f (xs ++ ys)).asks of_asked u ≡ (every f xs).asks of_asked u + (every f ys).asks of_asked u)
-every-append f [] ys u = (refl, omega arith)
-every-append f (x ∷ xs) ys u = (
-  ap (λ b. (f x).accepts u && b) (every-append f xs ys u).0 ∙ sym (and_assoc ((f x).accepts u) ((every f xs).accepts u) ((every f ys).accepts u)),
-  omega (arith, (every-append f xs ys u).1),
-)
+use Rattle.olk_meaning.proofs.Listed.{names_of, claims_are_all}
+use Rattle.olk_meaning.proofs.{Rows.Rows, Claims.list_all-permuted, Conditions.MeansNothing}
+use Rattle.olk_spec.specs.{Schemas.listed, Malformed.has_repeat}
+use Rattle.olk_spec.proofs.{Truth.and_from, Each.Each}
+use Rattle.olk_tree.proofs.Questions.{every-append}
 
 module _ {K R N : Type 0} (o : Kit K R) (answers : N → Answers) where
   -- ---- a member by its name
@@ -105,10 +83,10 @@ module _ {K R N : Type 0} (o : Kit K R) (answers : N → Answers) where
         → KeywordsMean o answers ms ls more fs P → KeywordsMean o answers ms new (rows ++ more) (es ++ fs) P
     more_keywords ks ls new rows more es fs q h k = subst (λ x. KeywordsMean o answers ms x (rows ++ more) (es ++ fs) P) (sym q) record {
       covers = record {
-        verdict = λ u v. (every-append (λ k. validator_means o (λ n. (answers n).means) k v) ks ls u).0 ∙ (λ i. h.covers.verdict u v i && k.covers.verdict u v i) ∙ sym (list_all-append _ rows more);
+        verdict = λ u v. ap (λ q. q.accepts u) (every-append (λ k. validator_means o (λ n. (answers n).means) k v) ks ls) ∙ (λ i. h.covers.verdict u v i && k.covers.verdict u v i) ∙ sym (list_all-append _ rows more);
         asks_within = λ u v.
             let f : Name × Data → ℕ = λ x. member_asks o.world ms x (which o ms x) u v in
-            let x = (every-append (λ k. validator_means o (λ n. (answers n).means) k v) ks ls u).1 in
+            let x = ap (λ q. q.asks of_asked u) (every-append (λ k. validator_means o (λ n. (answers n).means) k v) ks ls) in
             let s = sum_by-append f rows more in
             let p = h.covers.asks_within u v in
             let q = k.covers.asks_within u v in

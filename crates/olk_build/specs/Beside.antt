@@ -1,15 +1,7 @@
 -- What a keyword takes from its neighbours, and what is built of these.
 use Rattle.std.specs.Prelude.{◌≡◌, ◌*◌, ◌&&◌, ℕ, Bool, true, false, cond, List, [], ◌∷◌, ◌++◌, map, length, zip, codes, bytes_eq, Option, Some, None, option_to_list, Result, IfOk, IfErr, Vec}
-use Rattle.std.specs.declared.alloc.Global.{Global}
-use Rattle.std.specs.Option.{IfSome}
 use Rattle.serde_json.specs.Data.{Data, Members}
 use Rattle.olk_spec.specs.Names.{Name, Path, ◌//◌, lookup_name}
-use Rattle.olk_spec.specs.Schemas.{listed}
-use Rattle.olk_spec.specs.Malformed.{has_repeat}
-use Rattle.olk_base.specs.Count.{Counts}
-use Rattle.olk_base.specs.Kit.{Kit}
-use Rattle.olk_base.specs.declared.pattern.CompiledPattern.{CompiledPattern}
-use Rattle.olk_spec.specs.World.{Says}
 use Rattle.olk_reports.specs.declared.error.BuildError.{BuildError}
 use Rattle.olk_meaning.specs.AdditionalProperties.{rows_at}
 use Rattle.olk_meaning.specs.Conditions.{Known, known_of, is_condition}
@@ -17,18 +9,16 @@ use Rattle.olk_meaning.specs.Plans.{Planned, plan_of}
 use Rattle.olk_build.specs.Refusing.{Spends, Refuses}
 use Rattle.olk_build.specs.Reading.{reads_of, IsShape, Fits}
 use Rattle.olk_build.specs.declared.shape.Shape.{Shape}
-use Rattle.olk_build.specs.declared.shape.Shape.TheVariants as shape
-use Rattle.olk_tree.specs.Answers.{Answers}
 use Rattle.olk_tree.specs.Tables.{patterns_of, IsTableOf, how_many_cost}
-use Rattle.olk_tree.specs.declared.node.KeywordOver.{KeywordOver}
-use Rattle.olk_build.specs.Holding.{all_malformed}
-use Rattle.olk_build.specs.Standing.{StandAt, PartStands, Fills, IsLast, is_taken, is_if_shape, is_restriction_shape, CasesStand, BesideStands}
-use Rattle.olk_build.specs.Making.{IsMadeOf}
-use Rattle.olk_build.specs.declared.part.Part.{Part}
-use Rattle.olk_build.specs.declared.part.DeclaredNodes.{DeclaredNodes}
-use Rattle.olk_build.specs.declared.part.Patterns.{Patterns}
-use Rattle.olk_build.specs.declared.part.Taken.{Taken}
+use Rattle.olk_build.specs.Standing.{all_malformed, StandAt, PartStands, Fills, IsLast, is_taken, is_if_shape, is_restriction_shape, CasesStand, BesideStands}
 use Rattle.olk_build.specs.Building.{IsMember, all_cost, SpendsBefore}
+use Rattle.std.specs.{declared.alloc.Global.Global, Option.IfSome}
+use Rattle.olk_spec.specs.{Schemas.listed, Malformed.has_repeat, World.Says}
+use Rattle.olk_base.specs.{Count.Counts, Kit.Kit, declared.pattern.CompiledPattern.CompiledPattern}
+use Rattle.olk_tree.specs.{Answers.Answers, declared.node.KeywordOver.KeywordOver}
+use Rattle.olk_build.specs.{Making.IsMadeOf, declared.part.Part.Part, declared.part.DeclaredNodes.DeclaredNodes, declared.part.Patterns.Patterns}
+use Rattle.olk_build.specs.declared.part.Taken.{Taken}
+use Rattle.olk_build.specs.declared.shape.Shape.TheVariants as shape
 
 -- the two neighbours that the keyword of the name k takes: `if` takes `then` and `else`, and `additionalProperties` the keywords that tell members by their names
 abbrev pub takes : Planned → Name → Option (Name × Name)

@@ -1,29 +1,27 @@
 -- What building a node, or a part of one, promises.
-use Rattle.std.specs.Prelude.{◌≡◌, Bool, true, false, not, List, [], ◌++◌, Some}
+use Rattle.std.specs.Prelude.{◌≡◌, Bool, true, false, not, List, [], ◌++◌, Some, ◌∷◌}
 use Rattle.std.specs.List.{flat_map}
 use Rattle.serde_json.specs.Data.{Data, Members}
 use Rattle.olk_spec.specs.Names.{Name, Path, ◌//◌, lookup_name, filter_once}
 use Rattle.olk_spec.specs.Faults.{Fault}
 use Rattle.olk_spec.specs.Vocabulary.{Keyword, pattern_properties, keyword_named}
-use Rattle.olk_spec.specs.Schemas.{listed, members, is_array}
+use Rattle.olk_spec.specs.Schemas.{listed, members, is_array, numbered}
 use Rattle.olk_spec.specs.Costs.{Cost, no_cost, cost, total_cost, ◌⊕◌}
-use Rattle.olk_spec.specs.Malformed.{malformations_at}
-use Rattle.olk_base.specs.Count.{Counts}
+use Rattle.olk_spec.specs.Malformed.{malformations_at, items_of_array}
 use Rattle.olk_reports.specs.declared.error.BuildError.{BuildError}
-use Rattle.olk_base.specs.Kit.{Kit}
-use Rattle.olk_base.specs.declared.pattern.CompiledPattern.{CompiledPattern}
-use Rattle.olk_tree.specs.Answers.{Answers}
-use Rattle.olk_tree.specs.Places.{Stands}
 use Rattle.olk_meaning.specs.Conditions.{Known, known_of, IsKnown}
 use Rattle.olk_meaning.specs.Members.{member_malformations, member_cost}
 use Rattle.olk_meaning.specs.PatternProperties.{names_asked}
-use Rattle.olk_build.specs.Refusing.{Spends, Refuses}
+use Rattle.olk_build.specs.Refusing.{Spends, Refuses, ArePaid}
 use Rattle.olk_build.specs.Reading.{patterns_wrong, patterns_cost}
-use Rattle.olk_build.specs.Holding.{StandEach, StandInner, which, all_malformed}
-use Rattle.olk_build.specs.Standing.{EntriesStand}
-use Rattle.olk_build.specs.Chooser.{AreChosen}
-use Rattle.olk_build.specs.Making.{ObjectIsMade}
-use Rattle.olk_tree.specs.declared.node.KeywordOver.{KeywordOver}
+use Rattle.olk_build.specs.Standing.{StandEach, StandInner, which, all_malformed, EntriesStand, StandAt, PartsStand}
+use Rattle.olk_build.specs.declared.shape.ReadPlaces.{ReadPlaces}
+use Rattle.olk_build.specs.declared.shape.ReadPlaces.TheVariants.{Nothing, Itself, Entries, SchemaEntries, InnerEntries, Branches}
+use Rattle.olk_base.specs.{Count.Counts, Kit.Kit, declared.pattern.CompiledPattern.CompiledPattern}
+use Rattle.olk_tree.specs.{Answers.Answers, Places.Stands, declared.node.KeywordOver.KeywordOver}
+use Rattle.olk_build.specs.{Chooser.AreChosen, Making.ObjectIsMade, declared.part.Part.Part}
+
+-- ---- what building a node, or a part of one, promises
 
 -- the entries that are no lists
 abbrev pub no_lists : List (Name × Data) → List (Name × Data)
@@ -61,10 +59,8 @@ module _ {K R : Type 0} (o : Kit K R) where
   abbrev pub each_cost : List (Name × Data) → Cost
   each_cost es = total_cost (λ e. cost o.world e.1) es
 
-  pub record AreBuilt {N : Type 0} (answers : N → Answers) (ns : List N) (es : List (Name × Data)) (P : Path) (old new : Counts) : Type 0 where
-    pub stand : StandEach o answers ns es P
-    pub clean : each_malformed P es ≡ []
-    pub spends : Spends old new (each_cost es)
+  abbrev pub AreBuilt : {N : Type 0} → (N → Answers) → List N → List (Name × Data) → Path → Counts → Counts → Type 0
+  AreBuilt answers ns es P old new = ArePaid (λ e. malformations_at o.world e.1 (P // e.0)) (λ e. cost o.world e.1) (λ ns es. StandEach o answers ns es P) ns es old new
 
   abbrev pub RefusesEach : List (Name × Data) → Path → Counts → Counts → BuildError → Type 0
   RefusesEach es P old new e = Refuses (each_malformed P es) (each_cost es) old new e
@@ -87,10 +83,8 @@ module _ {K R : Type 0} (o : Kit K R) where
   abbrev pub inner_cost : List (Name × Data) → Cost
   inner_cost es = total_cost (λ e. each_cost (members e.1)) es
 
-  pub record InnerAreBuilt {N : Type 0} (answers : N → Answers) (ns : List N) (es : List (Name × Data)) (P : Path) (old new : Counts) : Type 0 where
-    pub stand : StandInner o answers ns es P
-    pub clean : inner_malformed P es ≡ []
-    pub spends : Spends old new (inner_cost es)
+  abbrev pub InnerAreBuilt : {N : Type 0} → (N → Answers) → List N → List (Name × Data) → Path → Counts → Counts → Type 0
+  InnerAreBuilt answers ns es P old new = ArePaid (λ e. each_malformed (P // e.0) (members e.1)) (λ e. each_cost (members e.1)) (λ ns es. StandInner o answers ns es P) ns es old new
 
   abbrev pub RefusesInner : List (Name × Data) → Path → Counts → Counts → BuildError → Type 0
   RefusesInner es P old new e = Refuses (inner_malformed P es) (inner_cost es) old new e
@@ -129,3 +123,40 @@ module _ {K R : Type 0} (o : Kit K R) where
 
   abbrev pub RefusesPart : Known → Name → Data → Path → Counts → Counts → BuildError → Type 0
   RefusesPart c k d at old new e = (ms : Members) (P : Path) → at ≡ P // k → IsKnown c ms k → Refuses (member_malformations o.world ms (k, d) (which o ms (k, d)) P) (member_cost o.world ms (k, d) (which o ms (k, d))) old new e
+
+-- ---- what the places of a keyword and the parts of a schema object are built of
+
+module _ {K R : Type 0} (o : Kit K R) where
+  abbrev pub places_malformed : ReadPlaces → Data → Path → List Fault
+  places_malformed Nothing d L = []
+  places_malformed Itself d L = malformations_at o.world d L
+  places_malformed Entries d L = each_malformed o L (members d)
+  places_malformed SchemaEntries d L = each_malformed o L (no_lists (members d))
+  places_malformed InnerEntries d L = inner_malformed o L (members d)
+  places_malformed Branches d L = each_malformed o L (numbered (items_of_array d))
+
+  abbrev pub places_cost : ReadPlaces → Data → Cost
+  places_cost Nothing d = no_cost
+  places_cost Itself d = cost o.world d
+  places_cost Entries d = each_cost o (members d)
+  places_cost SchemaEntries d = each_cost o (no_lists (members d))
+  places_cost InnerEntries d = inner_cost o (members d)
+  places_cost Branches d = each_cost o (numbered (items_of_array d))
+
+  abbrev pub RefusesPlaces : ReadPlaces → Data → Path → Counts → Counts → BuildError → Type 0
+  RefusesPlaces r d L old new e = Refuses (places_malformed r d L) (places_cost r d) old new e
+
+  pub record PlacesAreBuilt {N : Type 0} (answers : N → Answers) (r : ReadPlaces) (ns : List N) (d : Data) (L : Path) (old new : Counts) : Type 0 where
+    pub stand : StandAt o answers r ns d L
+    pub clean : places_malformed r d L ≡ []
+    pub spends : Spends old new (places_cost r d)
+
+  -- parts for the members es of the schema object with the members ms at P
+  pub record PartsAreBuilt {N : Type 0} (answers : N → Answers) (ms : Members) (ps : List (Part K R N)) (es : List (Name × Data)) (P : Path) (old new : Counts) : Type 0 where
+    pub stand : PartsStand o answers (known_of ms) ps es P
+    pub clean : all_malformed o ms P es ≡ []
+    pub spends : SpendsBefore o ms es old new
+
+  -- the part of the keyword of the name k and the value d at its place, in each object of whose neighbours c is known as far as the keyword has to know them
+  abbrev pub IsPart : {N : Type 0} → (N → Answers) → Part K R N → Known → Name → Data → Path → Counts → Counts → Type 0
+  IsPart answers p c k d L old new = (ms : Members) (P : Path) → L ≡ P // k → IsKnown c ms k → PartsAreBuilt answers ms (p ∷ []) ((k, d) ∷ []) P old new

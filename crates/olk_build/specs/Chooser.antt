@@ -1,14 +1,17 @@
 -- Which validator stands for a member of a schema object, by its name, its value and its neighbours.
-use Rattle.std.specs.Prelude.{◌≡◌, ⊤, ◌||◌, ℕ, Bool, true, false, not, List, [], ◌∷◌, map, length, codes, Option, Some, None, is_some, option_map}
+use Rattle.std.specs.Prelude.{◌≡◌, ◌||◌, ℕ, Bool, true, false, not, List, map, length, codes, Option, Some, None, is_some, option_map}
+use Rattle.std.specs.List.{AllZip}
 use Rattle.serde_json.specs.Data.{Data, Members}
 use Rattle.olk_spec.specs.Names.{Name, Path, ◌//◌, lookup_name, filter_once}
 use Rattle.olk_spec.specs.Schemas.{listed, members, is_object, is_truth}
-use Rattle.olk_spec.specs.Vocabulary.{Keyword, properties, pattern_properties, additional_properties, required, dependent_required, dependent_schemas, dependencies, property_names, property_dependencies, all_of, any_of, one_of, not_keyword, if_keyword, then_keyword, else_keyword, leaf, unread}
+use Rattle.olk_spec.specs.Vocabulary.{Keyword, properties, pattern_properties, additional_properties, required, dependent_required, dependent_schemas, dependencies, property_names}
+use Rattle.olk_spec.specs.Vocabulary.{property_dependencies, all_of, any_of, one_of, not_keyword, if_keyword, then_keyword, else_keyword, leaf, unread}
 use Rattle.olk_meaning.specs.Conditions.{is_condition, is_restricted}
 use Rattle.olk_meaning.specs.Plans.{plan_of}
 use Rattle.olk_tree.specs.declared.node.KeywordOver.{KeywordOver}
+use Rattle.olk_build.specs.Forms.{IsAllOf, IsAnyOf, IsOneOf, IsNot, IsRequired, IsIf, IsProperties, IsPatternProperties, IsAdditionalProperties, IsDependencies, IsDependentRequired, IsDependentSchemas}
+use Rattle.olk_build.specs.Forms.{IsPropertyNames, IsPropertyNamesFalse, IsPropertyDependencies}
 use Rattle.olk_tree.specs.declared.node.KeywordOver.TheVariants as keyword
-use Rattle.olk_build.specs.Forms.{IsAllOf, IsAnyOf, IsOneOf, IsNot, IsRequired, IsIf, IsProperties, IsPatternProperties, IsAdditionalProperties, IsDependencies, IsDependentRequired, IsDependentSchemas, IsPropertyNames, IsPropertyNamesFalse, IsPropertyDependencies}
 
 abbrev pub IsLeafAt : {K R N : Type 0} → Path → KeywordOver K R N → Type 0
 IsLeafAt L (keyword.Leaf M l) = M ≡ L
@@ -61,10 +64,7 @@ module _ (ms : Members) where
 
     -- for each of these members its validator
     abbrev pub HaveForms : (Name → Keyword) → List (Name × Data) → List (KeywordOver K R N) → Type 0
-    HaveForms named [] [] = ⊤
-    HaveForms named [] (x ∷ ks) = ⊥
-    HaveForms named (m ∷ es) [] = ⊥
-    HaveForms named (m ∷ es) (x ∷ ks) = HasForm (named m.0) m.0 m.1 x × HaveForms named es ks
+    HaveForms named es ks = AllZip (λ m x. HasForm (named m.0) m.0 m.1 x) es ks
 
     -- the validators of these members, in their order
     abbrev pub AreChosen : (Name → Keyword) → List (Name × Data) → List (KeywordOver K R N) → Type 0

@@ -1,31 +1,18 @@
 -- Which form of a validator is built.
 use Rattle.std.specs.Prelude.{◌≡◌, ◌≢◌, ◌<◌, ◌≤◌, ⊤, ℕ, Bool, true, false, List, [], ◌∷◌, map, length, take, drop, Option, Some, None, is_some, option_map, codes, Vec, String, string_bytes}
-use Rattle.std.specs.declared.alloc.Global.{Global}
-use Rattle.std.specs.declared.boxed.Box.{Box}
-use Rattle.serde_json.specs.Data.{Data}
-use Rattle.serde_json.specs.View.{view}
 use Rattle.olk_spec.specs.Names.{Name, Path, ◌//◌}
-use Rattle.olk_spec.specs.Schemas.{texts}
-use Rattle.olk_spec.specs.Malformed.{items_of_array}
-use Rattle.olk_spec.specs.declared.TheConstants.{HASHMAP_THRESHOLD}
-use Rattle.olk_base.specs.Kit.{Kit}
-use Rattle.olk_base.specs.declared.pattern.CompiledPattern.{CompiledPattern}
 use Rattle.olk_tree.specs.Maps.{keys_in, nodes_in, named}
-use Rattle.olk_tree.specs.Ascending.{Ascend}
-use Rattle.olk_tree.specs.declared.map.SmallMap.{SmallMap}
-use Rattle.olk_tree.specs.declared.properties_map.PropertiesMap.{PropertiesMap}
 use Rattle.olk_tree.specs.declared.properties_map.PropertiesMap.TheVariants.{Small, Big}
-use Rattle.olk_tree.specs.declared.additional_properties.Restriction.{Restriction}
+use Rattle.std.specs.{declared.alloc.Global.Global, declared.boxed.Box.Box, List.AllZip}
+use Rattle.serde_json.specs.{Data.Data, View.view}
+use Rattle.olk_spec.specs.{Schemas.texts, Malformed.items_of_array, declared.TheConstants.HASHMAP_THRESHOLD}
+use Rattle.olk_base.specs.{Kit.Kit, declared.pattern.CompiledPattern.CompiledPattern}
+use Rattle.olk_tree.specs.{Ascending.Ascend, declared.map.SmallMap.SmallMap, declared.properties_map.PropertiesMap.PropertiesMap}
+use Rattle.olk_tree.specs.{declared.additional_properties.Restriction.Restriction, declared.node.KeywordOver.KeywordOver}
+use Rattle.olk_tree.specs.{declared.node.Body.TheVariants.RequiredNames, declared.required.RequiredValidator.RequiredValidator, Answers.Answers, Places.AnswersBy}
+use Rattle.olk_build.specs.{declared.part.Patterns.Patterns, declared.part.Beside.Beside, declared.part.DeclaredNodes.DeclaredNodes}
 use Rattle.olk_tree.specs.declared.additional_properties.Restriction.TheVariants as by
-use Rattle.olk_tree.specs.declared.node.KeywordOver.{KeywordOver}
 use Rattle.olk_tree.specs.declared.node.KeywordOver.TheVariants as keyword
-use Rattle.olk_tree.specs.declared.node.Body.TheVariants.{RequiredNames}
-use Rattle.olk_tree.specs.declared.required.RequiredValidator.{RequiredValidator}
-use Rattle.olk_tree.specs.Answers.{Answers}
-use Rattle.olk_tree.specs.Places.{AnswersBy}
-use Rattle.olk_build.specs.declared.part.Patterns.{Patterns}
-use Rattle.olk_build.specs.declared.part.Beside.{Beside}
-use Rattle.olk_build.specs.declared.part.DeclaredNodes.{DeclaredNodes}
 
 -- ---- the form over given nodes, at its place
 
@@ -118,10 +105,7 @@ module _ {K R N : Type 0} (o : Kit K R) (answers : N → Answers) (L : Path) whe
 
   -- for each list its node
   abbrev pub AreListsAt : List (Vec (String Global) Global) → List N → Type 0
-  AreListsAt [] [] = ⊤
-  AreListsAt [] (n ∷ ns) = ⊥
-  AreListsAt (v ∷ vs) [] = ⊥
-  AreListsAt (v ∷ vs) (n ∷ ns) = IsListAt v n × AreListsAt vs ns
+  AreListsAt = AllZip IsListAt
 
   -- key by key, the node of its list, and where it has none the next of the schemas' nodes
   abbrev pub AreInOrder : List (Option (Vec (String Global) Global)) → List N → List N → Type 0

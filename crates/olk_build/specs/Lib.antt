@@ -1,11 +1,9 @@
 pub mod Refusing
 pub mod Reading
-pub mod Holding
 pub mod Forms
 pub mod Chooser
 pub mod Standing
 pub mod Made
 pub mod Making
 pub mod Building
-pub mod Placing
 pub mod Beside

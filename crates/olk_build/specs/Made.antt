@@ -1,22 +1,21 @@
 -- Which validator is made of a part.
 use Rattle.std.specs.Prelude.{◌≡◌, ◌||◌, ⊤, Bool, true, false, List, [], map, zip, length, Option, Some, None, is_some, option_map}
 use Rattle.std.proofs.Common.{◌⊎◌}
-use Rattle.serde_json.specs.Data.{Data}
-use Rattle.serde_json.specs.View.{view}
 use Rattle.olk_spec.specs.Names.{Name, Path}
 use Rattle.olk_spec.specs.Schemas.{members}
-use Rattle.olk_spec.specs.Vocabulary.{Keyword, properties, pattern_properties, additional_properties, required, dependent_required, dependent_schemas, dependencies, property_names, property_dependencies, all_of, any_of, one_of, not_keyword, if_keyword, then_keyword, else_keyword, leaf, unread}
+use Rattle.olk_spec.specs.Vocabulary.{Keyword, properties, pattern_properties, additional_properties, required, dependent_required, dependent_schemas, dependencies, property_names}
+use Rattle.olk_spec.specs.Vocabulary.{property_dependencies, all_of, any_of, one_of, not_keyword, if_keyword, then_keyword, else_keyword, leaf, unread}
 use Rattle.olk_base.specs.Kit.{Kit}
 use Rattle.olk_meaning.specs.Plans.{Planned}
 use Rattle.olk_build.specs.Reading.{reads_of, IsShape}
 use Rattle.olk_build.specs.declared.shape.Shape.{Shape}
+use Rattle.olk_build.specs.Forms.{IsFormOfAllOf, IsFormOfAnyOf, IsFormOfOneOf, IsNot, IsRequiredOver, IsIf, IsProperties, IsPatternProperties, IsAdditionalProperties, IsDependencies}
+use Rattle.olk_build.specs.Forms.{IsDependentRequired, IsDependentSchemas, IsPropertyNames, IsPropertyNamesFalse, IsPropertyDependencies}
+use Rattle.serde_json.specs.{Data.Data, View.view}
+use Rattle.olk_tree.specs.{Answers.Answers, declared.node.KeywordOver.KeywordOver}
+use Rattle.olk_build.specs.{Standing.StandAt, declared.part.Taken.Taken}
 use Rattle.olk_build.specs.declared.shape.Shape.TheVariants as shape
-use Rattle.olk_tree.specs.Answers.{Answers}
-use Rattle.olk_tree.specs.declared.node.KeywordOver.{KeywordOver}
 use Rattle.olk_tree.specs.declared.node.KeywordOver.TheVariants as keyword
-use Rattle.olk_build.specs.Forms.{IsFormOfAllOf, IsFormOfAnyOf, IsFormOfOneOf, IsNot, IsRequiredOver, IsIf, IsProperties, IsPatternProperties, IsAdditionalProperties, IsDependencies, IsDependentRequired, IsDependentSchemas, IsPropertyNames, IsPropertyNamesFalse, IsPropertyDependencies}
-use Rattle.olk_build.specs.Standing.{StandAt}
-use Rattle.olk_build.specs.declared.part.Taken.{Taken}
 
 -- the keyword of a shape
 abbrev pub which_of : {K R : Type 0} → Shape K R → Keyword

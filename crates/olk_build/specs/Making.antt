@@ -3,23 +3,16 @@ use Rattle.std.specs.Prelude.{◌≡◌, true, false, Bool, List, [], ◌∷◌,
 use Rattle.std.specs.List.{flat_map}
 use Rattle.serde_json.specs.Data.{Data, Members}
 use Rattle.olk_spec.specs.Names.{Name, Path, ◌//◌, lookup_name}
-use Rattle.olk_spec.specs.Schemas.{listed}
-use Rattle.olk_spec.specs.Malformed.{has_repeat}
 use Rattle.olk_base.specs.Kit.{Kit}
-use Rattle.olk_tree.specs.declared.node.KeywordOver.{KeywordOver}
 use Rattle.olk_meaning.specs.Plans.{Planned, plan_of, head, claims}
 use Rattle.olk_meaning.specs.Members.{member_child, member_standing, StandsAlone, StandsByItself}
-use Rattle.olk_build.specs.Holding.{which, all_malformed, show, all_formed, stand, Holds, Covers}
+use Rattle.olk_build.specs.Standing.{which, all_malformed, show, all_formed, stand, Holds, Covers, StandAt, is_taken, is_if_shape, is_restriction_shape, RestStands, CasesStand, BesideStands}
 use Rattle.olk_meaning.specs.Conditions.{is_condition, known_of}
-use Rattle.olk_tree.specs.Answers.{Answers}
-use Rattle.olk_tree.specs.Places.{Stands}
 use Rattle.olk_build.specs.Reading.{reads_of, IsShape, Fits}
-use Rattle.olk_build.specs.Chooser.{IsChosen}
-use Rattle.olk_build.specs.Standing.{StandAt, is_taken, is_if_shape, is_restriction_shape, RestStands, CasesStand, BesideStands}
-use Rattle.olk_build.specs.declared.part.Cases.{Cases}
-use Rattle.olk_build.specs.declared.part.Beside.{Beside}
-use Rattle.olk_build.specs.declared.part.Taken.{Taken}
 use Rattle.olk_build.specs.declared.shape.Shape.{Shape}
+use Rattle.olk_spec.specs.{Schemas.listed, Malformed.has_repeat}
+use Rattle.olk_tree.specs.{declared.node.KeywordOver.KeywordOver, Answers.Answers, Places.Stands}
+use Rattle.olk_build.specs.{Chooser.IsChosen, declared.part.Cases.Cases, declared.part.Beside.Beside, declared.part.Taken.Taken}
 
 module _ {K R N : Type 0} (o : Kit K R) (answers : N → Answers) where
   module _ (ms : Members) (ks : List (KeywordOver K R N)) where

@@ -1,30 +1,27 @@
 -- What a member of a schema object is as a keyword, apart from the nodes inside it: lists of names, patterns, shapes.
-use Rattle.std.specs.Prelude.{List, Option, Some, None, Vec, String, cond, map, option_map, string_bytes, ◌≡◌, ⊤, [], ◌∷◌, true, false, codes}
-use Rattle.std.specs.List.{flat_map}
-use Rattle.std.specs.declared.alloc.Global.{Global}
+use Rattle.std.specs.Prelude.{List, Option, Some, None, Vec, String, cond, map, option_map, string_bytes, ◌≡◌, ⊤, true, false, [], ◌∷◌, codes}
 use Rattle.serde_json.specs.Data.{Data, Items, array}
 use Rattle.olk_spec.specs.Names.{Name, Path, ◌//◌, Text, is_among}
 use Rattle.olk_spec.specs.Faults.{Fault}
 use Rattle.olk_spec.specs.Schemas.{is_array, members, texts, read, is_object, is_truth}
 use Rattle.olk_spec.specs.Malformed.{not_a_text, unless_object, name_list_refusals, own_refusals, malformations_step}
+use Rattle.std.specs.{List.flat_map, declared.alloc.Global.Global}
+use Rattle.std.specs.List.{AllZip}
 use Rattle.olk_spec.specs.Meanings.{pattern_says, is_open}
 use Rattle.olk_spec.specs.Costs.{Cost, total_cost, no_cost}
-use Rattle.olk_base.specs.Count.{Counts}
-use Rattle.olk_base.specs.Kit.{Kit}
 use Rattle.olk_base.specs.Compiled.{pattern_answers, pattern_costs}
-use Rattle.olk_base.specs.declared.pattern.CompiledPattern.{CompiledPattern}
 use Rattle.olk_reports.specs.declared.error.BuildError.{BuildError}
-use Rattle.olk_meaning.specs.PatternProperties.{pattern_faults, matcher_made, matchers_made}
-use Rattle.olk_build.specs.Refusing.{Spends, Refuses}
-use Rattle.serde_json.specs.View.{view}
-use Rattle.olk_spec.specs.World.{World}
+use Rattle.olk_meaning.specs.PatternProperties.{pattern_faults, matcher_made}
+use Rattle.olk_build.specs.Refusing.{Refuses, ArePaid, Spends}
+use Rattle.olk_base.specs.{Count.Counts, Kit.Kit, declared.pattern.CompiledPattern.CompiledPattern}
 use Rattle.olk_spec.specs.Vocabulary.{Keyword, pattern_properties, leaf, unread, unsupported_names, keyword_named}
 use Rattle.olk_meaning.specs.Conditions.{is_conditional_name, Known}
-use Rattle.olk_meaning.specs.Dependencies.{are_lists}
-use Rattle.olk_build.specs.declared.reading.KeywordFor.{KeywordFor}
-use Rattle.olk_build.specs.declared.shape.Shape.{Shape}
-use Rattle.olk_build.specs.declared.shape.ReadPlaces.{ReadPlaces}
 use Rattle.olk_build.specs.declared.shape.ReadPlaces.TheVariants.{Nothing, Itself, Entries, SchemaEntries, InnerEntries, Branches}
+use Rattle.serde_json.specs.View.{view}
+use Rattle.olk_spec.specs.World.{World}
+use Rattle.olk_meaning.specs.{Dependencies.are_lists, PatternProperties.matchers_made}
+use Rattle.olk_build.specs.{declared.reading.KeywordFor.KeywordFor, declared.shape.Shape.Shape}
+use Rattle.olk_build.specs.declared.shape.ReadPlaces.{ReadPlaces}
 use Rattle.olk_build.specs.declared.reading.KeywordFor.TheVariants as for
 use Rattle.olk_build.specs.declared.shape.Shape.TheVariants as shape
 
@@ -67,9 +64,7 @@ module _ {K R : Type 0} (o : Kit K R) where
 
   -- each for the name of the entry at its place
   abbrev pub ArePatterns : List (CompiledPattern R) → List (Name × Data) → Type 0
-  ArePatterns [] [] = ⊤
-  ArePatterns (p ∷ ps) (e ∷ es) = IsPattern p e.0 × ArePatterns ps es
-  ArePatterns ps es = ⊥
+  ArePatterns ps es = AllZip (λ p e. IsPattern p e.0) ps es
 
   -- what is wrong with the patterns of entries, at the keyword's place L, and what they cost
   abbrev pub patterns_wrong : Path → List (Name × Data) → List Fault
@@ -78,10 +73,8 @@ module _ {K R : Type 0} (o : Kit K R) where
   abbrev pub patterns_cost : List (Name × Data) → Cost
   patterns_cost es = total_cost (λ e. matcher_made o.world e.0) es
 
-  pub record PatternsAreRead (ps : List (CompiledPattern R)) (es : List (Name × Data)) (L : Path) (old new : Counts) : Type 0 where
-    pub stand : ArePatterns ps es
-    pub clean : patterns_wrong L es ≡ []
-    pub spends : Spends old new (patterns_cost es)
+  abbrev pub PatternsAreRead : List (CompiledPattern R) → List (Name × Data) → Path → Counts → Counts → Type 0
+  PatternsAreRead ps es L old new = ArePaid (λ e. pattern_faults o.world L e.0) (λ e. matcher_made o.world e.0) ArePatterns ps es old new
 
   abbrev pub RefusesPatterns : List (Name × Data) → Path → Counts → Counts → BuildError → Type 0
   RefusesPatterns es L old new e = Refuses (patterns_wrong L es) (patterns_cost es) old new e

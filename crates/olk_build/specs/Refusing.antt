@@ -1,11 +1,11 @@
 -- Refusals, what they count, and the error that building ends with where it stops.
-use Rattle.std.specs.Prelude.{◌≡◌, ◌≤◌, ⊤, List, Contains}
+use Rattle.std.specs.Prelude.{◌≡◌, ◌≤◌, ⊤, List, [], Contains}
+use Rattle.std.specs.List.{flat_map}
 use Rattle.olk_spec.specs.Faults.{Fault}
-use Rattle.olk_spec.specs.Costs.{Cost}
+use Rattle.olk_spec.specs.Costs.{Cost, total_cost}
 use Rattle.olk_base.specs.Count.{Counts, raised_by}
-use Rattle.olk_reports.specs.Errors.{fault_of}
-use Rattle.olk_reports.specs.declared.error.BuildError.{BuildError}
 use Rattle.olk_reports.specs.declared.error.BuildError.TheVariants.{Refused, Memory}
+use Rattle.olk_reports.specs.{Errors.fault_of, declared.error.BuildError.BuildError}
 use Rattle.olk_build.specs.declared.refusal.Reason.{Reason}
 use Rattle.olk_build.specs.declared.refusal.Reason.TheVariants as reason
 
@@ -39,6 +39,15 @@ TellsOneOf fs (Memory m) = ⊤
 pub record Refuses (fs : List Fault) (c : Cost) (old new : Counts) (e : BuildError) : Type 0 where
   pub tells : TellsOneOf fs e
   pub spends : SpendsWithin old new c
+
+-- ---- one thing after another, by what is wrong with each, what it costs, and what stands for them
+
+module _ {X N : Type 0} (wrong : X → List Fault) (costs : X → Cost) (Stand : List N → List X → Type 0) where
+  -- these stand for those, of which nothing is wrong, and are paid
+  pub record ArePaid (ns : List N) (xs : List X) (old new : Counts) : Type 0 where
+    pub stand : Stand ns xs
+    pub clean : flat_map wrong xs ≡ []
+    pub spends : Spends old new (total_cost costs xs)
 
 -- The error that building ends with where it stops.
 abbrev pub error_of : Reason → BuildError

@@ -1,27 +1,86 @@
--- What the nodes and the parts of a schema object stand for.
-use Rattle.std.specs.Prelude.{◌≡◌, ⊤, ◌&&◌, ◌||◌, Bool, true, false, not, List, [], ◌∷◌, ◌++◌, map, codes, Option, Some, None}
+-- What nodes and the parts of a schema object stand for, and what its validators mean together.
+use Rattle.std.specs.Prelude.{◌≡◌, ◌≤◌, ◌&&◌, ℕ, Bool, false, List, [], ◌∷◌, ◌++◌, map, ⊤, ◌||◌, true, not, codes, Option, Some, None}
+use Rattle.std.specs.List.{AllZip, list_all, flat_map, sum_by}
 use Rattle.serde_json.specs.Data.{Data, Members}
 use Rattle.olk_spec.specs.Names.{Name, Path, ◌//◌, lookup_name, filter_once}
-use Rattle.olk_spec.specs.Schemas.{listed, members, numbered, is_array, is_object, is_truth}
-use Rattle.olk_spec.specs.Malformed.{items_of_array}
-use Rattle.olk_base.specs.Kit.{Kit}
-use Rattle.olk_base.specs.declared.pattern.CompiledPattern.{CompiledPattern}
+use Rattle.olk_spec.specs.Vocabulary.{Keyword, keyword_named}
+use Rattle.olk_spec.specs.Faults.{Fault, ◌∼◌}
+use Rattle.olk_spec.specs.Schemas.{members, listed, numbered, is_array, is_object, is_truth}
+use Rattle.olk_tree.specs.Questions.{every, of_asked}
+use Rattle.olk_tree.specs.Validators.{validator_means, validator_report, validator_tree, validator_formed, validator_forms}
+use Rattle.olk_meaning.specs.Chosen.{Placed}
+use Rattle.olk_meaning.specs.Conditions.{is_restricted, Known}
+use Rattle.olk_meaning.specs.Plans.{tells_members, Planned, is_case}
+use Rattle.olk_meaning.specs.Members.{member_accepts, member_asks, member_report, member_malformations}
 use Rattle.olk_tree.specs.Tables.{patterns_of, IsTableOf}
-use Rattle.olk_tree.specs.Answers.{Answers}
-use Rattle.olk_tree.specs.Places.{Stands}
-use Rattle.olk_build.specs.Holding.{StandEach, StandInner}
-use Rattle.olk_build.specs.declared.shape.ReadPlaces.{ReadPlaces}
 use Rattle.olk_build.specs.declared.shape.ReadPlaces.TheVariants.{Nothing, Itself, Entries, SchemaEntries, InnerEntries, Branches}
-use Rattle.olk_build.specs.declared.part.Part.{Part}
-use Rattle.olk_build.specs.declared.part.Cases.{Cases}
-use Rattle.olk_build.specs.declared.part.Patterns.{Patterns}
-use Rattle.olk_build.specs.declared.part.Beside.{Beside}
+use Rattle.olk_build.specs.Reading.{reads_of, IsShape, Fits}
+use Rattle.olk_spec.specs.{Tree.Tree, Malformed.items_of_array}
+use Rattle.olk_base.specs.{Kit.Kit, declared.pattern.CompiledPattern.CompiledPattern}
+use Rattle.olk_tree.specs.{Answers.Answers, Places.Stands, declared.node.KeywordOver.KeywordOver}
+use Rattle.olk_build.specs.{declared.shape.ReadPlaces.ReadPlaces, Reading.IsPattern, declared.shape.Shape.Shape}
+use Rattle.olk_build.specs.{declared.part.Part.Part, declared.part.Cases.Cases, declared.part.Patterns.Patterns, declared.part.Beside.Beside}
 use Rattle.olk_build.specs.declared.part.DeclaredNodes.{DeclaredNodes}
-use Rattle.olk_meaning.specs.Conditions.{Known}
-use Rattle.olk_meaning.specs.Plans.{Planned, is_case, tells_members}
-use Rattle.olk_build.specs.Reading.{IsPattern, reads_of, IsShape, Fits}
-use Rattle.olk_build.specs.declared.shape.Shape.{Shape}
 use Rattle.olk_build.specs.declared.shape.Shape.TheVariants as shape
+
+-- ---- what nodes stand for, and what the validators of a schema object mean together
+
+module _ {K R : Type 0} (o : Kit K R) (ms : Members) where
+  -- which keyword a member is
+  abbrev pub which : Name × Data → Keyword
+  which m = keyword_named o.world m.0
+
+  abbrev pub all_malformed : Path → List (Name × Data) → List Fault
+  all_malformed P es = flat_map (λ m. member_malformations o.world ms m (which m) P) es
+
+module _ {K R N : Type 0} (o : Kit K R) (answers : N → Answers) where
+  -- ---- nodes for schemas under names, below a place
+
+  abbrev pub StandEach : List N → List (Name × Data) → Path → Type 0
+  StandEach ns es P = AllZip (λ n e. Stands o answers n e.1 (P // e.0)) ns es
+
+  -- nodes for the entries of each of these, one list behind the other
+  abbrev pub StandInner : List N → List (Name × Data) → Path → Type 0
+  StandInner ns [] P = ns ≡ []
+  StandInner ns (e ∷ es) P = (here : List N) × (after : List N) × (ns ≡ here ++ after) × StandEach here (members e.1) (P // e.0) × StandInner after es P
+
+  -- ---- keywords for members of the schema object with the members ms at P
+
+  module _ (ms : Members) (ks : List (KeywordOver K R N)) where
+    -- what the keywords answer together
+    abbrev pub means : Data → Bool → Bool
+    means v u = (every (λ k. validator_means o (λ n. (answers n).means) k v) ks).accepts u
+
+    abbrev pub ask : Data → Bool → ℕ
+    ask v u = (every (λ k. validator_means o (λ n. (answers n).means) k v) ks).asks of_asked u
+
+    abbrev pub find : Bool → Data → Path → List Fault
+    find u v Q = flat_map (λ k. validator_report o (λ n. (answers n).means) (λ n. (answers n).report) u k v Q) ks
+
+    abbrev pub show : Bool → Data → Path → List Tree
+    show u v Q = map (λ k. validator_tree o (λ n. (answers n).means) (λ n. (answers n).tree) u k v Q) ks
+
+    -- whether each has the form that is chosen for what it holds, and so have all nodes inside
+    abbrev pub all_formed : Bool
+    all_formed = list_all (λ k. validator_formed o (λ n. (answers n).formed) k) ks
+
+    -- each validator before what stands inside it
+    abbrev pub stand : List Placed
+    stand = flat_map (λ k. validator_forms o (λ n. (answers n).forms) k) ks
+
+    -- it is what one member means; what is asked is bounded where `additionalProperties` doesn't take the keyword over
+    pub record Holds (m : Name × Data) (w : Keyword) (P : Path) : Type 0 where
+      pub verdict : (u : Bool) (v : Data) → means v u ≡ member_accepts o.world ms m w u v
+      pub asks_within : (is_restricted ms && tells_members m.0) ≡ false → (u : Bool) (v : Data) → ask v u ≤ member_asks o.world ms m w u v
+      pub faults : (u : Bool) (v : Data) (Q : Path) → find u v Q ∼ member_report o.world ms m w u v P Q
+
+    -- it is what some members mean together
+    pub record Covers (es : List (Name × Data)) (P : Path) : Type 0 where
+      pub verdict : (u : Bool) (v : Data) → means v u ≡ list_all (λ m. member_accepts o.world ms m (which o ms m) u v) es
+      pub asks_within : (u : Bool) (v : Data) → ask v u ≤ sum_by (λ m. member_asks o.world ms m (which o ms m) u v) es
+      pub faults : (u : Bool) (v : Data) (Q : Path) → find u v Q ∼ flat_map (λ m. member_report o.world ms m (which o ms m) u v P Q) es
+
+-- ---- what the nodes and the parts of a schema object stand for
 
 -- another keyword takes what the part of the name k holds: `if` of `then` and `else`, and `additionalProperties` of the keywords that tell members by their names
 abbrev pub is_taken : Planned → Name → Bool
@@ -63,10 +122,7 @@ module _ {K R N : Type 0} (o : Kit K R) (answers : N → Answers) where
 
   -- patterns beside nodes: each entry stands for the pattern and the schema at its place
   abbrev pub EntriesStand : List (CompiledPattern R × N) → List (Name × Data) → Path → Type 0
-  EntriesStand [] [] L = ⊤
-  EntriesStand [] (d ∷ ds) L = ⊥
-  EntriesStand (e ∷ es) [] L = ⊥
-  EntriesStand (e ∷ es) (d ∷ ds) L = IsPattern o e.0 d.0 × Stands o answers e.1 d.1 (L // d.0) × EntriesStand es ds L
+  EntriesStand es ds L = AllZip (λ e d. IsPattern o e.0 d.0 × Stands o answers e.1 d.1 (L // d.0)) es ds
 
   -- c is known of the neighbours in the schema object at P
   module _ (c : Known) where
@@ -78,10 +134,7 @@ module _ {K R N : Type 0} (o : Kit K R) (answers : N → Answers) where
       pub nodes : StandAt (reads_of p.shape) p.nodes.items m.1 (P // m.0)
 
     abbrev pub PartsStand : List (Part K R N) → List (Name × Data) → Path → Type 0
-    PartsStand [] [] P = ⊤
-    PartsStand [] (m ∷ es) P = ⊥
-    PartsStand (p ∷ ps) [] P = ⊥
-    PartsStand (p ∷ ps) (m ∷ es) P = PartStands p m P × PartsStand ps es P
+    PartsStand ps es P = AllZip (λ p m. PartStands p m P) ps es
 
     -- patterns with their nodes and their table stand for `patternProperties` at L
     pub record PatternsStand (x : Patterns R N) (L : Path) (d : Data) : Type 0 where

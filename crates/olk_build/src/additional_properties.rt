@@ -40,10 +40,6 @@ use std::alloc::{AllocError, Global};
 
 /// The shape of `additionalProperties`: an object is a schema for every other member, `false`
 /// allows none, `true` any.
-///
-/// # Errors
-///
-/// Anything else is refused; else out of memory.
 pub(crate) fn shape_of_others<'a, K: Drop, R: Drop>(
     alloc: Global,
     location: &Location,
@@ -121,10 +117,6 @@ fn declared<N: Drop>(properties: Option<DeclaredNodes<N>>) -> Option<PropertiesM
 }
 
 /// The validator where neither `properties` nor `patternProperties` stands beside it.
-///
-/// # Errors
-///
-/// Out of memory.
 fn alone<R, N: Drop>(
     alloc: Global,
     location: Location,
@@ -143,10 +135,6 @@ fn alone<R, N: Drop>(
 }
 
 /// The validator beside `properties`, with the name that the plan fuses.
-///
-/// # Errors
-///
-/// Out of memory.
 fn with_properties<R, N: Drop>(
     alloc: Global,
     plan: Plan<'_>,
@@ -185,10 +173,6 @@ fn with_properties<R, N: Drop>(
 }
 
 /// The validator beside `patternProperties`.
-///
-/// # Errors
-///
-/// Out of memory.
 fn with_patterns<R: Drop, N: Drop>(
     alloc: Global,
     location: Location,
@@ -222,10 +206,6 @@ fn with_patterns<R: Drop, N: Drop>(
 }
 
 /// The validator beside both.
-///
-/// # Errors
-///
-/// Out of memory.
 fn with_both<R: Drop, N: Drop>(
     alloc: Global,
     location: Location,
@@ -263,10 +243,6 @@ fn with_both<R: Drop, N: Drop>(
 
 /// The form over the node for the rest and what stands beside it, with the name that the plan
 /// fuses.
-///
-/// # Errors
-///
-/// Out of memory.
 fn form<R: Drop, N: Drop>(
     alloc: Global,
     plan: Plan<'_>,

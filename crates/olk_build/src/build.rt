@@ -7,10 +7,9 @@ ghost use Rattle.olk_spec.specs.Costs.{cost};
 ghost use Rattle.olk_reports.specs.Paths.{one_below};
 ghost use Rattle.olk_base.specs.Kit.{kit, world};
 ghost use Rattle.olk_tree.specs.Places.{Stands};
-ghost use Rattle.olk_build.specs.Building.{IsMember, IsBuilt, ObjectIsBuilt, AreBuilt, InnerAreBuilt, is_read, entries_read, RefusesSchema, RefusesEach, RefusesInner, RefusesObject, RefusesPart};
+ghost use Rattle.olk_build.specs.Building.{IsMember, IsBuilt, ObjectIsBuilt, AreBuilt, InnerAreBuilt, is_read, entries_read, RefusesSchema, RefusesEach, RefusesInner, RefusesObject, RefusesPart, IsPart, PlacesAreBuilt, RefusesPlaces};
 ghost use Rattle.olk_meaning.specs.Conditions.{known, known_of};
 ghost use Rattle.olk_build.specs.Refusing.{TellsOneOf, Spends, SpendsWithin};
-ghost use Rattle.olk_build.specs.Placing.{IsPart, PlacesAreBuilt, RefusesPlaces};
 ghost use Rattle.olk_build.specs.Beside.{takes_of, IsNeighbour, RefusesNeighbour, IsTaken, RefusesBeside, MemberIsBuilt, RefusesMember, GivesMember, Gives};
 ghost use Rattle.olk_build.specs.Chooser.{has_no_validator, HasForm};
 ghost use Rattle.olk_spec.specs.Vocabulary.{keyword_named};
@@ -40,10 +39,6 @@ fn place_of_item(alloc: Global, place: &Location, index: usize) -> Result<Locati
 }
 
 /// The node of a schema, which takes its place over.
-///
-/// # Errors
-///
-/// One of the schema's malformations; else out of memory.
 #[cycle(compile)]
 fn compile_schema<'a, L: MakeLeaf, M: MakeRegex, N: BuiltNode<L::Leaf, M::Engine>>(
     alloc: Global,
@@ -72,10 +67,6 @@ fn compile_schema<'a, L: MakeLeaf, M: MakeRegex, N: BuiltNode<L::Leaf, M::Engine
 }
 
 /// The keywords of a schema object, in the order of their names.
-///
-/// # Errors
-///
-/// One of the members' malformations; else out of memory.
 #[cycle(compile)]
 fn compile_object<'a, L: MakeLeaf, M: MakeRegex, N: BuiltNode<L::Leaf, M::Engine>>(
     alloc: Global,
@@ -110,10 +101,6 @@ fn compile_object<'a, L: MakeLeaf, M: MakeRegex, N: BuiltNode<L::Leaf, M::Engine
 
 /// What the keyword of a part of this shape takes of two neighbours, as far as they are there.
 /// Where it takes patterns, each is asked once of each name that is declared beside them.
-///
-/// # Errors
-///
-/// One of the neighbours' malformations; else out of memory.
 #[cycle(compile)]
 fn compile_beside<'a, L: MakeLeaf, M: MakeRegex, N: BuiltNode<L::Leaf, M::Engine>>(
     alloc: Global,
@@ -141,10 +128,6 @@ fn compile_beside<'a, L: MakeLeaf, M: MakeRegex, N: BuiltNode<L::Leaf, M::Engine
 }
 
 /// The part of the member of this name, if there is one.
-///
-/// # Errors
-///
-/// One of the member's malformations; else out of memory.
 #[cycle(compile)]
 fn compile_neighbour<'a, L: MakeLeaf, M: MakeRegex, N: BuiltNode<L::Leaf, M::Engine>>(
     alloc: Global,
@@ -171,10 +154,6 @@ fn compile_neighbour<'a, L: MakeLeaf, M: MakeRegex, N: BuiltNode<L::Leaf, M::Eng
 }
 
 /// The part of a member of a schema object, by what it has to know of its neighbours.
-///
-/// # Errors
-///
-/// One of the member's malformations; else out of memory.
 #[cycle(compile)]
 fn compile_part<'a, L: MakeLeaf, M: MakeRegex, N: BuiltNode<L::Leaf, M::Engine>>(
     alloc: Global,
@@ -200,10 +179,6 @@ fn compile_part<'a, L: MakeLeaf, M: MakeRegex, N: BuiltNode<L::Leaf, M::Engine>>
 }
 
 /// The nodes of the places that are read in a value.
-///
-/// # Errors
-///
-/// One of these places' malformations; else out of memory.
 #[cycle(compile)]
 fn compile_places<'a, L: MakeLeaf, M: MakeRegex, N: BuiltNode<L::Leaf, M::Engine>>(
     alloc: Global,
@@ -261,10 +236,6 @@ fn is_read(passes_arrays: bool, entry: &Value) -> bool
 }
 
 /// The nodes of the entries of an object that are read, each below the place under its name.
-///
-/// # Errors
-///
-/// One of these entries' malformations; else out of memory.
 #[cycle(compile)]
 fn compile_entries<'a, L: MakeLeaf, M: MakeRegex, N: BuiltNode<L::Leaf, M::Engine>>(
     alloc: Global,
@@ -293,10 +264,6 @@ fn compile_entries<'a, L: MakeLeaf, M: MakeRegex, N: BuiltNode<L::Leaf, M::Engin
 }
 
 /// The nodes of the entries of each entry of an object, below the place under both names.
-///
-/// # Errors
-///
-/// One of these inner entries' malformations; else out of memory.
 #[cycle(compile)]
 fn compile_inner_entries<'a, L: MakeLeaf, M: MakeRegex, N: BuiltNode<L::Leaf, M::Engine>>(
     alloc: Global,
@@ -321,10 +288,6 @@ fn compile_inner_entries<'a, L: MakeLeaf, M: MakeRegex, N: BuiltNode<L::Leaf, M:
 }
 
 /// The nodes of the branches of an array, each below the place under its position.
-///
-/// # Errors
-///
-/// One of the branches' malformations; else out of memory.
 #[cycle(compile)]
 fn compile_branches<'a, L: MakeLeaf, M: MakeRegex, N: BuiltNode<L::Leaf, M::Engine>>(
     alloc: Global,
@@ -350,10 +313,6 @@ fn compile_branches<'a, L: MakeLeaf, M: MakeRegex, N: BuiltNode<L::Leaf, M::Engi
 
 /// The keyword of this name and value, a member of the object at the context's place, with the
 /// neighbours that it takes; none where it is not read, or another keyword takes what it holds.
-///
-/// # Errors
-///
-/// One of the malformations of the member and of what it takes; else out of memory.
 fn compile_member<'a, L: MakeLeaf, M: MakeRegex, N: BuiltNode<L::Leaf, M::Engine>>(
     alloc: Global,
     ctx: &mut Context<'_, L, M>,

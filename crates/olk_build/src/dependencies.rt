@@ -31,10 +31,6 @@ use std::alloc::{AllocError, Global};
 use std::collections::BTreeSet;
 
 /// Whether two items are equal texts.
-///
-/// # Errors
-///
-/// Out of memory.
 fn has_repeated_text(alloc: Global, items: &[Value]) -> Result<bool, AllocError>
     ensures { IfOk result (λ b. b ≡ has_repeat (texts_in (items_view items.now))) }
 {
@@ -51,11 +47,6 @@ fn has_repeated_text(alloc: Global, items: &[Value]) -> Result<bool, AllocError>
 }
 
 /// The names that an entry of `dependentRequired` lists.
-///
-/// # Errors
-///
-/// What is no array is refused, and an array with two equal texts, at the key below the keyword;
-/// then an array's first item that is no text, at the place of the keyword; else out of memory.
 fn names_of_entry<'a>(
     alloc: Global,
     location: &Location,
@@ -77,11 +68,6 @@ fn names_of_entry<'a>(
 }
 
 /// The names that each entry of `dependentRequired` lists.
-///
-/// # Errors
-///
-/// The first entry that is no array of texts, each once, is refused, as [`names_of_entry`] says;
-/// else out of memory.
 fn names_of_entries<'a>(
     alloc: Global,
     location: &Location,
@@ -103,11 +89,6 @@ fn names_of_entries<'a>(
 }
 
 /// The keys of `dependentRequired`, and the names that each entry lists.
-///
-/// # Errors
-///
-/// What is no object is refused, and the first entry that is no array of texts, each once; else
-/// out of memory.
 pub(crate) fn required_of_object<'a>(
     alloc: Global,
     location: &Location,
@@ -129,11 +110,6 @@ pub(crate) fn required_of_object<'a>(
 }
 
 /// The names that an entry of `dependencies` lists; none where it is a schema.
-///
-/// # Errors
-///
-/// A list's first item that is no text is refused, at the place of the keyword; else want of
-/// memory.
 fn list_of_entry<'a>(
     alloc: Global,
     location: &Location,
@@ -150,11 +126,6 @@ fn list_of_entry<'a>(
 }
 
 /// The names that each entry of `dependencies` lists.
-///
-/// # Errors
-///
-/// A list's first item that is no text is refused, at the place of the keyword; else want of
-/// memory.
 fn lists_of_entries<'a>(
     alloc: Global,
     location: &Location,
@@ -176,10 +147,6 @@ fn lists_of_entries<'a>(
 }
 
 /// The keys of `dependencies`, and the names that each entry lists.
-///
-/// # Errors
-///
-/// What is no object is refused, and a list's first item that is no text; else out of memory.
 pub(crate) fn lists_of_object<'a>(
     alloc: Global,
     location: &Location,
@@ -293,10 +260,6 @@ pub fn compile_dependent_schemas<'a, L: MakeLeaf, M: MakeRegex, N: BuiltNode<L::
 }
 
 /// The node of a list of names, at the keyword's place.
-///
-/// # Errors
-///
-/// Out of memory.
 fn node_of_list<K: Leaf, R: RegexEngine, N: BuiltNode<K, R>>(
     alloc: Global,
     location: &Location,
@@ -313,10 +276,6 @@ fn node_of_list<K: Leaf, R: RegexEngine, N: BuiltNode<K, R>>(
 }
 
 /// The nodes of lists of names.
-///
-/// # Errors
-///
-/// Out of memory.
 fn nodes_of_lists<K: Leaf, R: RegexEngine, N: BuiltNode<K, R>>(
     alloc: Global,
     location: &Location,
@@ -335,10 +294,6 @@ fn nodes_of_lists<K: Leaf, R: RegexEngine, N: BuiltNode<K, R>>(
 
 /// The nodes of entries, in their order: of a list of names its own, and else the next of the
 /// schemas' nodes.
-///
-/// # Errors
-///
-/// Out of memory.
 fn nodes_in_order<K: Leaf, R: RegexEngine, N: BuiltNode<K, R>>(
     alloc: Global,
     location: &Location,

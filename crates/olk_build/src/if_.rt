@@ -79,10 +79,6 @@ pub fn compile<'a, L: MakeLeaf, M: MakeRegex, N: BuiltNode<L::Leaf, M::Engine>>(
 }
 
 /// The form for the nodes that there are.
-///
-/// # Errors
-///
-/// Out of memory.
 fn form<K, R, N: Drop>(
     alloc: Global,
     location: Location,

@@ -5,7 +5,7 @@
 //! Its `compile` speaks of a parent in which the value stands at the module's name: of a value that
 //! is no such member it promises nothing but that the context's place is as before. Compiling alone
 //! recurs. The nodes are of any type that is a `BuiltNode`. Stands on `olk_tree` and `olk_reports`.
-//! Tested by `object_logic_tests`.
+//! Tested by `olk_build_tests`.
 #![tactic(auto)]
 
 pub mod additional_properties;

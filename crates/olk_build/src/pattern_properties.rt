@@ -56,10 +56,6 @@ fn refuse_pattern<'a>(alloc: Global, location: &Location, pattern: &'a String) -
 }
 
 /// A pattern, ready to be asked; one that stands for a test costs nothing.
-///
-/// # Errors
-///
-/// One that does not build is refused, as a bare name below the keyword; else out of memory.
 fn read_pattern<'a, L: MakeLeaf, M: MakeRegex>(
     alloc: Global,
     makers: &Makers<'_, L, M>,
@@ -113,11 +109,6 @@ pub(crate) fn patterns_of_entries<'a, L: MakeLeaf, M: MakeRegex>(
 }
 
 /// The shape of `patternProperties`: its patterns, in the order of its entries.
-///
-/// # Errors
-///
-/// What is no object is refused, and the first pattern that does not build, as a bare name below
-/// the keyword; else out of memory.
 pub(crate) fn shape_of_patterns<'a, L: MakeLeaf, M: MakeRegex>(
     alloc: Global,
     makers: &Makers<'_, L, M>,

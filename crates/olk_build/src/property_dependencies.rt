@@ -31,10 +31,6 @@ use std::alloc::{AllocError, Global};
 use std::vec::IntoIter;
 
 /// The texts of each entry of `propertyDependencies`.
-///
-/// # Errors
-///
-/// An entry that is no object is refused, at its key below the keyword; else out of memory.
 fn texts_of_entries<'a>(
     alloc: Global,
     location: &Location,
@@ -57,10 +53,6 @@ fn texts_of_entries<'a>(
 }
 
 /// The keys of `propertyDependencies`, and the texts of each entry.
-///
-/// # Errors
-///
-/// What is no object is refused, and an entry that is none; else out of memory.
 pub(crate) fn choices_of_object<'a>(
     alloc: Global,
     location: &Location,
@@ -115,10 +107,6 @@ pub fn compile<'a, L: MakeLeaf, M: MakeRegex, N: BuiltNode<L::Leaf, M::Engine>>(
 }
 
 /// The next nodes, so many, or all where there are no more.
-///
-/// # Errors
-///
-/// Out of memory.
 fn take_next<N: Drop>(
     alloc: Global,
     nodes: &mut IntoIter<N>,
@@ -142,10 +130,6 @@ fn take_next<N: Drop>(
 }
 
 /// The nodes, cut into a map for each of these lists of names.
-///
-/// # Errors
-///
-/// Out of memory.
 fn cut<N: Drop>(
     alloc: Global,
     texts: Vec<SortedNames>,

@@ -30,41 +30,23 @@ use std::alloc::Global;
 /// Which keyword a name is: one that is read here, one that is refused by its name, or any other.
 #[derive(Clone, Copy)]
 pub enum KeywordFor {
-    /// `properties`.
     Properties,
-    /// `patternProperties`.
     PatternProperties,
-    /// `additionalProperties`.
     AdditionalProperties,
-    /// `propertyNames`.
     PropertyNames,
-    /// `required`.
     Required,
-    /// `dependentRequired`.
     DependentRequired,
-    /// `dependentSchemas`.
     DependentSchemas,
-    /// `dependencies`.
     Dependencies,
-    /// `propertyDependencies`.
     PropertyDependencies,
-    /// `allOf`.
     AllOf,
-    /// `anyOf`.
     AnyOf,
-    /// `oneOf`.
     OneOf,
-    /// `not`.
     Not,
-    /// `if`.
     If,
-    /// `then`.
     Then,
-    /// `else`.
     Else,
-    /// A keyword that is refused by its name.
     Refused,
-    /// Any other name.
     Other,
 }
 
@@ -113,10 +95,6 @@ fn keyword_for(name: &str) -> KeywordFor
 // ---- by the form of the value
 
 /// The names of an object's members.
-///
-/// # Errors
-///
-/// What is no object is refused; else out of memory.
 pub(crate) fn names_of_object<'a>(
     alloc: Global,
     location: &Location,
@@ -133,10 +111,6 @@ pub(crate) fn names_of_object<'a>(
 }
 
 /// The items of an array.
-///
-/// # Errors
-///
-/// What is no array is refused; else out of memory.
 pub(crate) fn items_of_array<'a>(
     alloc: Global,
     location: &Location,
@@ -152,10 +126,6 @@ pub(crate) fn items_of_array<'a>(
 }
 
 /// The texts that items are.
-///
-/// # Errors
-///
-/// The first item that is no text is refused, at the place of the array; else out of memory.
 pub(crate) fn texts_of_items<'a>(
     alloc: Global,
     place: &Location,
@@ -178,10 +148,6 @@ pub(crate) fn texts_of_items<'a>(
 }
 
 /// The texts of an array.
-///
-/// # Errors
-///
-/// What is no array is refused, and an array's first item that is no text; else out of memory.
 fn texts_of_array<'a>(
     alloc: Global,
     location: &Location,
@@ -198,10 +164,6 @@ fn texts_of_array<'a>(
 }
 
 /// The members of an object.
-///
-/// # Errors
-///
-/// What is no object is refused; else out of memory.
 pub(crate) fn members_of_object<'a>(
     alloc: Global,
     location: &Location,
@@ -217,10 +179,6 @@ pub(crate) fn members_of_object<'a>(
 }
 
 /// The shape of a keyword whose value is an array of branches.
-///
-/// # Errors
-///
-/// What is no array is refused; else out of memory.
 fn shape_of_branches<'a, K: Drop, R: Drop>(
     alloc: Global,
     location: &Location,
@@ -297,10 +255,6 @@ pub(crate) fn read_keyword<'a, L: MakeLeaf, M: MakeRegex>(
 }
 
 /// A leaf, or a name that nothing reads.
-///
-/// # Errors
-///
-/// A leaf whose value does not fit it is refused; else out of memory.
 fn read_other<'a, L: MakeLeaf, M: MakeRegex>(
     alloc: Global,
     makers: &Makers<'_, L, M>,
@@ -324,10 +278,6 @@ fn read_other<'a, L: MakeLeaf, M: MakeRegex>(
 }
 
 /// A leaf, counted.
-///
-/// # Errors
-///
-/// A leaf whose value does not fit it is refused; else out of memory.
 fn read_leaf<'a, L: MakeLeaf, M: MakeRegex>(
     alloc: Global,
     makers: &Makers<'_, L, M>,

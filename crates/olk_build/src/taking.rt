@@ -189,10 +189,6 @@ pub fn take<K: Drop, R: RegexEngine, N: Drop>(
 
 /// The keyword of a part, with what was taken for it, if it is read and the plan names no other for
 /// it.
-///
-/// # Errors
-///
-/// Out of memory.
 pub fn make_taking<K: Leaf, R: RegexEngine, N: BuiltNode<K, R>>(
     alloc: Global,
     plan: Plan<'_>,
@@ -209,10 +205,6 @@ pub fn make_taking<K: Leaf, R: RegexEngine, N: BuiltNode<K, R>>(
 
 /// Appends the keyword of a part, with what was taken for it, if it is read and the plan names no
 /// other for it.
-///
-/// # Errors
-///
-/// Out of memory.
 #[inline(never)]
 pub fn append_taking<K: Leaf, R: RegexEngine, N: BuiltNode<K, R>>(
     alloc: Global,
@@ -241,10 +233,6 @@ pub fn take_nothing<R, N>() -> Taken<R, N> {
 }
 
 /// Appends the keyword of a part that may be no leaf, as `append_alone` does.
-///
-/// # Errors
-///
-/// Out of memory.
 #[inline(never)]
 fn append_other<K: Leaf, R: RegexEngine, N: BuiltNode<K, R>>(
     alloc: Global,
@@ -266,10 +254,6 @@ fn append_other<K: Leaf, R: RegexEngine, N: BuiltNode<K, R>>(
 
 /// Appends the keyword of a part that takes nothing, if it is read and the plan names no other for
 /// it. Most parts are leaves, so these are made here.
-///
-/// # Errors
-///
-/// Out of memory.
 #[inline(always)]
 pub fn append_alone<K: Leaf, R: RegexEngine, N: BuiltNode<K, R>>(
     alloc: Global,

@@ -1,6 +1,6 @@
 //! Whether a value is accepted: `is_valid` of each validator, over its nodes.
 //!
-//! Stands on `olk_tree`. Tested by `object_logic_tests`.
+//! Stands on `olk_tree`. Tested by `olk_node_tests`.
 #![tactic(auto)]
 
 ghost use Rattle.olk_base.specs.Nodes.{subject_data};
@@ -9,9 +9,9 @@ ghost use Rattle.olk_check.specs.Asks.{Asks};
 use olk_base::{Asked, Node, Subject, ValidationContext};
 use olk_tree::Means;
 
-/// What can be asked whether it accepts a value.
+/// On the other side stands what accepts or refuses a value: a validator, a keyword or a node.
 ///
-/// All that is `Check` has it by one implementation: implement `Check`.
+/// No caller implements it: all that is `Check` has it by one implementation.
 pub trait IsValid: Means {
     ghost use Rattle.olk_base.specs.Nodes.{data_of};
     ghost use Rattle.olk_check.specs.Asks.{Asks};
@@ -25,9 +25,9 @@ pub trait IsValid: Means {
         ensures { Asks ctx.old ctx.new (Self.means self.now (data_of node.entry)) result };
 }
 
-/// What checks a value, or a name alone: the verdict of `IsValid`, compiled once for each.
+/// On the other side stands a validator, whose verdict is compiled for values and for names.
 ///
-/// Each validator implements it, and so do keywords, bodies and nodes.
+/// Who writes a validator implements it, and keywords and nodes do; callers ask by `IsValid`.
 pub trait Check: Means {
     ghost use Rattle.olk_check.specs.Asks.{Asks};
 

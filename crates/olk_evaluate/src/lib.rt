@@ -20,10 +20,9 @@ pub struct EvaluationContext {
     pub validation: ValidationContext,
 }
 
-/// What writes what it shows of a value, which stands at its place, into a result that shows nothing
-/// yet.
+/// On the other side stands a validator, which writes what it shows into an empty result.
 ///
-/// Each validator implements it; callers ask by `Evaluate`.
+/// Who writes a validator implements it; callers ask by `Evaluate`.
 pub trait Show<'a>: Check {
     ghost use Rattle.std.specs.Prelude.{◌≡◌, Bool};
     ghost use Rattle.olk_base.specs.Nodes.{subject_data};
@@ -71,7 +70,9 @@ pub trait Located<'a>: Show<'a> {
         ensures { result.now ≡ Self.place self.now };
 }
 
-/// What can be asked what it shows of a value: all that shows. Implement `Show`.
+/// On the other side stands what shows a value: valid or not, annotations, errors, what is below.
+///
+/// No caller implements it: all that is `Show` has it by one implementation.
 pub trait Evaluate<'a>: Show<'a> {
     ghost use Rattle.std.specs.Prelude.{◌≡◌, IfOk};
     ghost use Rattle.olk_base.specs.Nodes.{data_of};

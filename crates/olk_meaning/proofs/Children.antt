@@ -1,32 +1,27 @@
--- What keywords answer that stand alone, over the raw data of their values.
-use Rattle.std.specs.Prelude.{◌≡◌, ℕ, ◌+◌, ◌==◌, Bool, true, false, not, cond, ◌&&◌, List, [], ◌∷◌, ◌++◌, map, count_by, sum_by, codes, Some, None, option_to_list}
+-- What keywords answer, told of their raw values.
+use Rattle.std.proofs.Common.{◌≡◌, ℕ, ◌+◌, ◌==◌, Bool, true, false, not, cond, ◌&&◌, List, [], ◌∷◌, ◌++◌, map, count_by, sum_by, codes, Some, None, option_to_list, nat_lt, refl, sym, ◌∙◌, ap, arith}
 use Rattle.std.specs.List.{flat_map, list_any}
-use Rattle.std.proofs.Common.{refl, sym, ◌∙◌, ap, arith}
-use Rattle.std.proofs.lemmas.List.Sums.{sum_by-cons}
-use Rattle.std.proofs.Math.Bool.{and-true}
 use Rattle.serde_json.specs.Data.{Data, Members}
 use Rattle.olk_spec.specs.Names.{Name, Path, ◌//◌, lookup_name, filter_once, put_if, is_among, is_empty}
-use Rattle.olk_spec.specs.World.{World}
-use Rattle.olk_spec.specs.Vocabulary.{properties, required, all_of, any_of, not_keyword, leaf}
-use Rattle.olk_spec.specs.Faults.{Not, AnyOf, Leaf, fault, context}
+use Rattle.olk_spec.specs.Vocabulary.{properties, required, all_of, any_of, not_keyword, leaf, one_of}
+use Rattle.olk_spec.specs.Faults.{Not, AnyOf, Leaf, fault, context, OneOfNotValid, OneOfMultipleValid}
 use Rattle.olk_spec.specs.Schemas.{Sub, Schema, read, read_members, listed, numbered, members, texts, branches, is_object, entries_at}
-use Rattle.olk_spec.specs.Malformed.{items_of_array}
 use Rattle.olk_spec.specs.Meanings.{Meaning, restricts, holds}
 use Rattle.olk_spec.specs.Meaning.{accepts, asks, meaning, meaning_step}
-use Rattle.olk_spec.specs.Accepts.{accepting}
 use Rattle.olk_spec.specs.Reports.{required_faults, fault_if, branch_faults}
 use Rattle.olk_spec.specs.Tree.{leaf_node, result, plain, erring, described}
 use Rattle.olk_spec.specs.Trees.{fuses_one, fuses_two, missing_child}
-use Rattle.olk_spec.proofs.Order.{∼_same}
 use Rattle.olk_spec.proofs.Reading.{entry, place, lookup_listed, schema_of_read, entries_there}
 use Rattle.olk_meaning.specs.Members.{member_child, StandsAlone}
-use Rattle.olk_meaning.specs.Told.{IsTold, entries_told, schema_answers, branches_find, branches_shown, accepting_branches, any_told, shown_at, shown_declared, declared_told, names_told, negation_told, faults_told}
-use Rattle.olk_meaning.proofs.Facts.{at_entries, branch_entries, item_entries, list_any_under, sum_by_under, nothing_first, declared_accept, declared_ask, declared_find, required_accepts, required_asks, required_report}
-use Rattle.olk_spec.proofs.Walks.{list_all-true}
-use Rattle.olk_meaning.proofs.Dependencies.{all_those}
-use Rattle.olk_meaning.proofs.Told.{told_by_entries, asked_entries}
+use Rattle.olk_meaning.specs.Told.{IsTold, entries_told, schema_answers, branches_find, branches_shown, accepting_branches, any_told, shown_at, shown_declared, declared_told, names_told}
+use Rattle.olk_meaning.specs.Told.{negation_told, faults_told, accepting_count, one_told}
+use Rattle.olk_meaning.proofs.Facts.{at_entries, branch_entries, item_entries, list_any_under, sum_by-map, nothing_first, declared_accept, declared_ask, declared_find, required_accepts, required_asks}
+use Rattle.olk_meaning.proofs.Facts.{required_report, told_by_entries, asked_entries}
 use Rattle.olk_spec.proofs.Maps.{map-map, filter_once-map, is_empty-map}
-use Rattle.olk_meaning.proofs.Rows.{Rows}
+use Rattle.std.proofs.{lemmas.List.Sums.sum_by-cons, Math.Bool.and-true}
+use Rattle.olk_spec.specs.{World.World, Malformed.items_of_array, Accepts.accepting}
+use Rattle.olk_spec.proofs.{Order.∼_same, Walks.list_all-true}
+use Rattle.olk_meaning.proofs.{Dependencies.all_those, Rows.Rows}
 
 -- ---- counting, and those that there are
 
@@ -91,8 +86,7 @@ module _ (W : World) (u : Bool) (v : Data) where
 
         met : map (λ m. m.0) (filter_once (λ m. is_among m.0 (map (λ e. e.0) (entries_at (read_members to_meaning ms) (codes "properties")))) (members v)) ≡ map
             (λ m. m.0) (filter_once (λ m. is_among m.0 (map (λ e. e.0) (members d))) (members v))
-        met =
-            ap (λ ns. map (λ m. m.0) (filter_once (λ m. is_among m.0 ns) (members v)))
+        met = ap (λ ns. map (λ m. m.0) (filter_once (λ m. is_among m.0 ns) (members v)))
             (ap (map {A = Name × Sub Meaning} _) here ∙ map-map {X = Name × Sub Meaning} {Y = Name × Data} _ _ _ (λ e. refl) _)
 
         shown : flat_map (λ m. map (λ s. s.answer.tree m.1 (P // codes "properties" // m.0) (Q // m.0))
@@ -148,7 +142,7 @@ module _ (W : World) (ms : Members) (d : Data) where
 
     pub items_ask : sum_by (λ s. s.answer.asks v) (read (meaning_step W u) d).items ≡ sum_by (λ e. asks W u e.1 v) given
     unfolding meaning
-    items_ask = ap (sum_by (λ s. s.answer.asks v)) (item_entries (meaning_step W u) d) ∙ sum_by_under (λ e. place (meaning_step W u) e.1) _ given
+    items_ask = ap (sum_by (λ s. s.answer.asks v)) (item_entries (meaning_step W u) d) ∙ sum_by-map _ (λ e. place (meaning_step W u) e.1) given
 
     any_accepts : list_any (λ s. holds s v) (read (meaning_step W u) d).items ≡ list_any (λ e. accepts W u e.1 v) given
     unfolding meaning
@@ -183,4 +177,25 @@ module _ (W : World) (ms : Members) (d : Data) where
     asked = λ free u v. nothing_first 0;
     faults = λ u v P Q. ∼_same (λ i. map (λ t. fault (Leaf k t) v Q (P // k)) (W.faults k (sym (schema_of_read (meaning_step W u) d) i) v));
     shown = λ u alone v P Q. (λ i. leaf_node (P // k) Q (described (map (λ t. fault (Leaf k t) v Q (P // k)) (W.faults k (schema_of_read (meaning_step W u) d i) v))) ∷ []);
+  }
+
+-- ---- `oneOf`, over the raw data of its branches
+
+module _ (W : World) (ms : Members) (d : Data) where
+  counted : (u : Bool) (v : Data) → accepting (read (meaning_step W u) d) v ≡ accepting_count W u v (given W ms d)
+  unfolding meaning
+  counted u v = ap (count_by (λ s. s.answer.accepts v)) (item_entries (meaning_step W u) d)
+      ∙ sum_by-map (λ s. cond (s.answer.accepts v) 1 0) (λ e. place (meaning_step W u) e.1) (given W ms d)
+
+  pub one_of_told : IsTold W ms (codes "oneOf", d) one_of (one_told W (given W ms d))
+  one_of_told = record {
+    verdict = λ u v. ap (λ n. n == 1) (counted u v);
+    asked = λ free u v. nothing_first _ ∙ items_ask W ms d u v;
+    faults = λ u v P Q. ∼_same (λ i.
+        fault_if (sym (counted u v) i == 0) (OneOfNotValid (sym (branches_report W ms d u v (codes "oneOf") P Q) i)) v (P // codes "oneOf") Q
+        ++ fault_if (nat_lt 1 (sym (counted u v) i)) (OneOfMultipleValid (sym (branches_report W ms d u v (codes "oneOf") P Q) i)) v (P // codes "oneOf") Q);
+    shown = λ u alone v P Q. (λ i. cond (counted u v i == 0)
+        (result (P // codes "oneOf") Q None true [] (all_branches_shown W u v (codes "oneOf") P Q d i))
+        (result (P // codes "oneOf") Q None false (put_if (nat_lt 1 (counted u v i)) (codes "oneOf", codes "more than one subschema succeeded", false) [])
+        (accepting_branches_shown W u v (codes "oneOf") P Q d i)) ∷ []);
   }

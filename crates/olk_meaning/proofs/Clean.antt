@@ -1,32 +1,26 @@
--- Which validators a schema object has, where nothing in it is malformed.
-use Rattle.std.specs.Prelude.{◌≡◌, ⊤, Bool, true, false, not, cond, ◌&&◌, ◌||◌, nat_lt, List, [], ◌∷◌, ◌++◌, map, length, codes, Option, Some, None, is_some, is_none, unwrap_or, option_to_list, bytes_eq}
-use Rattle.std.specs.List.{flat_map}
-use Rattle.std.specs.Ordering.{is_eq}
-use Rattle.std.specs.declared.cmp.Ordering.{Ordering}
-use Rattle.std.specs.declared.cmp.Ordering.TheVariants.{Less, Equal, Greater}
-use Rattle.std.proofs.Common.{refl, sym, ◌∙◌, ap}
-use Rattle.std.proofs.lemmas.List.{append-nil, length-map}
-use Rattle.std.proofs.lemmas.Map.Text.{is_eq-slice_cmp}
-use mathlib.Core.Bool.{true≢false}
-use Rattle.serde_json.specs.Data.{Data, boolean, string, array, object, no_items, item, Members}
+-- What is known of a schema object in which nothing is malformed.
+use Rattle.std.proofs.Common.{◌≡◌, Bool, true, false, not, cond, ◌&&◌, ◌||◌, nat_lt, List, [], ◌∷◌, ◌++◌, map, length, codes, Option, Some, None, is_some, is_none, unwrap_or, option_to_list, bytes_eq}
+use Rattle.std.proofs.Common.{ℕ, nat_eq, is_eq, Ordering, Less, Equal, Greater, refl, sym, ◌∙◌, ap, arith, suc, append-nil, true≢false}
+use Rattle.std.specs.Prelude.{⊤}
+use Rattle.std.specs.List.{flat_map, list_any}
+use Rattle.serde_json.specs.Data.{Data, boolean, string, array, object, no_items, item, Members, null}
 use Rattle.olk_spec.specs.Names.{Name, Path, ◌//◌, lookup_name, first_if_equal, is_empty}
-use Rattle.olk_spec.specs.World.{World}
-use Rattle.olk_spec.specs.Vocabulary.{keyword_named}
-use Rattle.olk_spec.specs.Schemas.{Schema, read_members, listed, members, texts, is_object, entries_at, names_at}
+use Rattle.olk_spec.specs.Schemas.{Schema, read_members, listed, members, texts, is_object, entries_at, names_at, Sub, is_truth, wholes_at}
 use Rattle.olk_spec.specs.Malformed.{unless_array, unless_kind, not_a_text}
-use Rattle.olk_spec.specs.Faults.{MultipleTypes}
-use Rattle.olk_spec.specs.Trees.{declares, has_patterns, fuses_two, are_two}
-use Rattle.olk_spec.proofs.Reading.{entry, lookup_listed, is_present_read, entries_at_read, names_at_read, names_there}
+use Rattle.olk_spec.specs.Trees.{declares, has_patterns, fuses_two, are_two, fuses_one}
+use Rattle.olk_spec.proofs.Reading.{entry, lookup_listed, is_present_read, entries_at_read, names_at_read, names_there, place, wholes_at_read}
 use Rattle.olk_spec.proofs.Walks.{same_name}
-use Rattle.olk_meaning.specs.Members.{member_malformations}
 use Rattle.olk_meaning.specs.Conditions.{is_restriction, is_restricted}
-use Rattle.olk_spec.specs.declared.TheConstants.{HASHMAP_THRESHOLD}
-use Rattle.olk_meaning.specs.Fused.{declares_few, allows_others, two_names, fused_pair}
-use Rattle.olk_meaning.proofs.Claims.{listing}
-use Rattle.olk_meaning.specs.AdditionalProperties.{is_rule}
-use Rattle.olk_meaning.proofs.AdditionalPlaces.{additional_malformations}
-use Rattle.olk_meaning.proofs.Conditions.{restricted_read}
+use Rattle.olk_meaning.specs.Fused.{declares_few, allows_others, two_names, fused_pair, refuses_others, one_name, fused_one}
+use Rattle.olk_meaning.proofs.Claims.{listing, FusesOne, fuses_one_name}
+use Rattle.olk_meaning.proofs.AdditionalProperties.{additional_malformations}
+use Rattle.olk_meaning.proofs.Conditions.{restricted_read, present}
+use Rattle.std.proofs.{lemmas.List.length-map, lemmas.Map.Text.is_eq-slice_cmp, lemmas.Bool.Decides.nat_tests}
+use Rattle.olk_spec.specs.{World.World, Vocabulary.keyword_named, Faults.MultipleTypes, declared.TheConstants.HASHMAP_THRESHOLD}
+use Rattle.olk_meaning.specs.{Members.member_malformations, AdditionalProperties.is_rule}
 use Rattle.olk_meaning.proofs.Facts as fact
+
+-- ---- which validators a schema object has, where nothing in it is malformed
 
 pub nothing_in : {X : Type 0} (xs ys : List X) → xs ++ ys ≡ [] → (xs ≡ []) × (ys ≡ [])
 nothing_in [] ys e = (refl, e)
@@ -123,8 +117,7 @@ module _ (W : World) (ms : Members) (P : Path) (clean : flat_map (λ m. member_m
   is_rule_there = by (at_name (codes "additionalProperties")) refl
     where
       refused : (d : Data) → at_name (codes "additionalProperties") ≡ Some d → is_rule d ≡ false → unless_kind (is_rule d) MultipleTypes d (P // codes "additionalProperties") ≡ []
-      refused d q e =
-          (nothing_in _ _
+      refused d q e = (nothing_in _ _
           (sym (additional_malformations W ms d P) ∙ clean_among W ms P (listed ms) clean (codes "additionalProperties") d q)).0
 
       of : (d : Data) (b : Bool) → at_name (codes "additionalProperties") ≡ Some d → is_rule d ≡ b → b ≡ true
@@ -174,3 +167,62 @@ module _ (W : World) (ms : Members) (P : Path) (clean : flat_map (λ m. member_m
 pub names_fused : {X : Type 0} (step : Schema X → X) (ms : Members) (t : Name × Name) → lookup_name (codes "required") (listed ms) ≡ Some (listing t)
     → names_at (read_members step ms) (codes "required") ≡ t.0 ∷ t.1 ∷ []
 names_fused step ms t e = names_there step ms (codes "required") (listing t) (sym (lookup_listed (codes "required") ms) ∙ e)
+
+-- ---- when `additionalProperties` takes over `required`, by the definitions and by the plan
+
+two_or_more : (n : ℕ) → nat_eq (suc (suc n)) 1 ≡ false
+two_or_more n = grind (arith, nat_tests)
+
+module _ {X : Type 0} (step : Schema X → X) (ms : Members) where
+  -- `additionalProperties` is false
+  closed_read : list_any (λ s. is_truth false s.schema) (wholes_at (read_members step ms) (codes "additionalProperties")) ≡ refuses_others (lookup_name (codes "additionalProperties") (listed ms))
+  closed_read =
+      ap (list_any (λ s. is_truth false s.schema)) (wholes_at_read step ms (codes "additionalProperties") ∙ ap (λ o. map (place step) (option_to_list o))
+      (sym (lookup_listed (codes "additionalProperties") ms))) ∙ by (lookup_name (codes "additionalProperties") (listed ms))
+    where
+      by : (o : Option Data) → list_any (λ (s : Sub X). is_truth false s.schema) (map (place step) (option_to_list o)) ≡ refuses_others o
+      by None = refl
+      by (Some null) = refl
+      by (Some (boolean true)) = refl
+      by _ = refl
+
+  listed_read : names_at (read_members step ms) (codes "required") ≡ flat_map texts (option_to_list (lookup_name (codes "required") (listed ms)))
+  listed_read = names_at_read step ms (codes "required") ∙ ap (λ o. flat_map texts (option_to_list o)) (sym (lookup_listed (codes "required") ms))
+
+  fuses_one_read : fuses_one (read_members step ms) ≡ (is_some (lookup_name (codes "properties") (listed ms)) && refuses_others (lookup_name (codes "additionalProperties") (listed ms))
+      && not (is_some (lookup_name (codes "patternProperties") (listed ms))) && nat_eq (length (flat_map texts (option_to_list (lookup_name (codes "required") (listed ms))))) 1)
+  fuses_one_read = λ i. present step ms (codes "properties") i && closed_read i && not (present step ms (codes "patternProperties") i) && nat_eq (length (listed_read i)) 1
+
+  -- what the plan fuses is fused, and it is the name that is listed
+  module _ (n : Name) (e : fused_one ms ≡ Some n) where
+    abbrev fusing : FusesOne ms n
+    fusing = fuses_one_name ms n e
+
+    pub fused_reads : fuses_one (read_members step ms) ≡ true
+    fused_reads = fuses_one_read ∙ (λ i. fusing.declared i && refuses_others (fusing.closed i) && not (is_some (fusing.unpatterned i))
+        && nat_eq (length (flat_map texts (option_to_list (fusing.listed_at i)))) 1)
+
+    pub fused_names_read : names_at (read_members step ms) (codes "required") ≡ n ∷ []
+    fused_names_read = names_there step ms (codes "required") (array _) (sym (lookup_listed (codes "required") ms) ∙ fusing.listed_at)
+
+  -- where `required` lists texts alone, nothing else is
+  pub one_fused : (L : Path) → ListsTexts L (lookup_name (codes "required") (listed ms)) → fuses_one (read_members step ms) ≡ is_some (fused_one ms)
+  one_fused L h = fuses_one_read ∙ by (is_some _) (refuses_others _) _ _ h
+    where
+      one : (o : Option Data) → ListsTexts L o → nat_eq (length (flat_map texts (option_to_list o))) 1 ≡ is_some (one_name o)
+      one None k = refl
+      one (Some (array no_items)) k = refl
+      one (Some (array (item (string a) no_items))) k = refl
+      one (Some (array (item (string a) (item (string b) ds)))) k = two_or_more _
+      one (Some d) k = absurd (true≢false (sym (ap is_empty k)))
+
+      by : (p c : Bool) (t r : Option Data) → ListsTexts L r → (p && c && not (is_some t) && nat_eq (length (flat_map texts (option_to_list r))) 1) ≡ is_some
+          (cond (p && is_none t && c) (one_name r) None)
+      by true true None r k = one r k
+      by true false None r k = refl
+      by _ _ _ r k = refl
+
+-- so in an object in which nothing is malformed
+pub clean_one_fused : (W : World) (ms : Members) (P : Path) → flat_map (λ m. member_malformations W ms m (keyword_named W m.0) P) (listed ms) ≡ []
+    → {X : Type 0} (step : Schema X → X) → fuses_one (read_members step ms) ≡ is_some (fused_one ms)
+clean_one_fused W ms P clean step = one_fused step ms (P // codes "required") (texts_listed W ms P clean)

@@ -1,39 +1,38 @@
--- `if`, `then` and `else`, over the raw data of their values.
-use Rattle.std.specs.Prelude.{◌≡◌, ◌+◌, Bool, true, false, not, cond, ◌&&◌, ◌||◌, List, [], ◌∷◌, ◌++◌, map, codes, is_some, Option, Some, None, option_to_list, sum_by, bytes_eq}
+-- What is read of `if`, `then` and `else`, and of the keywords beside `additionalProperties`.
+use Rattle.std.proofs.Common.{◌≡◌, ◌+◌, Bool, true, false, not, cond, ◌&&◌, ◌||◌, List, [], ◌∷◌, ◌++◌, map, codes, is_some, Option, Some, None, option_to_list, sum_by, bytes_eq, refl, sym, ap, subst}
+use Rattle.std.proofs.Common.{◌∙◌, append-nil, true≢false}
 use Rattle.std.specs.List.{list_all, list_any, flat_map}
-use Rattle.std.proofs.Common.{refl, sym, ap, subst, ◌∙◌, ◌⊎◌, inl, inr}
-use Rattle.std.proofs.lemmas.List.{append-nil}
 use Rattle.std.proofs.lemmas.List.Sums.{sum_by-cons}
 use Rattle.std.proofs.Math.Bool.{or-true, and-true, or-false}
-use mathlib.Core.Bool.{true≢false}
 use Rattle.serde_json.specs.Data.{Data, Members}
-use Rattle.olk_spec.specs.Names.{Name, Path, ◌//◌, lookup_name, put_if}
-use Rattle.olk_spec.specs.World.{World}
+use Rattle.olk_spec.specs.Names.{Name, Path, ◌//◌, lookup_name, put_if, filter_once, is_among, is_empty}
 use Rattle.olk_spec.specs.Vocabulary.{if_keyword, keyword_named}
-use Rattle.olk_spec.specs.Schemas.{Sub, Schema, Keywords, read, read_members, listed, wholes_at, is_object, is_truth, is_present}
+use Rattle.olk_spec.specs.Schemas.{Sub, Schema, Keywords, read, read_members, listed, wholes_at, is_object, is_truth, is_present, members, entries_at}
 use Rattle.olk_spec.specs.Malformed.{read_places, places_where, itself}
-use Rattle.olk_spec.specs.Meanings.{Meaning, restricts, is_conditional, if_accepts, if_refuses, Asked, asked}
+use Rattle.olk_spec.specs.Meanings.{Meaning, restricts, is_conditional, if_accepts, if_refuses, Asked, asked, is_declared, matching, additional}
 use Rattle.olk_spec.specs.Meaning.{accepts, asks, report, tree, meaning, meaning_step}
 use Rattle.olk_spec.specs.Tree.{Tree, plain}
-use Rattle.olk_spec.specs.Trees.{case_trees}
 use Rattle.olk_spec.proofs.Walks.{same_name}
-use Rattle.olk_spec.proofs.Reading.{place, lookup_listed, whole_read, is_present_read, wholes_there, wholes_absent, wholes_at_read}
+use Rattle.olk_spec.proofs.Reading.{place, lookup_listed, whole_read, is_present_read, wholes_there, wholes_absent, wholes_at_read, entry, entries_at_read}
 use Rattle.olk_meaning.specs.Members.{member_accepts, member_asks, member_report, member_child, member_standing}
 use Rattle.olk_meaning.specs.Conditions.{is_condition, is_conditional_name, is_restriction, is_restricted, Known, IsKnown}
 use Rattle.olk_meaning.specs.Chosen.{Placed, if_form, standing_step}
 use Rattle.olk_meaning.proofs.Facts.{accepts_it, asks_it, finds_it, nothing_first, nothing_last}
-use Rattle.olk_meaning.proofs.TakenOver.{absent_if}
+use Rattle.olk_spec.proofs.Maps.{map-map, filter_once-map, is_empty-map}
+use Rattle.olk_meaning.specs.AdditionalProperties.{entries_in, declared_beside, patterns_beside, has_beside, is_declared_in, matching_at, is_other, other_members}
+use Rattle.olk_spec.specs.{World.World, Trees.case_trees, Reports.has_neighbour}
+use Rattle.olk_meaning.proofs.{Claims.absent_if, Listed.filter_once-same}
 
 -- ---- the three names
 
-pub conditional_named : (k : Name) → is_conditional_name k ≡ true → (k ≡ codes "if") ⊎ (k ≡ codes "then") ⊎ (k ≡ codes "else")
-conditional_named k e = by (bytes_eq k _) _ _ refl refl refl e
+-- what holds of the three holds of each such name
+pub of_conditional : (P : Name → Type 0) → P (codes "if") → P (codes "then") → P (codes "else") → (k : Name) → is_conditional_name k ≡ true → P k
+of_conditional P x y z k e = by (bytes_eq k _) _ _ refl refl refl e
   where
-    by : (a b c : Bool) → bytes_eq k (codes "if") ≡ a → bytes_eq k (codes "then") ≡ b → bytes_eq k (codes "else") ≡ c → (a || (b || (c || false))) ≡ true
-        → (k ≡ codes "if") ⊎ (k ≡ codes "then") ⊎ (k ≡ codes "else")
-    by true b c p q r h = inl (same_name k _ p)
-    by false true c p q r h = inr (inl (same_name k _ q))
-    by false false true p q r h = inr (inr (same_name k _ r))
+    by : (a b c : Bool) → bytes_eq k (codes "if") ≡ a → bytes_eq k (codes "then") ≡ b → bytes_eq k (codes "else") ≡ c → (a || (b || (c || false))) ≡ true → P k
+    by true b c p q r h = subst P (sym (same_name k _ p)) x
+    by false true c p q r h = subst P (sym (same_name k _ q)) y
+    by false false true p q r h = subst P (sym (same_name k _ r)) z
     by false false false p q r h = absurd (true≢false (sym h))
 
 -- beside `then`, and beside `else`, `if` is read where it is there
@@ -42,8 +41,7 @@ module _ (ms : Members) where
   if_beside_then there = ap (λ b. is_some (lookup_name (codes "if") (listed ms)) && (b || is_some (lookup_name (codes "else") (listed ms)))) there ∙ and-true _
 
   if_beside_else : is_some (lookup_name (codes "else") (listed ms)) ≡ true → is_condition ms ≡ is_some (lookup_name (codes "if") (listed ms))
-  if_beside_else there =
-      ap (λ b. is_some (lookup_name (codes "if") (listed ms)) && (is_some (lookup_name (codes "then") (listed ms)) || b)) there
+  if_beside_else there = ap (λ b. is_some (lookup_name (codes "if") (listed ms)) && (is_some (lookup_name (codes "then") (listed ms)) || b)) there
       ∙ ap (λ b. is_some (lookup_name (codes "if") (listed ms)) && b) (or-true _) ∙ and-true _
 
 module _ {X : Type 0} (step : Schema X → X) (ms : Members) where
@@ -54,8 +52,7 @@ module _ {X : Type 0} (step : Schema X → X) (ms : Members) where
   condition_read = λ i. present (codes "if") i && (present (codes "then") i || present (codes "else") i)
 
   pub restricted_read : restricts (read_members step ms) ≡ is_restricted ms
-  restricted_read =
-      ap (list_any (λ s. is_truth false s.schema || is_object s.schema)) (wholes_at_read step ms (codes "additionalProperties")) ∙ by _
+  restricted_read = ap (list_any (λ s. is_truth false s.schema || is_object s.schema)) (wholes_at_read step ms (codes "additionalProperties")) ∙ by _
       ∙ ap is_restriction (sym (lookup_listed (codes "additionalProperties") ms))
     where
       by : (o : Option Data) → list_any (λ (s : Sub X). is_truth false s.schema || is_object s.schema) (map (place step) (option_to_list o)) ≡ is_restriction o
@@ -70,16 +67,11 @@ module _ {X : Type 0} (step : Schema X → X) (ms : Members) where
 
     -- itself, where `if` is read
     pub places_by_condition : is_conditional_name k ≡ true → PlacesByCondition k
-    places_by_condition e = by (conditional_named k e)
-      where
-        by : (k ≡ codes "if") ⊎ (k ≡ codes "then") ⊎ (k ≡ codes "else") → PlacesByCondition k
-        by (inl q) = subst PlacesByCondition (sym q) (ap (λ b. places_where (codes "if") b (itself (codes "if") (read step d).whole)) (condition_read ∙ sym (known e).0))
-        by (inr (inl q)) =
-            subst PlacesByCondition (sym q) (ap (λ b. places_where (codes "then") b (itself (codes "then") (read step d).whole))
-            (present (codes "if") ∙ sym (if_beside_then ms (ap (λ n. is_some (lookup_name n (listed ms))) (sym q) ∙ (known e).1)) ∙ sym (known e).0))
-        by (inr (inr q)) =
-            subst PlacesByCondition (sym q) (ap (λ b. places_where (codes "else") b (itself (codes "else") (read step d).whole))
-            (present (codes "if") ∙ sym (if_beside_else ms (ap (λ n. is_some (lookup_name n (listed ms))) (sym q) ∙ (known e).1)) ∙ sym (known e).0))
+    places_by_condition e = of_conditional (λ n. is_some (lookup_name n (listed ms)) ≡ true → PlacesByCondition n)
+        (λ there. ap (λ b. places_where (codes "if") b (itself (codes "if") (read step d).whole)) (condition_read ∙ sym (known e).0))
+        (λ there. ap (λ b. places_where (codes "then") b (itself (codes "then") (read step d).whole)) (present (codes "if") ∙ sym (if_beside_then ms there) ∙ sym (known e).0))
+        (λ there. ap (λ b. places_where (codes "else") b (itself (codes "else") (read step d).whole)) (present (codes "if") ∙ sym (if_beside_else ms there) ∙ sym (known e).0))
+        k e (known e).1
 
 -- what is shown where the test holds, of the schema that stands there
 module _ (W : World) (u : Bool) (v : Data) where
@@ -99,8 +91,7 @@ module _ (W : World) (ms : Members) (u : Bool) (v : Data) where
 
   module _ (d : Data) (alone : is_condition ms ≡ false) where
     pub if_shows_alone : (P Q : Path) → member_child W ms (codes "if", d) if_keyword u v P Q ≡ []
-    if_shows_alone P Q =
-        ap (λ b. put_if b (plain (P // codes "if") Q (put_if ((read to_meaning d).whole.answer.accepts v)
+    if_shows_alone P Q = ap (λ b. put_if b (plain (P // codes "if") Q (put_if ((read to_meaning d).whole.answer.accepts v)
         ((read to_meaning d).whole.answer.tree v (P // codes "if") Q) [] ++ case_trees W u neighbours v P Q (codes "if") (read to_meaning d)
         ((read to_meaning d).whole.answer.accepts v) (codes "then") ++ case_trees W u neighbours v P Q (codes "if") (read to_meaning d)
         (not ((read to_meaning d).whole.answer.accepts v)) (codes "else"))) []) (condition_read to_meaning ms ∙ alone)
@@ -172,8 +163,7 @@ module _ (W : World) (ms : Members) (u : Bool) (v : Data) where
   -- what stands at a name, shown where the test holds
   case_read : (d : Data) (b : Bool) (k : Name) (P Q : Path) → case_trees W u neighbours v P Q (codes "if") (read to_meaning d) b k ≡ case_shown W u v b (P // k) Q (lookup_name k (listed ms))
   unfolding meaning
-  case_read d b k P Q =
-      ap (flat_map (λ s. put_if b _ [])) (wholes_at_read to_meaning ms k ∙ ap (λ o. map (place to_meaning) (option_to_list o))
+  case_read d b k P Q = ap (flat_map (λ s. put_if b _ [])) (wholes_at_read to_meaning ms k ∙ ap (λ o. map (place to_meaning) (option_to_list o))
       (sym (lookup_listed k ms))) ∙ by (lookup_name k (listed ms))
     where
       by : (o : Option Data) → flat_map (λ s. put_if b (s.answer.tree v (P // k) Q) []) (map (place to_meaning) (option_to_list o)) ≡ case_shown W u v b (P // k) Q o
@@ -200,7 +190,24 @@ pub record MeansNothing (W : World) (ms : Members) (m : Name × Data) : Type 0 w
 
 pub unpaired_means_nothing : (W : World) (ms : Members) (m : Name × Data) → is_conditional_name m.0 ≡ true → is_condition ms ≡ false
     → is_some (lookup_name m.0 (listed ms)) ≡ true → MeansNothing W ms m
-unpaired_means_nothing W ms m e unread there = by (conditional_named m.0 e)
+unpaired_means_nothing W ms m e unread there = of_conditional (λ n. is_some (lookup_name n (listed ms)) ≡ true → MeansNothing W ms (n, m.1))
+    (λ here. record {
+      verdict = λ u v. refl;
+      report = λ u v P Q. refl;
+      child = λ u v P Q. if_shows_alone W ms u v m.1 unread P Q;
+      stands = λ P. ap (λ b. cond b (if_standing P) []) (condition_read (standing_step W) ms ∙ unread);
+    }) (λ here. let none = absent (codes "if") (if_beside_then ms here) in record {
+      verdict = λ u v. (then_where W ms u v m.1 false (ap (list_any _) (no_if W ms u v none))).verdict;
+      report = λ u v. (then_where W ms u v m.1 false (ap (list_any _) (no_if W ms u v none))).faults;
+      child = λ u v P Q. refl;
+      stands = λ P. refl;
+    }) (λ here. let none = absent (codes "if") (if_beside_else ms here) in record {
+      verdict = λ u v. (else_where W ms u v m.1 false (ap (list_any _) (no_if W ms u v none))).verdict;
+      report = λ u v. (else_where W ms u v m.1 false (ap (list_any _) (no_if W ms u v none))).faults;
+      child = λ u v P Q. refl;
+      stands = λ P. refl;
+    })
+    m.0 e there
   where
     absent : (n : Name) → is_condition ms ≡ is_some (lookup_name n (listed ms)) → lookup_name n (listed ms) ≡ None
     absent n q = absent_if _ (sym q ∙ unread)
@@ -211,22 +218,29 @@ unpaired_means_nothing W ms m e unread there = by (conditional_named m.0 e)
         (P // codes "if", if_form (is_present S (codes "then")) (is_present S (codes "else")))
         ∷ ((read (standing_step W) m.1).whole.answer (P // codes "if") ++ flat_map (λ s. s.answer (P // codes "then")) (wholes_at S (codes "then")) ++ flat_map (λ s. s.answer (P // codes "else")) (wholes_at S (codes "else")))
 
-    by : (m.0 ≡ codes "if") ⊎ (m.0 ≡ codes "then") ⊎ (m.0 ≡ codes "else") → MeansNothing W ms m
-    by (inl q) = subst (λ n. MeansNothing W ms (n, m.1)) (sym q) record {
-      verdict = λ u v. refl;
-      report = λ u v P Q. refl;
-      child = λ u v P Q. if_shows_alone W ms u v m.1 unread P Q;
-      stands = λ P. ap (λ b. cond b (if_standing P) []) (condition_read (standing_step W) ms ∙ unread);
-    }
-    by (inr (inl q)) = let none = absent (codes "if") (if_beside_then ms (ap (λ n. is_some (lookup_name n (listed ms))) (sym q) ∙ there)) in subst (λ n. MeansNothing W ms (n, m.1)) (sym q) record {
-      verdict = λ u v. (then_where W ms u v m.1 false (ap (list_any _) (no_if W ms u v none))).verdict;
-      report = λ u v. (then_where W ms u v m.1 false (ap (list_any _) (no_if W ms u v none))).faults;
-      child = λ u v P Q. refl;
-      stands = λ P. refl;
-    }
-    by (inr (inr q)) = let none = absent (codes "if") (if_beside_else ms (ap (λ n. is_some (lookup_name n (listed ms))) (sym q) ∙ there)) in subst (λ n. MeansNothing W ms (n, m.1)) (sym q) record {
-      verdict = λ u v. (else_where W ms u v m.1 false (ap (list_any _) (no_if W ms u v none))).verdict;
-      report = λ u v. (else_where W ms u v m.1 false (ap (list_any _) (no_if W ms u v none))).faults;
-      child = λ u v P Q. refl;
-      stands = λ P. refl;
-    }
+-- ---- what stands beside `additionalProperties` as it is read, over the raw data of the members
+
+module _ {X : Type 0} (step : Schema X → X) (ms : Members) where
+  pub entries_beside : (k : Name) → entries_at (read_members step ms) k ≡ map (entry step) (entries_in (lookup_name k (listed ms)))
+  entries_beside k = entries_at_read step ms k ∙ ap (λ o. flat_map (λ d. map (entry step) (members d)) (option_to_list o)) (sym (lookup_listed k ms)) ∙ by (lookup_name k (listed ms))
+    where
+      by : (o : Option Data) → flat_map (λ d. map (entry step) (members d)) (option_to_list o) ≡ map (entry step) (entries_in o)
+      by None = refl
+      by (Some d) = append-nil _
+
+  pub neighbour_read : has_neighbour (read_members step ms) ≡ has_beside ms
+  neighbour_read = λ i. present step ms (codes "properties") i || present step ms (codes "patternProperties") i
+
+  pub declared_read : (n : Name) → is_declared (read_members step ms) n ≡ is_declared_in (declared_beside ms) n
+  declared_read n = ap (λ es. is_among n (map {A = Name × Sub X} (λ e. e.0) es)) (entries_beside (codes "properties"))
+      ∙ ap (is_among n) (map-map {X = Name × Sub X} {Y = Name × Data} (λ e. e.0) _ (entry step) (λ e. refl) _)
+
+  module _ (W : World) (u : Bool) where
+    pub matching_read : (n : Name) → matching (read_members step ms) W u n ≡ map (entry step) (matching_at W u (patterns_beside ms) n)
+    matching_read n = ap (filter_once _) (entries_beside (codes "patternProperties")) ∙ filter_once-map _ _ (entry step) (λ e. refl) (patterns_beside ms)
+
+    pub other_read : (n : Name) → (not (is_declared (read_members step ms) n) && is_empty (matching (read_members step ms) W u n)) ≡ is_other W u (declared_beside ms) (patterns_beside ms) n
+    other_read n = λ i. not (declared_read n i) && (ap is_empty (matching_read n) ∙ is_empty-map (entry step) _) i
+
+    pub additional_read : (v : Data) → additional (read_members step ms) W u v ≡ other_members W u (declared_beside ms) (patterns_beside ms) v
+    additional_read v = filter_once-same _ _ (λ m. other_read m.0) (members v)

@@ -1,22 +1,15 @@
 -- `dependentRequired`, `dependentSchemas` and `dependencies`, over the raw data of their values.
-use Rattle.std.specs.Prelude.{◌≡◌, ℕ, ◌+◌, Bool, true, false, not, cond, ◌&&◌, List, [], ◌∷◌, ◌++◌, map, sum_by, codes}
+use Rattle.std.proofs.Common.{◌≡◌, ℕ, ◌+◌, Bool, true, false, not, cond, ◌&&◌, List, [], ◌∷◌, ◌++◌, map, sum_by, codes, refl, sym, ◌∙◌, ap, subst, append_assoc, subst₂}
 use Rattle.std.specs.List.{list_all, flat_map}
-use Rattle.std.proofs.Common.{refl, sym, ◌∙◌, ap, subst}
-use Rattle.std.proofs.lemmas.List.{append_assoc}
-use Rattle.std.proofs.lemmas.List.Folds.{list_all-map}
-use Rattle.std.proofs.lemmas.List.Sums.{sum_by-cons}
 use Rattle.std.proofs.Math.Bool.{and-false, and-true}
-use mathlib.Core.Path.{subst₂}
 use Rattle.serde_json.specs.Data.{Data, Members}
 use Rattle.olk_spec.specs.Names.{Name, Path, ◌//◌, is_empty, filter_once, put_if}
-use Rattle.olk_spec.specs.World.{World}
 use Rattle.olk_spec.specs.Vocabulary.{dependent_required, dependent_schemas, dependencies}
 use Rattle.olk_spec.specs.Faults.{Fault, ◌∼◌, like_empty, like_through}
 use Rattle.olk_spec.specs.Schemas.{Schema, Keywords, read, read_members, members, has, texts, is_array}
 use Rattle.olk_spec.specs.Meanings.{applied, asked}
 use Rattle.olk_spec.specs.Meaning.{accepts, asks, report, meaning, meaning_step}
 use Rattle.olk_spec.specs.Accepts.{missing, due}
-use Rattle.olk_spec.specs.Reports.{required_faults}
 use Rattle.olk_spec.specs.Tree.{plain, erring}
 use Rattle.olk_spec.specs.Malformed.{each, own_refusals, read_places, unless_object, not_a_text, name_list_refusals}
 use Rattle.olk_spec.proofs.Truth.{and_first, and_second}
@@ -25,10 +18,10 @@ use Rattle.olk_spec.proofs.Maps.{flat_map-map, map-map, filter_once-map}
 use Rattle.olk_spec.proofs.Reading.{entry, place, entries_read, schema_of_read}
 use Rattle.olk_meaning.specs.Told.{IsTold, entries_told, schema_answers}
 use Rattle.olk_meaning.specs.Dependencies.{due_entries, list_entries, schema_entries, are_lists, list_answers, dependency_answers}
-use Rattle.olk_meaning.proofs.Facts.{accepts_it, asks_it, finds_it, sum_by_under, nothing_first, nothing_last}
-use Rattle.olk_meaning.proofs.Exchanged.{sum_of_none}
-use Rattle.olk_meaning.proofs.Told.{told_by_entries, asked_entries}
+use Rattle.olk_meaning.proofs.Facts.{accepts_it, asks_it, finds_it, sum_by-map, nothing_first, nothing_last, sum_of_none, told_by_entries, asked_entries}
 use Rattle.olk_meaning.proofs.Rows.{Rows}
+use Rattle.std.proofs.{lemmas.List.Folds.list_all-map, lemmas.List.Sums.sum_by-cons}
+use Rattle.olk_spec.specs.{World.World, Reports.required_faults}
 
 -- ---- those of a list, in two parts
 
@@ -154,20 +147,18 @@ module _ (W : World) (ms : Members) (d : Data) where
   pub dependencies_told : IsTold W ms (codes "dependencies", d) dependencies (entries_told (dependency_answers W) (due_entries d))
   unfolding meaning
   dependencies_told = record {
-    verdict = λ u v.
-        (λ i. list_all accepts_it (asked_due u v i) && list_all (λ e. is_empty (missing e.1 v)) (lists_read (meaning_step W u) d v i))
+    verdict = λ u v. (λ i. list_all accepts_it (asked_due u v i) && list_all (λ e. is_empty (missing e.1 v)) (lists_read (meaning_step W u) d v i))
         ∙ (λ i. list_all-map accepts_it (λ e. asked (place (meaning_step W u) e.1) v (codes "dependencies" ∷ e.0 ∷ []) []) (schemas_due v) i
         && list_all-map (λ (e : Name × List Name). is_empty (missing e.1 v)) (λ e. (e.0, texts e.1)) (lists_due v) i)
         ∙ all_parted (λ e. has e.0 v) (λ e. is_array e.1) (λ e. accepts W u e.1 v) (λ e. is_empty _) (λ e. (dependency_answers W).verdict u e v) (λ e. refl) (members d);
-    asked = λ free u v. nothing_last _ ∙ ap (sum_by asks_it) (asked_due u v) ∙ sum_by_under _ asks_it (schemas_due v)
+    asked = λ free u v. nothing_last _ ∙ ap (sum_by asks_it) (asked_due u v) ∙ sum_by-map asks_it _ (schemas_due v)
         ∙ sum_parted (λ e. has e.0 v) (λ e. is_array e.1) (λ e. asks W u e.1 v) (λ e. (dependency_answers W).asked u e v) (λ e. refl) (members d);
     faults = λ u v P Q. ∼_sym (subst (λ fs. fs ∼ flat_map (λ e. (dependency_answers W).faults u e v (P // codes "dependencies") Q) (due_entries d v))
         (sym ((λ i. flat_map (finds_it P Q) (asked_due u v i) ++ flat_map (λ e. required_faults e.1 v (P // codes "dependencies") Q) (lists_read (meaning_step W u) d v i))
         ∙ (λ i. flat_map-map (finds_it P Q) (λ e. report W u e.1 v (P // codes "dependencies" // e.0) Q)
         (λ e. asked (place (meaning_step W u) e.1) v (codes "dependencies" ∷ e.0 ∷ []) []) (λ e. refl) (schemas_due v) i
         ++ flat_map-map (λ (e : Name × List Name). required_faults e.1 v (P // codes "dependencies") Q) (λ e. required_faults (texts e.1) v (P // codes "dependencies") Q)
-        (λ e. (e.0, texts e.1)) (λ e. refl) (lists_due v) i)))
-        (found_parted _ _ _ _ _ (λ e. refl) (members d)));
+        (λ e. (e.0, texts e.1)) (λ e. refl) (lists_due v) i))) (found_parted _ _ _ _ _ (λ e. refl) (members d)));
     shown = λ u alone v P Q. ap (λ ts. plain (P // codes "dependencies") Q ts ∷ [])
         (ap (map (λ e. cond (is_array e.1.schema) _ _)) (entries_due (meaning_step W u) d v)
         ∙ map-map (λ e. cond (is_array e.1.schema) _ _) (λ e. (dependency_answers W).shown u e v _ Q) (entry (meaning_step W u)) (λ e. refl) (due_entries d v));
@@ -183,8 +174,7 @@ module _ {X : Type 0} (step : Schema X → X) (d : Data) (k : Name) where
         ∙ ap (λ fs. unless_object d L ++ fs) (flat_map-map _ _ (entry step) (λ e. refl) (members d))
 
     pub dependencies_refusals : own_refusals W k (read step d) L dependencies ≡ unless_object d L ++ flat_map (λ e. not_a_text e.1 L) (members d)
-    dependencies_refusals =
-        (λ i. unless_object (schema_of_read step d i) L ++ flat_map (λ e. not_a_text e.1.schema L) (entries_read step d i))
+    dependencies_refusals = (λ i. unless_object (schema_of_read step d i) L ++ flat_map (λ e. not_a_text e.1.schema L) (entries_read step d i))
         ∙ ap (λ fs. unless_object d L ++ fs) (flat_map-map _ _ (entry step) (λ e. refl) (members d))
 
   module _ (S : Keywords X) where

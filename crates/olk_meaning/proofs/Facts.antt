@@ -1,34 +1,137 @@
--- What the keywords mean, refuse and cost that `additionalProperties` takes over, over the raw data of their values; and walks over what a keyword asks.
-use Rattle.std.specs.Prelude.{◌≡◌, ℕ, ◌+◌, Bool, false, ◌||◌, List, [], ◌∷◌, ◌++◌, map, sum_by, codes, decimal, option_to_list}
-use Rattle.std.specs.List.{list_all, list_any, flat_map, enumerate_from}
-use Rattle.std.specs.declared.cmp.Ordering.{Ordering}
-use Rattle.std.specs.declared.cmp.Ordering.TheVariants.{Less, Equal, Greater}
-use Rattle.std.proofs.Common.{refl, sym, ◌∙◌, ap, arith}
-use Rattle.std.proofs.lemmas.List.{append-nil, map-append}
-use Rattle.std.proofs.lemmas.List.Folds.{list_all-map}
-use Rattle.std.proofs.lemmas.List.Sums.{sum_by-cons}
-use Rattle.std.proofs.lemmas.Grind.{flat_map-append}
-use Rattle.std.proofs.Math.Bool.{and-true}
-use mathlib.Core.Bool.{true≢false}
-use Rattle.serde_json.specs.Data.{Data, object, Members}
-use Rattle.olk_spec.specs.Names.{Name, Path, ◌//◌, down, is_empty, lookup_name, first_if_equal}
+-- What a keyword asks of subschemas, and what an object and a keyword answer of the raw data.
+use Rattle.olk_spec.specs.Costs.{Cost, total_cost, ◌⊕◌, cost, cost_step, one_place}
+use Rattle.olk_spec.proofs.CostSums.{total_cost-append, total_cost-map}
+use Rattle.std.proofs.Common.{◌≡◌, ℕ, ◌+◌, Bool, true, false, cond, not, ◌||◌, List, [], ◌∷◌, ◌++◌, map, sum_by, option_to_list, Option, Some, None, bytes_eq, codes, decimal, ◌&&◌, refl, sym, ◌∙◌, ap}
+use Rattle.std.proofs.Common.{arith, append-nil, subst₂, Ordering, Less, Equal, Greater, true≢false}
+use Rattle.std.specs.Prelude.{⊤}
+use Rattle.std.specs.List.{list_all, flat_map, list_any, enumerate_from}
+use Rattle.std.proofs.lemmas.List.Sums.{sum_by-cons, sum_by-append}
+use Rattle.olk_spec.specs.Names.{Name, lookup_name, filter_once, put_if, Path, ◌//◌, down, is_empty, first_if_equal}
+use Rattle.olk_spec.specs.Faults.{Fault, ◌∼◌, SingleType, object_type, fault, MultipleTypes}
+use Rattle.olk_spec.proofs.Order.{∼_inside_out, ∼_same}
+use Rattle.olk_spec.proofs.Walks.{Distinct, at_lookup, bytes_eq-sym, list_all-inside_out, list_all-filter_once, list_all-flat_map}
+use Rattle.serde_json.specs.Data.{Data, object, Members, string, boolean}
 use Rattle.olk_spec.specs.World.{World}
-use Rattle.olk_spec.specs.Vocabulary.{properties, required}
-use Rattle.olk_spec.specs.Faults.{Fault, SingleType, object_type, fault}
-use Rattle.olk_spec.specs.Schemas.{Schema, read, read_members, numbered, at, members, texts, branches, is_object}
-use Rattle.olk_spec.specs.Malformed.{items_of_array, unless_array, not_a_text, each, malformations_step, malformations_at}
-use Rattle.olk_spec.specs.Meanings.{Asked, asked, applied}
-use Rattle.olk_spec.specs.Meaning.{accepts, asks, report, meaning, meaning_step}
-use Rattle.olk_spec.specs.Accepts.{missing}
-use Rattle.olk_spec.specs.Reports.{required_faults}
-use Rattle.olk_spec.specs.Costs.{cost, cost_step, ◌⊕◌, total_cost}
-use Rattle.olk_spec.proofs.Reading.{entry, place, entries_read, items_read, branches_read, schema_of_read}
-use Rattle.olk_spec.proofs.Walks.{list_all-flat_map}
-use Rattle.olk_meaning.proofs.Exchanged.{sum_by-flat_map}
-use Rattle.olk_meaning.specs.Members.{member_accepts, member_asks, member_report, member_malformations}
+use Rattle.olk_spec.specs.Vocabulary.{properties, required, Keyword, pattern_properties, any_of, one_of, not_keyword, if_keyword, keyword_named}
+use Rattle.olk_spec.specs.Schemas.{Schema, read, read_members, numbered, at, members, texts, branches, is_object, keywords, Keywords, Part, listed}
+use Rattle.olk_spec.specs.Malformed.{items_of_array, unless_array, not_a_text, each, malformations_step, malformations_at, keyword_malformations}
+use Rattle.olk_spec.specs.Meanings.{Asked, asked, applied, Meaning, Subschema, asked_whole}
+use Rattle.olk_spec.specs.Meaning.{accepts, asks, report, meaning, meaning_step, tree}
+use Rattle.olk_spec.specs.Accepts.{missing, keyword_accepts, wanted}
+use Rattle.olk_spec.specs.Reports.{required_faults, keyword_report, own}
+use Rattle.olk_spec.proofs.Reading.{entry, place, entries_read, items_read, branches_read, schema_of_read, members_read}
+use Rattle.olk_meaning.specs.Members.{member_accepts, member_asks, member_report, member_malformations, member_child, member_cost}
 use Rattle.olk_spec.proofs.Maps.{flat_map-map, map-map}
-use Rattle.olk_spec.specs.Tree.{Tree}
+use Rattle.olk_spec.specs.Tree.{Tree, plain}
 use Rattle.olk_meaning.proofs.Rows.{Rows}
+use Rattle.olk_spec.specs.Asks.{own_asks, keyword_asks}
+use Rattle.olk_spec.proofs.Each.{Each, Each-implies, Each-any}
+use Rattle.olk_spec.proofs.Applied.{GoodAsked, applied_good}
+use Rattle.olk_spec.proofs.Induction.{good_answer, GoodSchema, GoodPart}
+use Rattle.olk_spec.specs.Trees.{keyword_child, asked_trees}
+use Rattle.olk_meaning.specs.Told.{IsTold, entries_told, placed_answers}
+use Rattle.std.proofs.{Math.Bool.and-true, lemmas.List.map-append, lemmas.List.Folds.list_all-map, lemmas.Grind.flat_map-append}
+use Rattle.olk_spec.proofs.Passing.{no_members}
+
+-- ---- sums
+
+module _ {X : Type 0} where
+  pub sum_of_both : (f g : X → ℕ) (xs : List X) → sum_by (λ x. f x + g x) xs ≡ sum_by f xs + sum_by g xs
+  sum_of_both f g [] = refl
+  sum_of_both f g (x ∷ xs) =
+      let both = sum_by-cons (λ x. f x + g x) x xs in
+      let one = sum_by-cons f x xs in
+      let other = sum_by-cons g x xs in
+      let rest = sum_of_both f g xs in
+      omega arith
+
+  pub sum_of_none : (xs : List X) → sum_by (λ x. 0) xs ≡ 0
+  sum_of_none [] = refl
+  sum_of_none (x ∷ xs) = let next = sum_by-cons (λ x. 0) x xs in let rest = sum_of_none xs in omega arith
+
+  pub sum_of_those : (t : X → Bool) (f : X → ℕ) (xs : List X) → sum_by (λ x. cond (t x) (f x) 0) xs ≡ sum_by f (filter_once t xs)
+  sum_of_those t f [] = refl
+  sum_of_those t f (x ∷ xs) = sum_by-cons _ x xs ∙ ap (λ n. cond (t x) (f x) 0 + n) (sum_of_those t f xs) ∙ by (t x)
+    where
+      by : (b : Bool) → cond b (f x) 0 + sum_by f (filter_once t xs) ≡ sum_by f (put_if b x (filter_once t xs))
+      by true = sym (sum_by-cons f x (filter_once t xs))
+      by false = omega arith
+
+module _ {X Y : Type 0} where
+  pub sum_by-flat_map : (g : X → List Y) (f : Y → ℕ) (xs : List X) → sum_by f (flat_map g xs) ≡ sum_by (λ x. sum_by f (g x)) xs
+  sum_by-flat_map g f [] = refl
+  sum_by-flat_map g f (x ∷ xs) = sum_by-append f (g x) (flat_map g xs) ∙ ap (λ n. sum_by f (g x) + n) (sum_by-flat_map g f xs) ∙ sym (sum_by-cons _ x xs)
+
+  -- the inner sum outside
+  pub sums_exchanged : (f : X → Y → ℕ) (xs : List X) (ys : List Y) → sum_by (λ x. sum_by (λ y. f x y) ys) xs ≡ sum_by (λ y. sum_by (λ x. f x y) xs) ys
+  sums_exchanged f [] ys = sym (sum_of_none ys)
+  sums_exchanged f (x ∷ xs) ys = sum_by-cons (λ x. sum_by _ ys) x xs ∙ ap (λ n. sum_by (λ y. f x y) ys + n) (sums_exchanged f xs ys)
+      ∙ sym (sum_of_both _ _ ys) ∙ (λ i. sum_by (λ y. sym (sum_by-cons (λ z. f z y) x xs) i) ys)
+
+-- ---- those of which a test holds
+
+pub flat_map-filter_once : {X : Type 0} (t : X → Bool) (f : X → List Fault) (xs : List X) → flat_map f (filter_once t xs) ≡ flat_map (λ x. cond (t x) (f x) []) xs
+flat_map-filter_once t f [] = refl
+flat_map-filter_once t f (x ∷ xs) = by (t x) ∙ ap (λ l. cond (t x) (f x) [] ++ l) (flat_map-filter_once t f xs)
+  where
+    by : (b : Bool) → flat_map f (put_if b x (filter_once t xs)) ≡ cond b (f x) [] ++ flat_map f (filter_once t xs)
+    by true = refl
+    by false = refl
+
+-- the pairs of which a test holds, by their first or by their second
+module _ {X Y : Type 0} (t : X → Y → Bool) where
+  pub list_all-exchanged : (f : X → Y → Bool) (xs : List X) (ys : List Y) → list_all (λ x. list_all (λ y. f x y) (filter_once (λ y. t x y) ys)) xs ≡ list_all
+      (λ y. list_all (λ x. f x y) (filter_once (λ x. t x y) xs)) ys
+  list_all-exchanged f xs ys = (λ i. list_all (λ x. list_all-filter_once (λ y. f x y) (λ y. t x y) ys i) xs)
+      ∙ list_all-inside_out (λ x y. not (t x y) || f x y) xs ys ∙ (λ i. list_all (λ y. sym (list_all-filter_once (λ x. f x y) (λ x. t x y) xs) i) ys)
+
+  pub ∼_exchanged : (f : X → Y → List Fault) (xs : List X) (ys : List Y) → flat_map (λ x. flat_map (λ y. f x y) (filter_once (λ y. t x y) ys)) xs ∼ flat_map
+      (λ y. flat_map (λ x. f x y) (filter_once (λ x. t x y) xs)) ys
+  ∼_exchanged f xs ys = subst₂ (λ a b. a ∼ b) (λ i. flat_map (λ x. sym (flat_map-filter_once (λ y. t x y) (λ y. f x y) ys) i) xs)
+      (λ i. flat_map (λ y. sym (flat_map-filter_once (λ x. t x y) (λ x. f x y) xs) i) ys) (∼_inside_out (λ x y. cond (t x y) (f x y) []) xs ys)
+
+  pub sum_by-exchanged : (f : X → Y → ℕ) (xs : List X) (ys : List Y) → sum_by (λ x. sum_by (λ y. f x y) (filter_once (λ y. t x y) ys)) xs ≡ sum_by
+      (λ y. sum_by (λ x. f x y) (filter_once (λ x. t x y) xs)) ys
+  sum_by-exchanged f xs ys = (λ i. sum_by (λ x. sym (sum_of_those (λ y. t x y) (λ y. f x y) ys) i) xs)
+      ∙ sums_exchanged (λ x y. cond (t x y) (f x y) 0) xs ys ∙ (λ i. sum_by (λ y. sum_of_those (λ x. t x y) (λ x. f x y) xs i) ys)
+
+-- ---- a sum over each name's member, and over each member's name
+
+module _ {B : Type 0} (f : B → ℕ) where
+  sum_of_found : (o : Option B) → sum_by f (option_to_list o) ≡ sum_by f (flat_map (λ y. y ∷ []) (option_to_list o))
+  sum_of_found None = refl
+  sum_of_found (Some y) = refl
+
+  sum_of_one : (b : Bool) (y : B) → sum_by f (cond b (y ∷ []) []) ≡ cond b (f y) 0
+  sum_of_one true y = sum_by-cons f y [] ∙ omega arith
+  sum_of_one false y = refl
+
+  sum_at_lookup : (n : Name) (ms : List (Name × B)) → Distinct ms → sum_by f (option_to_list (lookup_name n ms)) ≡ sum_by (λ m. cond (bytes_eq n m.0) (f m.1) 0) ms
+  sum_at_lookup n ms d = sum_of_found (lookup_name n ms) ∙ ap (sum_by f) (at_lookup (λ y. y ∷ []) n ms d)
+      ∙ sum_by-flat_map (λ m. cond (bytes_eq n m.0) (m.1 ∷ []) []) f ms ∙ (λ i. sum_by (λ m. sum_of_one (bytes_eq n m.0) m.1 i) ms)
+
+module _ {A B : Type 0} (f : A → B → ℕ) where
+  pub sum_by-other_side : (es : List (Name × A)) (ms : List (Name × B)) → Distinct es → Distinct ms →
+      sum_by (λ e. sum_by (λ y. f e.1 y) (option_to_list (lookup_name e.0 ms))) es ≡ sum_by (λ m. sum_by (λ x. f x m.1) (option_to_list (lookup_name m.0 es))) ms
+  sum_by-other_side es ms d c = (λ i. sum_by (λ e. sum_at_lookup (λ y. f e.1 y) e.0 ms c i) es)
+      ∙ sums_exchanged (λ e m. cond (bytes_eq e.0 m.0) (f e.1 m.1) 0) es ms
+      ∙ (λ i. sum_by (λ m. sum_by (λ e. cond (bytes_eq-sym e.0 m.0 i) (f e.1 m.1) 0) es) ms)
+      ∙ (λ i. sum_by (λ m. sym (sum_at_lookup (λ x. f x m.1) m.0 es d) i) ms)
+
+-- ---- walks over what is there, or over nothing
+
+module _ {X Y : Type 0} (h : X → Y) where
+  pub all_there : (g : Y → Bool) (f : Option X → Bool) → true ≡ f None → ((x : X) → g (h x) ≡ f (Some x)) → (o : Option X) → list_all g (map h (option_to_list o)) ≡ f o
+  all_there g f none some None = none
+  all_there g f none some (Some x) = and-true _ ∙ some x
+
+  pub sum_there : (g : Y → ℕ) (f : Option X → ℕ) → 0 ≡ f None → ((x : X) → g (h x) ≡ f (Some x)) → (o : Option X) → sum_by g (map h (option_to_list o)) ≡ f o
+  sum_there g f none some None = none
+  sum_there g f none some (Some x) = let one = sum_by-cons g (h x) [] in let same = some x in omega (arith, one, same)
+
+  pub find_there : (g : Y → List Fault) (f : Option X → List Fault) → [] ≡ f None → ((x : X) → g (h x) ≡ f (Some x)) → (o : Option X) → flat_map g (map h (option_to_list o)) ≡ f o
+  find_there g f none some None = none
+  find_there g f none some (Some x) = append-nil _ ∙ some x
 
 -- ---- what an asked subschema answers about its value
 
@@ -46,14 +149,14 @@ shows_it P Q a = a.sub.answer.tree a.value (down P a.in_schema) (down Q a.in_ins
 
 -- ---- walks
 
+pub sum_by-map : {X Y : Type 0} (f : X → ℕ) (h : Y → X) (ys : List Y) → sum_by f (map h ys) ≡ sum_by (λ y. f (h y)) ys
+sum_by-map f h [] = refl
+sum_by-map f h (y ∷ ys) = sum_by-cons f (h y) (map h ys) ∙ ap (λ n. f (h y) + n) (sum_by-map f h ys) ∙ sym (sum_by-cons _ y ys)
+
 module _ {X Y : Type 0} (h : Y → X) where
   pub list_any_under : (p : X → Bool) (ys : List Y) → list_any p (map h ys) ≡ list_any (λ y. p (h y)) ys
   list_any_under p [] = refl
   list_any_under p (y ∷ ys) = ap (λ b. p (h y) || b) (list_any_under p ys)
-
-  pub sum_by_under : (p : X → ℕ) (ys : List Y) → sum_by p (map h ys) ≡ sum_by (λ y. p (h y)) ys
-  sum_by_under p [] = refl
-  sum_by_under p (y ∷ ys) = sum_by-cons p (h y) (map h ys) ∙ ap (λ n. p (h y) + n) (sum_by_under p ys) ∙ sym (sum_by-cons _ y ys)
 
   numbered_from : (n : ℕ) (ys : List Y) → map {B = Name × X} (λ e. (decimal e.0, e.1)) (enumerate_from n (map h ys)) ≡ map {A = Name × Y} {B = Name × X}
       (λ e. (e.0, h e.1)) (map {B = Name × Y} (λ e. (decimal e.0, e.1)) (enumerate_from n ys))
@@ -65,6 +168,10 @@ module _ {X Y : Type 0} (h : Y → X) where
   numbered-map ys = numbered_from 0 ys
 
 module _ {X Y : Type 0} (g : X → List Y) where
+  pub total_cost-flat_map : (f : Y → Cost) (xs : List X) → total_cost f (flat_map g xs) ≡ total_cost (λ x. total_cost f (g x)) xs
+  total_cost-flat_map f [] = refl
+  total_cost-flat_map f (x ∷ xs) = total_cost-append f (g x) (flat_map g xs) ∙ ap (λ c. total_cost f (g x) ⊕ c) (total_cost-flat_map f xs)
+
   module _ {Z : Type 0} where
     pub flat_map-flat_map : (f : Y → List Z) (xs : List X) → flat_map f (flat_map g xs) ≡ flat_map (λ x. flat_map f (g x)) xs
     flat_map-flat_map f [] = refl
@@ -131,7 +238,7 @@ module _ {X Z : Type 0} (a : X → Z → Asked) (ws : X → List Z) where
   each_accepts es = list_all-flat_map accepts_it _ es ∙ (λ i. list_all (λ e. list_all-map accepts_it (a e) (ws e) i) es)
 
   pub each_asks : (es : List X) → sum_by asks_it (asked_each es) ≡ sum_by (λ e. sum_by (λ z. asks_it (a e z)) (ws e)) es
-  each_asks es = sum_by-flat_map _ asks_it es ∙ (λ i. sum_by (λ e. sum_by_under (a e) asks_it (ws e) i) es)
+  each_asks es = sum_by-flat_map _ asks_it es ∙ (λ i. sum_by (λ e. sum_by-map asks_it (a e) (ws e) i) es)
 
   module _ (P Q : Path) where
     pub each_finds : (es : List X) → flat_map (finds_it P Q) (asked_each es) ≡ flat_map (λ e. flat_map (λ z. finds_it P Q (a e z)) (ws e)) es
@@ -185,3 +292,159 @@ module _ (W : World) (ms : Members) where
     pub properties_kind : (d : Data) → is_object d ≡ false → member_malformations W ms (codes "properties", d) properties P ≡ fault (SingleType object_type) d [] (P // codes "properties") ∷ []
     properties_kind (object fs) e = absurd (true≢false e)
     properties_kind _ e = refl
+
+-- ---- no matcher is asked about a value that is no object, such as a name
+
+nothing_summed : {A : Type 0} (f : A → ℕ) (xs : List A) → Each (λ x. f x ≡ 0) xs → sum_by f xs ≡ 0
+nothing_summed f [] h = refl
+nothing_summed f (x ∷ xs) h = sum_by-cons f x xs ∙ (λ i. h.0 i + nothing_summed f xs h.1 i)
+
+abbrev IsNoObject : Data → Type 0
+IsNoObject v = is_object v ≡ false
+
+-- it asks nothing about such values
+abbrev AsksNothing : Data → Meaning → Type 0
+AsksNothing d m = (v : Data) → IsNoObject v → m.asks v ≡ 0
+
+module _ (W : World) (u : Bool) (v : Data) (none : IsNoObject v) where
+  module _ (S : Keywords Meaning) (k : Name) (p : Part Meaning) (good : GoodPart AsksNothing p) where
+    applied_nothing : (w : Keyword) → sum_by asks_it (applied W u S k p v w) ≡ 0
+    applied_nothing w = nothing_summed asks_it (applied W u S k p v w) (Each-implies (GoodAsked AsksNothing IsNoObject) _ (λ a g. g.0 a.value g.1) _
+        (applied_good AsksNothing IsNoObject W u S k p good v none (fines (members v) (no_members v none)) w))
+      where
+        fines : (xs : Rows) → xs ≡ [] → Each (λ m. IsNoObject m.1) xs
+        fines [] e = tt
+        fines (x ∷ xs) e = absurd (grind (arith, e))
+
+    items_nothing : sum_by (λ s. s.answer.asks v) p.items ≡ 0
+    items_nothing = nothing_summed _ p.items (Each-implies _ _ (λ s g. g v none) p.items good.3)
+
+    where_nothing : (b : Bool) → cond b (p.whole.answer.asks v) 0 ≡ 0
+    where_nothing true = good.0 v none
+    where_nothing false = refl
+
+    own_nothing : (w : Keyword) → own_asks W u S k p v w ≡ 0
+    own_nothing pattern_properties = ap (sum_by _) (no_members v none)
+    own_nothing any_of = items_nothing
+    own_nothing one_of = items_nothing
+    own_nothing not_keyword = good.0 v none
+    own_nothing if_keyword = where_nothing _
+    own_nothing _ = refl
+
+  keywords_nothing : (T S : Keywords Meaning) → Each (λ m. GoodPart AsksNothing m.1) S → Each (λ m. keyword_asks W u T m.0 m.1 v (keyword_named W m.0) ≡ 0) S
+  keywords_nothing T S = Each-implies _ _
+      (λ m g. (λ i. applied_nothing T m.0 m.1 g (keyword_named W m.0) i + own_nothing T m.0 m.1 g (keyword_named W m.0) i)) S
+
+module _ (W : World) (u : Bool) where
+  step_asks_nothing : (S : Schema Meaning) → GoodSchema AsksNothing S → (v : Data) → IsNoObject v → (meaning_step W u S).asks v ≡ 0
+  step_asks_nothing (keywords S) g v none = nothing_summed _ S (keywords_nothing W u v none S S g)
+  step_asks_nothing _ g v none = refl
+
+  pub asks_nothing : (d v : Data) → is_object v ≡ false → asks W u d v ≡ 0
+  unfolding meaning
+  asks_nothing = good_answer AsksNothing (meaning_step W u) (λ d. step_asks_nothing _)
+
+  pub name_asks_nothing : (d : Data) (n : Name) → asks W u d (string n) ≡ 0
+  name_asks_nothing d n = asks_nothing d _ refl
+
+  pub names_ask_nothing : (d : Data) (es : Rows) → sum_by (λ m. asks W u d (string m.0)) es ≡ 0
+  names_ask_nothing d es = nothing_summed _ es (Each-any _ (λ m. name_asks_nothing d m.0) es)
+
+-- ---- what an object means, member by member
+
+module _ (W : World) (ms : Members) where
+  pub object_accepts : (u : Bool) (v : Data) → accepts W u (object ms) v ≡ list_all (λ m. member_accepts W ms m (keyword_named W m.0) u v) (listed ms)
+  unfolding meaning
+  object_accepts u v = ap (list_all (λ m. keyword_accepts W u (read_members (meaning_step W u) ms) m.0 m.1 v (keyword_named W m.0))) (members_read (meaning_step W u) ms) ∙ list_all-map _ _ (listed ms)
+
+  pub object_asks : (u : Bool) (v : Data) → asks W u (object ms) v ≡ sum_by (λ m. member_asks W ms m (keyword_named W m.0) u v) (listed ms)
+  unfolding meaning
+  object_asks u v = ap (sum_by (λ m. keyword_asks W u (read_members (meaning_step W u) ms) m.0 m.1 v (keyword_named W m.0))) (members_read (meaning_step W u) ms) ∙ sum_by-map _ _ (listed ms)
+
+  pub object_report : (u : Bool) (v : Data) (P Q : Path) → report W u (object ms) v P Q ≡ flat_map (λ m. member_report W ms m (keyword_named W m.0) u v P Q) (listed ms)
+  unfolding meaning
+  object_report u v P Q =
+      ap (flat_map (λ m. keyword_report W u (read_members (meaning_step W u) ms) m.0 m.1 v P Q (keyword_named W m.0))) (members_read (meaning_step W u) ms) ∙ flat_map-map _ _ _ (λ m. refl) (listed ms)
+
+  pub object_tree : (u : Bool) (v : Data) (P Q : Path) → tree W u (object ms) v P Q ≡ plain P Q (flat_map (λ m. member_child W ms m (keyword_named W m.0) u v P Q) (listed ms))
+  unfolding meaning
+  object_tree u v P Q =
+      ap (λ ps. plain P Q (flat_map (λ m. keyword_child W u (read_members (meaning_step W u) ms) v P Q m.0 m.1 (keyword_named W m.0)) ps)) (members_read (meaning_step W u) ms)
+      ∙ ap (plain P Q) (flat_map-map _ _ _ (λ m. refl) (listed ms))
+
+  pub object_malformed : (P : Path) → malformations_at W (object ms) P ≡ flat_map (λ m. member_malformations W ms m (keyword_named W m.0) P) (listed ms)
+  unfolding malformations_at
+  object_malformed P =
+      ap (flat_map (λ m. keyword_malformations W (read_members (malformations_step W) ms) m.0 m.1 P (keyword_named W m.0))) (members_read (malformations_step W) ms)
+      ∙ flat_map-map _ _ _ (λ m. refl) (listed ms)
+
+  pub object_cost : cost W (object ms) ≡ one_place ⊕ total_cost (λ m. member_cost W ms m (keyword_named W m.0)) (listed ms)
+  unfolding cost
+  object_cost = ap (λ c. one_place ⊕ c) (ap (total_cost _) (members_read (cost_step W) ms) ∙ total_cost-map _ _ _ (λ m. refl) (listed ms))
+
+-- ---- what is no schema, and the two truth values
+
+abbrev pub IsNoSchema : Data → Type 0
+IsNoSchema (boolean b) = ⊥
+IsNoSchema (object ms) = ⊥
+IsNoSchema _ = ⊤
+
+abbrev pub is_no_schema : Data → Bool
+is_no_schema (boolean b) = false
+is_no_schema (object ms) = false
+is_no_schema _ = true
+
+pub no_schema_is : (d : Data) → is_no_schema d ≡ true → IsNoSchema d
+no_schema_is (boolean b) e = absurd (let n : false ≡ true = e in cc)
+no_schema_is (object ms) e = absurd (let n : false ≡ true = e in cc)
+no_schema_is _ e = tt
+
+pub no_schema_malformed : (W : World) (d : Data) (P : Path) → IsNoSchema d → malformations_at W d P ≡ fault MultipleTypes d [] P ∷ []
+unfolding malformations_at
+no_schema_malformed W (boolean b) P h = absurd h
+no_schema_malformed W (object ms) P h = absurd h
+no_schema_malformed W _ P h = refl
+
+pub no_schema_cost : (W : World) (d : Data) → IsNoSchema d → cost W d ≡ one_place
+unfolding cost
+no_schema_cost W (boolean b) h = absurd h
+no_schema_cost W (object ms) h = absurd h
+no_schema_cost W _ h = refl
+
+-- ---- keywords that ask some entries of the whole value, and nothing else
+
+module _ (W : World) (ms : Members) (m : Name × Data) (w : Keyword) {X : Type 0} (schema : X → Data) (under : X → List Name) (es : Data → List X) where
+  module _ (u : Bool) (v : Data) where
+    -- the keywords of the object, and the value of this one
+    abbrev beside : Keywords Meaning
+    beside = read_members (meaning_step W u) ms
+
+    abbrev here : Part Meaning
+    here = read (meaning_step W u) m.1
+
+    abbrev asked_entry : X → Asked
+    asked_entry e = asked (place (meaning_step W u) (schema e)) v (m.0 ∷ under e) []
+
+    -- it asks these entries, and nothing beside them
+    pub record AsksOnly : Type 0 where
+      pub asked : applied W u beside m.0 here v w ≡ map asked_entry (es v)
+      pub wants : wanted W u beside m.0 here v w ≡ true
+      pub asks : own_asks W u beside m.0 here v w ≡ 0
+      pub finds : (P Q : Path) → own W u beside m.0 here v P Q w ≡ []
+      pub shows : (P Q : Path) → keyword_child W u beside v P Q m.0 here w ≡ plain (P // m.0) Q (asked_trees W u beside v P Q m.0 here w) ∷ []
+
+  pub told_by_entries : ((u : Bool) (v : Data) → AsksOnly u v) → IsTold W ms m w (entries_told (placed_answers W schema under) es)
+  unfolding meaning
+  told_by_entries h = record {
+    verdict = λ u v. (λ i. list_all accepts_it ((h u v).asked i) && (h u v).wants i) ∙ and-true _ ∙ list_all-map accepts_it (asked_entry u v) (es v);
+    asked = λ free u v. (λ i. sum_by asks_it ((h u v).asked i) + (h u v).asks i) ∙ nothing_last _ ∙ sum_by-map asks_it (asked_entry u v) (es v);
+    faults = λ u v P Q. ∼_same (sym ((λ i. flat_map (finds_it P Q) ((h u v).asked i) ++ (h u v).finds P Q i) ∙ append-nil _
+        ∙ flat_map-map (finds_it P Q) _ (asked_entry u v) (λ e. refl) (es v)));
+    shown = λ u alone v P Q. (h u v).shows P Q
+        ∙ ap (λ ts. plain (P // m.0) Q ts ∷ []) (ap (map (shows_it P Q)) (h u v).asked ∙ map-map (shows_it P Q) _ (asked_entry u v) (λ e. refl) (es v));
+  }
+
+-- entries that are asked under their names
+pub asked_entries : (step : Schema Meaning → Meaning) (k : Name) (v : Data) {es : List (Name × Subschema)} (rows : Rows) → es ≡ map (entry step) rows → asked_whole k v es ≡ map
+    (λ e. asked (place step e.1) v (k ∷ e.0 ∷ []) []) rows
+asked_entries step k v rows e = ap (asked_whole k v) e ∙ map-map _ _ (entry step) (λ e. refl) rows

@@ -1,27 +1,65 @@
--- The members of an object by their names, where no name stands twice.
-use Rattle.std.specs.Prelude.{◌≡◌, ◌||◌, Bool, IsPermutation, map, true, false, List, [], ◌∷◌, ◌++◌, length, Option, Some, None, is_some, unwrap_or, bytes_eq, String}
-use Rattle.std.specs.declared.alloc.Global.{Global}
-use Rattle.std.specs.List.{AllByRecursion}
-use Rattle.std.specs.List.Sorted.{IsStrictlySortedBy}
-use Rattle.std.specs.Map.{keys_of}
-use Rattle.std.specs.Ordering.{nat_cmp, is_eq}
-use Rattle.std.specs.Cmp.Lexicographic.{slice_cmp}
-use Rattle.std.specs.declared.cmp.Ordering.{Ordering}
-use Rattle.std.specs.declared.cmp.Ordering.TheVariants.{Less, Equal, Greater}
-use Rattle.std.proofs.Common.{refl, sym, ◌∙◌, ap, subst, option_to_list, string_cmp, string_bytes, arith}
-use Rattle.std.proofs.lemmas.Map.Text.{is_eq-slice_cmp}
-use Rattle.std.proofs.lemmas.List.Sorted.{IsPermutation-refl, IsPermutation-trans, IsPermutation-append}
-use mathlib.Core.Bool.{true≢false}
+-- The members of an object by their names, where no name stands twice; and which belong together.
+use Rattle.std.proofs.Common.{◌≡◌, Bool, true, false, ◌||◌, List, [], ◌∷◌, ◌++◌, map, bytes_eq, IsPermutation, length, Option, Some, None, is_some, unwrap_or, String, refl, sym, ◌∙◌, ap, subst}
+use Rattle.std.proofs.Common.{option_to_list, string_cmp, string_bytes, arith, true≢false, Global, nat_cmp, is_eq, Ordering, Less, Equal, Greater}
+use Rattle.std.specs.List.{flat_map, AllByRecursion}
+use Rattle.std.proofs.lemmas.List.Sorted.{IsPermutation-refl, IsPermutation-cons, IsPermutation-trans, IsPermutation-middle, IsPermutation-append}
 use Rattle.serde_json.specs.Data.{Data, Members}
-use Rattle.serde_json.specs.View.{members_view}
-use Rattle.serde_json.specs.declared.value.Value.{Value}
-use Rattle.olk_spec.specs.Names.{Name, lookup_name, first_if_equal, is_among, filter_once, put_if}
-use Rattle.olk_spec.specs.Schemas.{listed}
-use Rattle.olk_spec.specs.Malformed.{has_repeat}
+use Rattle.olk_spec.specs.Names.{Name, is_among, filter_once, put_if, lookup_name, first_if_equal}
 use Rattle.olk_spec.proofs.Each.{Each}
-use Rattle.olk_spec.proofs.Walks.{same_name, bytes_eq-itself, Distinct, Distinct-from, Each-found}
-use Rattle.olk_meaning.proofs.Heads.{names_of, those_split}
+use Rattle.olk_spec.proofs.Walks.{neither, same_name, bytes_eq-sym, bytes_eq-itself, Distinct, Distinct-from, Each-found}
+use Rattle.olk_meaning.specs.Plans.{claims}
 use Rattle.olk_meaning.proofs.Rows.{Rows}
+use Rattle.std.proofs.lemmas.Map.Text.{is_eq-slice_cmp}
+use Rattle.olk_spec.specs.{Malformed.has_repeat, Schemas.listed}
+use Rattle.std.specs.{List.Sorted.IsStrictlySortedBy, Map.keys_of, Cmp.Lexicographic.slice_cmp}
+use Rattle.serde_json.specs.{View.members_view, declared.value.Value.Value}
+
+-- ---- each member belongs to a head; what the heads claim together are all members
+
+module _ {X : Type 0} where
+  -- two tests of which no item passes both
+  pub those_split : (p q : X → Bool) → ((x : X) → p x ≡ true → q x ≡ false) → (xs : List X) → IsPermutation (filter_once p xs ++ filter_once q xs) (filter_once (λ x. p x || q x) xs)
+  those_split p q h [] = IsPermutation-refl []
+  those_split p q h (x ∷ xs) = by (p x) _ (h x) (those_split p q h xs)
+    where
+      by : (a b : Bool) → (a ≡ true → b ≡ false) → IsPermutation (filter_once p xs ++ filter_once q xs) (filter_once (λ x. p x || q x) xs)
+          → IsPermutation (put_if a x (filter_once p xs) ++ put_if b x (filter_once q xs)) (put_if (a || b) x (filter_once (λ x. p x || q x) xs))
+      by true true d g = absurd (true≢false (d refl))
+      by true false d g = IsPermutation-cons x _ _ g
+      by false true d g = IsPermutation-trans _ _ _ (IsPermutation-middle _ x _) (IsPermutation-cons x _ _ g)
+      by false false d g = g
+
+  pub those_none : (xs : List X) → filter_once (λ x. false) xs ≡ []
+  those_none [] = refl
+  those_none (x ∷ xs) = those_none xs
+
+  those_each : (p : X → Bool) (xs : List X) → Each (λ x. p x ≡ true) xs → filter_once p xs ≡ xs
+  those_each p [] h = refl
+  those_each p (x ∷ xs) h = ap (λ b. put_if b x (filter_once p xs)) h.0 ∙ ap (λ l. x ∷ l) (those_each p xs h.1)
+
+  pub filter_once-same : (p q : X → Bool) → ((x : X) → p x ≡ q x) → (xs : List X) → filter_once p xs ≡ filter_once q xs
+  filter_once-same p q e [] = refl
+  filter_once-same p q e (x ∷ xs) = λ i. put_if (e x i) x (filter_once-same p q e xs i)
+
+abbrev pub names_of : Rows → List Name
+names_of es = map (λ m. m.0) es
+
+module _ (heads : Name → Name) where
+  grouped : (es hs : Rows) → has_repeat (names_of hs) ≡ false → IsPermutation (flat_map (claims heads es) hs) (filter_once (λ x. is_among (heads x.0) (names_of hs)) es)
+  grouped es [] d = subst (λ l. IsPermutation [] l) (sym (those_none es)) (IsPermutation-refl [])
+  grouped es (m ∷ hs) d =
+      let h = neither (is_among m.0 (names_of hs)) (has_repeat (names_of hs)) d in
+      subst (λ l. IsPermutation (l ++ flat_map (claims heads es) hs) (filter_once (λ x. bytes_eq (heads x.0) m.0 || is_among (heads x.0) (names_of hs)) es))
+      (filter_once-same (λ (x : Name × Data). bytes_eq (heads x.0) m.0) (λ x. bytes_eq m.0 (heads x.0)) (λ x. bytes_eq-sym (heads x.0) m.0) es)
+      (IsPermutation-trans _ _ _ (IsPermutation-append _ _ _ _ (IsPermutation-refl _) (grouped es hs h.1))
+      (those_split (λ x. bytes_eq (heads x.0) m.0) (λ x. is_among (heads x.0) (names_of hs))
+      (λ x e. ap (λ k. is_among k (names_of hs)) (same_name (heads x.0) m.0 e) ∙ h.0) es))
+
+  -- where no name stands twice, and the head of each member is there
+  pub claims_are_all : (es : Rows) → has_repeat (names_of es) ≡ false → Each (λ x. is_among (heads x.0) (names_of es) ≡ true) es → IsPermutation (flat_map (claims heads es) es) es
+  claims_are_all es d h = subst (IsPermutation _) (those_each _ es h) (grouped es es d)
+
+-- ---- the members of an object by their names, where no name stands twice
 
 abbrev pub members_named : Name → Rows → Rows
 members_named k es = filter_once (λ m. bytes_eq k m.0) es
@@ -48,8 +86,7 @@ named_once k d (m ∷ es) h e = by _ (is_eq-slice_cmp k m.0) e (named_once k d e
 -- the members of a name, before others of whose names a test holds
 pub named_first : (es : Rows) (k : Name) (test : Name → Bool) {xs : Rows} → test k ≡ false → IsPermutation xs (filter_once (λ x. test x.0) es)
     → IsPermutation (members_named k es ++ xs) (filter_once (λ x. bytes_eq k x.0 || test x.0) es)
-named_first es k test {xs} e h =
-    IsPermutation-trans _ _ _ (IsPermutation-append _ _ _ _ (IsPermutation-refl _) h)
+named_first es k test {xs} e h = IsPermutation-trans _ _ _ (IsPermutation-append _ _ _ _ (IsPermutation-refl _) h)
     (those_split (λ x. bytes_eq k x.0) _ (λ x q. ap test (sym (same_name k x.0 q)) ∙ e) es)
 
 module _ (ms : Members) (distinct : has_repeat (names_of (listed ms)) ≡ false) where

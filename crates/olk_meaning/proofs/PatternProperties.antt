@@ -1,36 +1,29 @@
 -- `patternProperties`, over the raw data of its entries: the meaning and the tree where no validator of `additionalProperties` stands for it.
-use Rattle.std.specs.Prelude.{◌≡◌, ℕ, ◌+◌, ◌*◌, Bool, true, false, not, cond, ◌&&◌, List, [], ◌∷◌, ◌++◌, map, length, sum_by, count_by, codes, Some, None}
+use Rattle.std.proofs.Common.{◌≡◌, ℕ, ◌+◌, ◌*◌, Bool, true, false, not, cond, ◌&&◌, List, [], ◌∷◌, ◌++◌, map, length, sum_by, count_by, codes, Some, None, refl, sym, ◌∙◌, ap, arith, append-nil}
 use Rattle.std.specs.List.{list_all, flat_map}
-use Rattle.std.proofs.Common.{refl, sym, ◌∙◌, ap, arith}
-use Rattle.std.proofs.lemmas.List.{append-nil, length-map}
-use Rattle.std.proofs.lemmas.List.Sums.{sum_by-cons}
-use Rattle.std.proofs.Math.Bool.{and-true}
 use Rattle.serde_json.specs.Data.{Data, string, Members}
 use Rattle.olk_spec.specs.Names.{Name, Path, ◌//◌, filter_once, put_if}
 use Rattle.olk_spec.specs.World.{World, is_unfinished}
-use Rattle.olk_spec.specs.Vocabulary.{pattern_properties}
 use Rattle.olk_spec.specs.Faults.{Fault, Regex}
 use Rattle.olk_spec.specs.Schemas.{Sub, Schema, read, read_members, members, is_object, entries_at}
 use Rattle.olk_spec.specs.Meanings.{Meaning, Asked, asked, applied, restricts, matches, is_open, is_declared}
 use Rattle.olk_spec.specs.Meaning.{accepts, asks, report, tree, meaning, meaning_step}
 use Rattle.olk_spec.specs.Asks.{open_patterns, asks_at}
-use Rattle.olk_spec.specs.Tree.{result}
 use Rattle.olk_spec.specs.Malformed.{refusal, unless_object, own_refusals}
 use Rattle.olk_spec.specs.Costs.{Cost, cost_step, own_cost, no_cost, ◌⊕◌, total_cost}
-use Rattle.olk_spec.proofs.CostSums.{sum_last}
 use Rattle.olk_spec.proofs.Maps.{map-map, flat_map-map}
-use Rattle.olk_spec.proofs.Order.{∼_same}
 use Rattle.olk_spec.proofs.Reading.{entry, place, entries_read, schema_of_read}
 use Rattle.olk_meaning.specs.Members.{member_accepts, member_asks, member_report, member_child}
 use Rattle.olk_meaning.specs.Told.{IsTold}
 use Rattle.olk_meaning.specs.PatternProperties.{matched_members, pattern_asks, open_names, pattern_faults, matcher_made, matchers_made, names_asked, patterns_told}
 use Rattle.olk_meaning.specs.AdditionalProperties.{declared_beside, matching_asks, patterns_asked}
-use Rattle.olk_meaning.proofs.Facts.{accepts_it, asks_it, finds_it, shows_it, asked_each, each_accepts, each_asks, each_finds, each_shows}
-use Rattle.olk_meaning.proofs.Exchanged.{sum_of_both, sum_of_those, sums_exchanged, sum_by-exchanged}
+use Rattle.olk_meaning.proofs.Facts.{accepts_it, asks_it, finds_it, shows_it, asked_each, each_accepts, each_asks, each_finds, each_shows, sum_of_both, sum_of_those, sums_exchanged, sum_by-exchanged}
 use Rattle.olk_meaning.specs.Conditions.{is_restricted, known_of}
-use Rattle.olk_meaning.proofs.Beside.{entries_beside, declared_read}
-use Rattle.olk_meaning.proofs.Conditions.{restricted_read}
+use Rattle.olk_meaning.proofs.Conditions.{entries_beside, declared_read, restricted_read}
 use Rattle.olk_meaning.proofs.Rows.{Rows}
+use Rattle.std.proofs.{lemmas.List.length-map, lemmas.List.Sums.sum_by-cons, Math.Bool.and-true}
+use Rattle.olk_spec.specs.{Vocabulary.pattern_properties, Tree.result}
+use Rattle.olk_spec.proofs.{CostSums.sum_last, Order.∼_same}
 
 -- ---- the members that are asked about
 
@@ -83,8 +76,7 @@ module _ (W : World) (ms : Members) (d : Data) (u : Bool) (v : Data) where
 
   module _ (free : restricts (read_members to_meaning ms) ≡ false) where
     own_asked : sum_by (λ m. asks_at W (read_members to_meaning ms) (read to_meaning d) m.0) (members v) ≡ sum_by (λ e. sum_by (λ x. pattern_asks W e.0) (members v)) (members d)
-    own_asked =
-        (λ i. sum_by (λ m. cond (free i && is_declared (read_members to_meaning ms) m.0)
+    own_asked = (λ i. sum_by (λ m. cond (free i && is_declared (read_members to_meaning ms) m.0)
         (count_by (λ t. is_unfinished (W.says t m.0)) (open_patterns W (read to_meaning d))) (length (open_patterns W (read to_meaning d)))) (members v))
         ∙ ap (λ n. sum_by (λ (m : Name × Data). n) (members v)) (ap length (open_read W to_meaning d) ∙ open_counted W (members d))
         ∙ sym (sums_exchanged (λ (e x : Name × Data). pattern_asks W e.0) (members d) (members v))
@@ -98,8 +90,7 @@ module _ (W : World) (ms : Members) (d : Data) (u : Bool) (v : Data) where
     pub pattern_properties_asks : member_asks W ms (codes "patternProperties", d) pattern_properties u v ≡ sum_by
         (λ e. sum_by (λ x. pattern_asks W e.0 + cond (matches W u e.0 x.0) (asks W u e.1 x.1) 0) (members v)) (members d)
     unfolding meaning
-    pattern_properties_asks =
-        (λ i. sum_by asks_it (asked_matching W u ms d v i) + own_asked i)
+    pattern_properties_asks = (λ i. sum_by asks_it (asked_matching W u ms d v i) + own_asked i)
         ∙ ap (λ n. n + sum_by (λ e. sum_by (λ x. pattern_asks W e.0) (members v)) (members d)) (each_asks _ _ (members d))
         ∙ other_way (sum_by (λ e. sum_by (λ x. asks W u e.1 x.1) (matched_members W u e.0 v)) (members d)) (sum_by (λ e. sum_by (λ x. pattern_asks W e.0) (members v)) (members d))
         ∙ sym (sum_of_both (λ e. sum_by (λ x. pattern_asks W e.0) (members v)) (λ e. sum_by (λ x. asks W u e.1 x.1) (matched_members W u e.0 v)) (members d))
@@ -131,10 +122,8 @@ module _ (W : World) (ms : Members) (d : Data) (u : Bool) (v : Data) where
     pub pattern_properties_asks_beside : member_asks W ms (codes "patternProperties", d) pattern_properties u v ≡ sum_by
         (λ x. matching_asks W u (declared_beside ms) (members d) x + patterns_asked W (declared_beside ms) (members d) x.0) (members v)
     unfolding meaning
-    pattern_properties_asks_beside =
-        (λ i. sum_by asks_it (asked_matching W u ms d v i) + table_asked i)
-        ∙ ap (λ n. n + sum_by (λ x. patterns_asked W (declared_beside ms) (members d) x.0) (members v))
-        (each_asks _ _ (members d)
+    pattern_properties_asks_beside = (λ i. sum_by asks_it (asked_matching W u ms d v i) + table_asked i)
+        ∙ ap (λ n. n + sum_by (λ x. patterns_asked W (declared_beside ms) (members d) x.0) (members v)) (each_asks _ _ (members d)
         ∙ sum_by-exchanged (λ e x. matches W u e.0 x.0) (λ e x. asks W u e.1 x.1) (members d) (members v))
         ∙ sym (sum_of_both (matching_asks W u (declared_beside ms) _) (λ x. patterns_asked W _ _ x.0) (members v))
 
@@ -175,18 +164,15 @@ module _ (W : World) (ms : Members) (d : Data) where
       asked = omega arith
 
   pub pattern_properties_free_cost : restricts (read_members (cost_step W) ms) ≡ false → own_cost W (read_members (cost_step W) ms) (read (cost_step W) d) pattern_properties ≡ matchers_made W d
-  pattern_properties_free_cost free = pattern_properties_own_cost
-      ∙ ap (λ b. matchers_made W d ⊕ record no_cost {
-        table_asks = cond b
-            (length (entries_at (read_members (cost_step W) ms) (codes "properties")) * length (open_patterns W (read (cost_step W) d))) 0;
-      }) free
-      ∙ sum_last _
+  pattern_properties_free_cost free = pattern_properties_own_cost ∙ ap (λ b. matchers_made W d ⊕ record no_cost {
+    table_asks = cond b
+        (length (entries_at (read_members (cost_step W) ms) (codes "properties")) * length (open_patterns W (read (cost_step W) d))) 0;
+  }) free ∙ sum_last _
 
   -- each of its matchers is asked for each declared name
   pub pattern_properties_table_cost : restricts (read_members (cost_step W) ms) ≡ true → own_cost W (read_members (cost_step W) ms) (read (cost_step W) d) pattern_properties
       ≡ matchers_made W d ⊕ record no_cost { table_asks = length (declared_beside ms) * length (open_names W d) }
-  pattern_properties_table_cost restricted = pattern_properties_own_cost
-      ∙ ap (λ n. matchers_made W d ⊕ record no_cost { table_asks = n })
+  pattern_properties_table_cost restricted = pattern_properties_own_cost ∙ ap (λ n. matchers_made W d ⊕ record no_cost { table_asks = n })
       ((λ i. cond (restricted i) (length (entries_beside (cost_step W) ms (codes "properties") i) * length (open_read W (cost_step W) d i)) 0)
       ∙ ap (λ n. n * length (open_names W d)) (length-map (declared_beside ms) (entry (cost_step W))))
 
@@ -211,8 +197,7 @@ module _ (W : World) where
   made_together (e ∷ es) = ap (λ c. matcher_made W e.0 ⊕ c) (made_together es) ∙ by (is_open W e.0)
     where
       by : (b : Bool) → cond b (record no_cost { pattern_places = 1 }) no_cost ⊕ record no_cost {
-        pattern_places = length
-            (filter_once (is_open W) (map (λ e. e.0) es));
+        pattern_places = length (filter_once (is_open W) (map (λ e. e.0) es));
       } ≡ record no_cost { pattern_places = length (put_if b e.0 (filter_once (is_open W) (map (λ e. e.0) es))) }
       by true = λ i. record no_cost { pattern_places = one_more i }
         where

@@ -1,31 +1,21 @@
 -- `propertyDependencies`, over the raw data of its entries.
-use Rattle.std.specs.Prelude.{◌≡◌, Bool, List, [], ◌∷◌, ◌++◌, map, codes, option_to_list}
+use Rattle.olk_meaning.proofs.Facts.{total_cost-flat_map, at_entries, flat_map-flat_map, map-flat_map, told_by_entries}
+use Rattle.std.proofs.Common.{◌≡◌, Bool, List, [], ◌∷◌, ◌++◌, map, codes, option_to_list, refl, sym, ◌∙◌, ap}
 use Rattle.std.specs.List.{flat_map}
-use Rattle.std.proofs.Common.{refl, sym, ◌∙◌, ap}
-use Rattle.std.proofs.lemmas.List.{map-append}
 use Rattle.serde_json.specs.Data.{Data, Members}
 use Rattle.olk_spec.specs.Names.{Name, Path, ◌//◌, down, lookup_name}
-use Rattle.olk_spec.specs.World.{World}
-use Rattle.olk_spec.specs.Vocabulary.{property_dependencies}
-use Rattle.olk_spec.specs.Schemas.{Sub, Schema, Keywords, read, read_members, members, at, as_text}
-use Rattle.olk_spec.specs.Meanings.{Meaning, Asked, asked, applied}
+use Rattle.olk_spec.specs.{Vocabulary.property_dependencies, World.World}
+use Rattle.olk_spec.specs.Schemas.{Schema, Keywords, read, read_members, members, Sub, at, as_text}
+use Rattle.olk_spec.specs.Meanings.{applied, asked, Meaning, Asked}
 use Rattle.olk_spec.specs.Meaning.{meaning_step}
 use Rattle.olk_spec.specs.Malformed.{own_refusals, read_places, unless_object, malformations_step, malformations_at}
-use Rattle.olk_spec.specs.Costs.{Cost, cost, cost_step, ◌⊕◌, total_cost}
-use Rattle.olk_spec.proofs.CostSums.{total_cost-append, total_cost-map}
 use Rattle.olk_spec.proofs.Maps.{flat_map-map, map-map}
-use Rattle.olk_spec.proofs.Reading.{place, entry, inner_entry, inner_read, entries_read, schema_of_read}
+use Rattle.olk_spec.proofs.Reading.{entry, place, entries_read, schema_of_read, inner_entry, inner_read}
 use Rattle.olk_meaning.specs.Told.{IsTold, entries_told}
+use Rattle.olk_spec.specs.Costs.{Cost, cost, cost_step, total_cost}
+use Rattle.olk_spec.proofs.CostSums.{total_cost-map}
 use Rattle.olk_meaning.specs.PropertyDependencies.{chosen, choices, choice_answers}
-use Rattle.olk_meaning.proofs.Facts.{at_entries, flat_map-flat_map, map-flat_map}
-use Rattle.olk_meaning.proofs.Told.{told_by_entries}
-
--- ---- walks over lists of lists
-
-module _ {X Y : Type 0} (g : X → List Y) where
-  total_cost-flat_map : (f : Y → Cost) (xs : List X) → total_cost f (flat_map g xs) ≡ total_cost (λ x. total_cost f (g x)) xs
-  total_cost-flat_map f [] = refl
-  total_cost-flat_map f (x ∷ xs) = total_cost-append f (g x) (flat_map g xs) ∙ ap (λ c. total_cost f (g x) ⊕ c) (total_cost-flat_map f xs)
+use Rattle.std.proofs.lemmas.List.{map-append}
 
 -- ---- the schemas that are asked
 
@@ -36,10 +26,8 @@ module _ (step : Schema Meaning → Meaning) (k : Name) (v : Data) where
   asked_at : (e : Name × Data) (ts : List Name) → flat_map (λ t. map (λ s. asked s v (k ∷ e.0 ∷ t ∷ []) []) (option_to_list (lookup_name t (map (entry step) (members e.1))))) ts ≡ map
       (asked_of e.0) (flat_map (λ t. map (λ s. (t, s)) (at t e.1)) ts)
   asked_at e [] = refl
-  asked_at e (t ∷ ts) =
-      (λ i. (ap (map (λ s. asked s v (k ∷ e.0 ∷ t ∷ []) [])) (at_entries step t (members e.1)) ∙ map-map (λ s. asked s v _ [])
-      (λ s. asked_of e.0 (t, s)) (place step) (λ s. refl) (at t e.1)
-      ∙ sym (map-map (asked_of e.0) _ _ (λ s. refl) (at t e.1))) i ++ asked_at e ts i)
+  asked_at e (t ∷ ts) = (λ i. (ap (map (λ s. asked s v (k ∷ e.0 ∷ t ∷ []) [])) (at_entries step t (members e.1)) ∙ map-map (λ s. asked s v _ [])
+      (λ s. asked_of e.0 (t, s)) (place step) (λ s. refl) (at t e.1) ∙ sym (map-map (asked_of e.0) _ _ (λ s. refl) (at t e.1))) i ++ asked_at e ts i)
       ∙ sym (map-append (asked_of e.0) _ _)
 
   asked_by : (e : Name × Data) → flat_map (λ t. map (λ s. asked s v (k ∷ e.0 ∷ t ∷ []) []) (option_to_list (lookup_name t (map (entry step) (members e.1)))))
@@ -83,14 +71,12 @@ module _ (W : World) (d : Data) (k : Name) where
   pub inner_malformations : (P : Path) → flat_map (λ r. r.0.answer (down P r.1)) (inner_places (malformations_step W) d k) ≡ flat_map
       (λ e. flat_map (λ c. malformations_at W c.1 (P // k // e.0 // c.0)) (members e.1)) (members d)
   unfolding malformations_at
-  inner_malformations P =
-      flat_map-flat_map _ _ (members d)
+  inner_malformations P = flat_map-flat_map _ _ (members d)
       ∙ (λ i. flat_map (λ e. flat_map-map (λ (r : Sub _ × List Name). r.0.answer (down P r.1)) (λ c. malformations_at W c.1 _)
       (λ c. (place (malformations_step W) c.1, k ∷ e.0 ∷ c.0 ∷ [])) (λ c. refl) (members e.1) i) (members d))
 
   pub inner_costs : total_cost (λ r. r.0.answer) (inner_places (cost_step W) d k) ≡ total_cost (λ e. total_cost (λ c. cost W c.1) (members e.1)) (members d)
   unfolding cost
-  inner_costs =
-      total_cost-flat_map _ (λ r. r.0.answer) (members d)
+  inner_costs = total_cost-flat_map _ (λ r. r.0.answer) (members d)
       ∙ (λ i. total_cost (λ e. total_cost-map (λ (r : Sub Cost × List Name). r.0.answer) (λ c. cost W c.1) (λ c. (place (cost_step W) c.1, k ∷ e.0 ∷ c.0 ∷ []))
       (λ c. refl) (members e.1) i) (members d))

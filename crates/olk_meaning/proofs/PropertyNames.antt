@@ -1,14 +1,9 @@
 -- `propertyNames`, over the raw data of its value: a schema for names, `false`, or what is not read.
-use Rattle.std.specs.Prelude.{◌≡◌, Bool, true, false, not, ◌&&◌, ◌||◌, List, [], ◌++◌, map, codes}
+use Rattle.std.proofs.Common.{◌≡◌, Bool, true, false, not, ◌&&◌, ◌||◌, List, [], ◌++◌, map, codes, refl, sym, ◌∙◌, append-nil, true≢false}
 use Rattle.std.specs.List.{list_all, flat_map}
-use Rattle.std.proofs.Common.{refl, sym, ◌∙◌}
-use Rattle.std.proofs.lemmas.List.{append-nil}
 use Rattle.std.proofs.Math.Bool.{and-true}
-use mathlib.Core.Bool.{true≢false}
 use Rattle.serde_json.specs.Data.{Data, boolean, string, object, Members}
 use Rattle.olk_spec.specs.Names.{Path, ◌//◌, is_empty, put_if}
-use Rattle.olk_spec.specs.World.{World}
-use Rattle.olk_spec.specs.Vocabulary.{property_names}
 use Rattle.olk_spec.specs.Faults.{Fault, FalseSchema, IsLike, like, like_names, ◌∼◌, like_empty, like_next, like_swap, like_through}
 use Rattle.olk_spec.specs.Schemas.{Schema, members, is_object, is_truth}
 use Rattle.olk_spec.specs.Meaning.{accepts, tree, meaning, meaning_step}
@@ -18,9 +13,8 @@ use Rattle.olk_spec.proofs.Reading.{place, whole_read}
 use Rattle.olk_spec.proofs.Order.{∼_same}
 use Rattle.olk_meaning.specs.Told.{IsTold, each_name_told, no_name_told}
 use Rattle.olk_meaning.specs.Members.{member_accepts, member_asks, member_report, member_child}
-use Rattle.olk_meaning.proofs.Asking.{names_ask_nothing}
-use Rattle.olk_meaning.proofs.Facts.{nothing_first}
-use Rattle.olk_spec.specs.Meanings.{Meaning}
+use Rattle.olk_meaning.proofs.Facts.{names_ask_nothing, nothing_first}
+use Rattle.olk_spec.specs.{World.World, Vocabulary.property_names, Meanings.Meaning}
 
 -- ---- wrapped faults
 
@@ -62,8 +56,7 @@ module _ (W : World) (ms : Members) (d : Data) (u : Bool) (v : Data) where
     report_by : (P Q : Path) → member_report W ms (codes "propertyNames", d) property_names u v P Q
         ≡ flat_map (λ s. flat_map (λ m. map (wrapped v Q) (s.answer.report (string m.0) (P // codes "propertyNames") Q)) (members v)) (put_if names (place to_meaning d) [])
         ++ fault_if (none && not (is_empty (members v))) FalseSchema v (P // codes "propertyNames") Q
-    report_by P Q =
-        (λ i. flat_map (λ s. flat_map (λ m. map (wrapped v Q) (s.answer.report (string m.0) (P // codes "propertyNames") Q)) (members v))
+    report_by P Q = (λ i. flat_map (λ s. flat_map (λ m. map (wrapped v Q) (s.answer.report (string m.0) (P // codes "propertyNames") Q)) (members v))
         (put_if (is_object (whole_read to_meaning d i).schema) (whole_read to_meaning d i) [])
         ++ fault_if (is_truth false (whole_read to_meaning d i).schema && not (is_empty (members v))) FalseSchema v (P // codes "propertyNames") Q)
         ∙ (λ i. flat_map (λ s. flat_map (λ m. map (wrapped v Q) (s.answer.report (string m.0) (P // codes "propertyNames") Q)) (members v))
@@ -73,8 +66,7 @@ module _ (W : World) (ms : Members) (d : Data) (u : Bool) (v : Data) where
         ≡ put_if names (plain (P // codes "propertyNames") Q (map (λ m. tree W u d (string m.0) (P // codes "propertyNames") Q) (members v))) []
         ++ put_if none (erring (P // codes "propertyNames") Q (fault_if (not (is_empty (members v))) FalseSchema v (P // codes "propertyNames") Q)) []
     unfolding meaning
-    child_by P Q =
-        (λ i. put_if (is_object (whole_read to_meaning d i).schema)
+    child_by P Q = (λ i. put_if (is_object (whole_read to_meaning d i).schema)
         (plain (P // codes "propertyNames") Q (map (λ m. (whole_read to_meaning d i).answer.tree (string m.0) (P // codes "propertyNames") Q) (members v))) []
         ++ put_if (is_truth false (whole_read to_meaning d i).schema) (erring (P // codes "propertyNames") Q (fault_if (not (is_empty (members v))) FalseSchema v (P // codes "propertyNames") Q)) [])
         ∙ (λ i. put_if (is_names i) (plain (P // codes "propertyNames") Q (map (λ m. tree W u d (string m.0) (P // codes "propertyNames") Q) (members v))) []

@@ -1,26 +1,24 @@
 -- Which validators stand for a schema, over its raw data.
-use Rattle.std.specs.Prelude.{◌≡◌, Bool, true, false, cond, ◌||◌, List, [], ◌∷◌, ◌++◌, map, length, codes, Option, Some, None, is_some, option_map, option_to_list}
+use Rattle.std.proofs.Common.{◌≡◌, Bool, true, false, cond, ◌||◌, List, [], ◌∷◌, ◌++◌, map, length, codes, Option, Some, None, is_some, option_map, option_to_list, refl, sym, ◌∙◌, ap}
 use Rattle.std.specs.List.{flat_map}
-use Rattle.std.proofs.Common.{refl, sym, ◌∙◌, ap}
 use Rattle.std.proofs.lemmas.List.{length-map}
 use Rattle.serde_json.specs.Data.{Data, boolean, object, Members}
 use Rattle.olk_spec.specs.Names.{Name, Path, ◌//◌, lookup_name}
-use Rattle.olk_spec.specs.World.{World}
-use Rattle.olk_spec.specs.Vocabulary.{Keyword, properties, pattern_properties, additional_properties, property_names, required, dependent_required, dependent_schemas, dependencies, property_dependencies, all_of, any_of, one_of, not_keyword, if_keyword, keyword_named}
+use Rattle.olk_spec.specs.Vocabulary.{Keyword, properties, pattern_properties, additional_properties, property_names, required, dependent_required, dependent_schemas, dependencies}
+use Rattle.olk_spec.specs.Vocabulary.{property_dependencies, all_of, any_of, one_of, not_keyword, if_keyword, keyword_named}
 use Rattle.olk_spec.specs.Schemas.{Sub, Part, read, read_members, listed, numbered, members, is_object, is_array, is_truth, branches, is_present, entries_at, wholes_at}
-use Rattle.olk_spec.specs.Malformed.{items_of_array}
-use Rattle.olk_spec.specs.Meanings.{restricts}
 use Rattle.olk_spec.specs.Trees.{fuses_two, fuses_one, where_so}
 use Rattle.olk_spec.proofs.Maps.{flat_map-map, map-map}
-use Rattle.olk_spec.proofs.Reading.{place, entry, inner_entry, whole_read, schema_of_read, members_read, entries_read, inner_read, items_read, branches_read, lookup_listed, lookup_read, wholes_at_read}
-use Rattle.olk_meaning.specs.AdditionalProperties.{entries_in}
-use Rattle.olk_meaning.specs.Chosen.{Placed, Form, Size, Standing, true_form, false_form, object_form, names_form, single_pattern_form, patterns_form, required_form, property_names_form, no_names_form, dependencies_form, dependent_required_form, dependent_schemas_form, property_dependencies_form, single_all_of_form, all_of_form, single_any_of_form, any_of_form, single_one_of_form, one_of_form, not_form, restriction_form, properties_form, one_or_other, if_form, size_for, each_standing, keyword_standing, restriction_standing, standing_step, validators}
-use Rattle.olk_meaning.specs.Conditions.{is_condition}
-use Rattle.olk_meaning.specs.Members.{member_standing}
-use Rattle.olk_meaning.proofs.Beside.{entries_beside}
-use Rattle.olk_meaning.proofs.Conditions.{present, condition_read}
-use Rattle.olk_meaning.proofs.Facts.{numbered-map}
-use Rattle.olk_meaning.proofs.Rows.{Rows}
+use Rattle.olk_spec.proofs.Reading.{place, entry, inner_entry, whole_read, schema_of_read, members_read, entries_read, inner_read, items_read, branches_read, lookup_listed, lookup_read}
+use Rattle.olk_spec.proofs.Reading.{wholes_at_read}
+use Rattle.olk_meaning.specs.Chosen.{Placed, Form, Size, Standing, true_form, object_form, names_form, single_pattern_form, patterns_form, required_form, property_names_form, no_names_form}
+use Rattle.olk_meaning.specs.Chosen.{dependencies_form, dependent_required_form, dependent_schemas_form, property_dependencies_form, single_all_of_form, all_of_form, single_any_of_form, any_of_form}
+use Rattle.olk_meaning.specs.Chosen.{single_one_of_form, one_of_form, not_form, restriction_form, properties_form, one_or_other, if_form, size_for, each_standing, keyword_standing}
+use Rattle.olk_meaning.specs.Chosen.{restriction_standing, standing_step, validators}
+use Rattle.olk_meaning.proofs.Conditions.{entries_beside, present, condition_read}
+use Rattle.olk_spec.specs.{World.World, Malformed.items_of_array, Meanings.restricts}
+use Rattle.olk_meaning.specs.{AdditionalProperties.entries_in, Conditions.is_condition, Members.member_standing}
+use Rattle.olk_meaning.proofs.{Facts.numbered-map, Rows.Rows}
 
 module _ (W : World) where
   -- what stands for entries below a place
@@ -123,8 +121,7 @@ module _ (W : World) where
       pub dependencies_stand : standing (codes "dependencies") d dependencies ≡ (P // codes "dependencies", dependencies_form)
           ∷ flat_map (dependency_placed (P // codes "dependencies")) (members d)
       unfolding validators
-      dependencies_stand =
-          ap (λ l. (P // codes "dependencies", dependencies_form) ∷ l) (ap (flat_map _) (entries_read (standing_step W) d)
+      dependencies_stand = ap (λ l. (P // codes "dependencies", dependencies_form) ∷ l) (ap (flat_map _) (entries_read (standing_step W) d)
           ∙ flat_map-map _ (dependency_placed (P // codes "dependencies")) (entry (standing_step W)) (λ e. refl) (members d))
 
       pub property_dependencies_stand : standing (codes "propertyDependencies") d property_dependencies ≡ (P // codes "propertyDependencies", property_dependencies_form)
@@ -212,7 +209,3 @@ module _ (W : World) where
   pub true_stands : (P : Path) → validators W (boolean true) P ≡ (P, true_form) ∷ []
   unfolding validators
   true_stands P = refl
-
-  pub false_stands : (P : Path) → validators W (boolean false) P ≡ (P, false_form) ∷ []
-  unfolding validators
-  false_stands P = refl

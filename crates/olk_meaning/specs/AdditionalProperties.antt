@@ -4,15 +4,13 @@ use Rattle.std.specs.List.{list_all, flat_map}
 use Rattle.serde_json.specs.Data.{Data, string, array, no_items, item, Members}
 use Rattle.olk_spec.specs.Names.{Name, Text, Path, ◌//◌, lookup_name, filter_once, is_among, is_empty}
 use Rattle.olk_spec.specs.World.{World, is_unfinished}
-use Rattle.olk_spec.specs.Faults.{Fault}
 use Rattle.olk_spec.specs.Schemas.{listed, members, is_object, is_truth}
 use Rattle.olk_spec.specs.Meanings.{matches, is_open}
 use Rattle.olk_spec.specs.Meaning.{accepts, asks, report, tree}
-use Rattle.olk_spec.specs.Accepts.{missing}
 use Rattle.olk_spec.specs.Reports.{unexpected_faults, required_faults}
 use Rattle.olk_spec.specs.Tree.{Tree, node, no_tree, result, erring, described}
-use Rattle.olk_spec.specs.Trees.{where_so}
 use Rattle.olk_meaning.specs.Fused.{fused_one}
+use Rattle.olk_spec.specs.{Faults.Fault, Accepts.missing, Trees.where_so}
 
 -- what it may be: an object, true or false
 abbrev pub is_rule : Data → Bool

@@ -3,12 +3,12 @@ use Rattle.std.specs.Prelude.{ℕ, Bool, true, false, cond, ◌||◌, ◌==◌, 
 use Rattle.std.specs.List.{flat_map}
 use Rattle.serde_json.specs.Data.{Data}
 use Rattle.olk_spec.specs.Names.{Name, Path, ◌//◌, lookup_name}
-use Rattle.olk_spec.specs.World.{World}
-use Rattle.olk_spec.specs.declared.TheConstants.{HASHMAP_THRESHOLD}
-use Rattle.olk_spec.specs.Vocabulary.{Keyword, properties, pattern_properties, additional_properties, property_names, required, dependent_required, dependent_schemas, dependencies, property_dependencies, all_of, any_of, one_of, not_keyword, if_keyword, leaf, keyword_named}
+use Rattle.olk_spec.specs.Vocabulary.{Keyword, properties, pattern_properties, additional_properties, property_names, required, dependent_required, dependent_schemas, dependencies}
+use Rattle.olk_spec.specs.Vocabulary.{property_dependencies, all_of, any_of, one_of, not_keyword, if_keyword, leaf, keyword_named}
 use Rattle.olk_spec.specs.Schemas.{Sub, Part, Schema, truth, keywords, no_schema, Keywords, answer_for, is_object, is_array, is_truth, branches, is_present, entries_at, wholes_at}
 use Rattle.olk_spec.specs.Meanings.{restricts, is_conditional}
 use Rattle.olk_spec.specs.Trees.{fuses_two, fuses_one, has_patterns, where_so}
+use Rattle.olk_spec.specs.{World.World, declared.TheConstants.HASHMAP_THRESHOLD}
 
 -- few names are held in a small map, and many in a big one
 pub data Size : Type 0 where

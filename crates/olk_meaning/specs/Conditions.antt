@@ -1,14 +1,11 @@
 -- What a member of a schema object has to know of its neighbours: when `if` is read, and `then` and `else` with it; whether members that no pattern matches are held to anything, and then which are declared.
 use Rattle.std.specs.Prelude.{◌≡◌, ◌&&◌, ◌||◌, Bool, true, false, cond, List, [], ◌∷◌, codes, Option, Some, None, is_some, String}
-use Rattle.std.specs.declared.alloc.Global.{Global}
-use Rattle.std.specs.BTreeMap.{BTreeMap}
 use Rattle.serde_json.specs.Data.{Data, Members}
-use Rattle.serde_json.specs.View.{members_view}
-use Rattle.serde_json.specs.declared.value.Value.{Value}
 use Rattle.olk_spec.specs.Names.{Name, lookup_name, is_among}
 use Rattle.olk_spec.specs.Schemas.{listed, is_object, is_truth}
-use Rattle.olk_meaning.specs.AdditionalProperties.{declared_beside}
-use Rattle.olk_meaning.specs.declared.neighbours.Neighbours.{Neighbours}
+use Rattle.std.specs.{declared.alloc.Global.Global, BTreeMap.BTreeMap}
+use Rattle.serde_json.specs.{View.members_view, declared.value.Value.Value}
+use Rattle.olk_meaning.specs.{AdditionalProperties.declared_beside, declared.neighbours.Neighbours.Neighbours}
 
 -- `if` stands beside `then` or `else` in a schema object with these members
 abbrev pub is_condition : Members → Bool

@@ -3,13 +3,10 @@ use Rattle.std.specs.Prelude.{Bool, not, cond, List, [], ◌∷◌}
 use Rattle.std.specs.List.{list_all}
 use Rattle.serde_json.specs.Data.{Data}
 use Rattle.olk_spec.specs.Names.{Name, filter_once, is_empty}
-use Rattle.olk_spec.specs.World.{World}
 use Rattle.olk_spec.specs.Schemas.{is_array, members, has, texts}
-use Rattle.olk_spec.specs.Accepts.{missing}
-use Rattle.olk_spec.specs.Reports.{required_faults}
-use Rattle.olk_spec.specs.Tree.{erring}
 use Rattle.olk_meaning.specs.Chosen.{names_form}
 use Rattle.olk_meaning.specs.Told.{EntryAnswers, schema_answers}
+use Rattle.olk_spec.specs.{World.World, Accepts.missing, Reports.required_faults, Tree.erring}
 
 -- the entries of d whose key is a member of v
 abbrev pub due_entries : Data → Data → List (Name × Data)

@@ -2,8 +2,7 @@
 use Rattle.std.specs.Prelude.{Bool, true, false, cond, not, ◌&&◌, nat_lt, length, Option, Some, None, is_some, is_none, codes, bytes_eq}
 use Rattle.serde_json.specs.Data.{Data, boolean, string, object, array, Members, no_items, item}
 use Rattle.olk_spec.specs.Names.{Name, lookup_name}
-use Rattle.olk_spec.specs.Schemas.{listed}
-use Rattle.olk_spec.specs.declared.TheConstants.{HASHMAP_THRESHOLD}
+use Rattle.olk_spec.specs.{Schemas.listed, declared.TheConstants.HASHMAP_THRESHOLD}
 
 -- a value of `properties` that declares few names
 abbrev pub declares_few : Option Data → Bool

@@ -2,20 +2,14 @@
 use Rattle.std.specs.Prelude.{◌≡◌, ⊤, false, Some, ℕ, Bool, List}
 use Rattle.serde_json.specs.Data.{Data, Members}
 use Rattle.olk_spec.specs.Names.{Name, Path, lookup_name}
-use Rattle.olk_spec.specs.World.{World}
 use Rattle.olk_spec.specs.Vocabulary.{properties, pattern_properties, required, Keyword}
-use Rattle.olk_spec.specs.Faults.{Fault}
 use Rattle.olk_spec.specs.Schemas.{read, read_members, listed}
-use Rattle.olk_spec.specs.Tree.{Tree}
-use Rattle.olk_spec.specs.Meanings.{restricts}
-use Rattle.olk_spec.specs.Meaning.{meaning_step}
 use Rattle.olk_spec.specs.Trees.{fuses_two, fuses_one, keyword_child}
-use Rattle.olk_spec.specs.Accepts.{keyword_accepts}
-use Rattle.olk_spec.specs.Reports.{keyword_report}
-use Rattle.olk_spec.specs.Asks.{keyword_asks}
 use Rattle.olk_spec.specs.Malformed.{malformations_step, keyword_malformations}
 use Rattle.olk_meaning.specs.Chosen.{Placed, standing_step, keyword_standing}
 use Rattle.olk_spec.specs.Costs.{Cost, cost_step, keyword_cost}
+use Rattle.olk_spec.specs.{World.World, Faults.Fault, Tree.Tree, Meanings.restricts, Meaning.meaning_step, Accepts.keyword_accepts}
+use Rattle.olk_spec.specs.{Reports.keyword_report, Asks.keyword_asks}
 
 -- m is a member of the schema object with the members ms, which stands at P
 module _ (W : World) (ms : Members) (m : Name × Data) (w : Keyword) where

@@ -4,14 +4,12 @@ use Rattle.std.specs.List.{list_all, flat_map}
 use Rattle.serde_json.specs.Data.{Data, string}
 use Rattle.olk_spec.specs.Names.{Name, Text, Path, ◌//◌, filter_once, put_if}
 use Rattle.olk_spec.specs.Faults.{Fault, Regex}
-use Rattle.olk_spec.specs.Malformed.{refusal}
 use Rattle.olk_spec.specs.Costs.{Cost, no_cost}
-use Rattle.olk_spec.specs.World.{World}
 use Rattle.olk_spec.specs.Schemas.{members, is_object}
 use Rattle.olk_spec.specs.Meanings.{matches, is_open}
 use Rattle.olk_spec.specs.Meaning.{accepts, asks, report, tree}
-use Rattle.olk_spec.specs.Tree.{result}
 use Rattle.olk_meaning.specs.Told.{Told}
+use Rattle.olk_spec.specs.{Malformed.refusal, World.World, Tree.result}
 
 module _ (W : World) where
   -- the members of v whose names the pattern matches

@@ -2,10 +2,9 @@
 use Rattle.std.specs.Prelude.{List, [], ◌∷◌, map}
 use Rattle.std.specs.List.{flat_map}
 use Rattle.serde_json.specs.Data.{Data}
-use Rattle.olk_spec.specs.Names.{Name}
-use Rattle.olk_spec.specs.World.{World}
 use Rattle.olk_spec.specs.Schemas.{at, as_text}
 use Rattle.olk_meaning.specs.Told.{EntryAnswers, placed_answers}
+use Rattle.olk_spec.specs.{Names.Name, World.World}
 
 -- the schema that stands in d at the text that w is, under that text: none or one
 abbrev pub chosen_by : Data → Data → List (Name × Data)

@@ -3,18 +3,15 @@ use Rattle.std.specs.Prelude.{◌≡◌, ℕ, ◌&&◌, ◌==◌, nat_lt, count_
 use Rattle.std.specs.List.{list_all, list_any, flat_map}
 use Rattle.serde_json.specs.Data.{Data, string, Members}
 use Rattle.olk_spec.specs.Names.{Name, Text, Path, ◌//◌, down, lookup_name, filter_once, put_if, is_among, is_empty}
-use Rattle.olk_spec.specs.World.{World}
-use Rattle.olk_spec.specs.Vocabulary.{Keyword}
 use Rattle.olk_spec.specs.Faults.{Fault, fault, FalseSchema, AnyOf, OneOfNotValid, OneOfMultipleValid, Not, Leaf, Context, context, ◌∼◌}
 use Rattle.olk_spec.specs.Schemas.{is_object, members, at}
 use Rattle.olk_spec.specs.Meaning.{accepts, asks, report, tree}
-use Rattle.olk_spec.specs.Accepts.{missing}
 use Rattle.olk_spec.specs.Reports.{fault_if, required_faults, wrapped}
 use Rattle.olk_spec.specs.Tree.{Tree, leaf_node, result, plain, erring, described}
 use Rattle.olk_meaning.specs.Chosen.{Placed, validators}
-use Rattle.olk_meaning.specs.Conditions.{is_restricted}
 use Rattle.olk_meaning.specs.Members.{member_accepts, member_asks, member_report, member_child, StandsAlone}
-use Rattle.olk_meaning.specs.Plans.{tells_members}
+use Rattle.olk_spec.specs.{World.World, Vocabulary.Keyword, Accepts.missing}
+use Rattle.olk_meaning.specs.{Conditions.is_restricted, Plans.tells_members}
 
 -- whether it accepts a value, how many matchers it may ask, and where it stands at L what it reports and shows
 pub record Told : Type 0 where
@@ -99,8 +96,7 @@ module _ (W : World) (u : Bool) (v : Data) where
   one_of_faults n L Q es = fault_if (n == 0) (OneOfNotValid (branches_find W u v L Q es)) v L Q ++ fault_if (nat_lt 1 n) (OneOfMultipleValid (branches_find W u v L Q es)) v L Q
 
   abbrev pub one_shown : ℕ → Path → Path → List (Name × Data) → Tree
-  one_shown n L Q es = cond (n == 0)
-      (result L Q None true [] (branches_shown W u v L Q es))
+  one_shown n L Q es = cond (n == 0) (result L Q None true [] (branches_shown W u v L Q es))
       (result L Q None false (put_if (nat_lt 1 n) (codes "oneOf", codes "more than one subschema succeeded", false) []) (branches_shown W u v L Q (accepting_branches W u v es)))
 
 -- `oneOf` of these branches

@@ -1,7 +1,7 @@
 //! The members of a schema object as keywords: what each means, shows, refuses and costs over the
 //! raw data of its value, and whose validator stands for it.
 //!
-//! Stands on the definitions alone. Tested by `object_logic_tests` through building.
+//! Stands on the definitions alone. Tested by `olk_build_tests` through building.
 #![tactic(auto)]
 
 mod members;

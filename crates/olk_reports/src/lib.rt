@@ -1,7 +1,7 @@
 //! Where a value stands in an instance and a keyword in a schema, what is wrong with a value, and
 //! what an evaluation shows of it.
 //!
-//! Stands on `olk_base`. Tested by `object_logic_tests`, and by the files of `olk_cli`.
+//! Stands on `olk_base`. Tested by `olk_base_tests`, and by the files of `olk_cli`.
 #![tactic(auto)]
 
 mod entry;

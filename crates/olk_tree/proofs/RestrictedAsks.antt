@@ -3,7 +3,7 @@ use Rattle.std.specs.Prelude.{◌≡◌, ◌≤◌, ℕ, ◌+◌, Bool, true, fa
 use Rattle.std.specs.Option.{option_map_or}
 use Rattle.std.proofs.Common.{refl, sym, ap, ◌∙◌, arith}
 use Rattle.std.proofs.lemmas.List.Sums.{sum_by-cons, sum_by-append}
-use Rattle.olk_meaning.proofs.Objects.{sum_by-map}
+use Rattle.olk_meaning.proofs.Facts.{sum_by-map}
 use Rattle.serde_json.specs.Data.{Data}
 use Rattle.olk_spec.specs.Names.{Name, Text, Path, ◌//◌, put_if, is_empty}
 use Rattle.olk_spec.specs.World.{World, Says, matched, unmatched, is_unfinished}

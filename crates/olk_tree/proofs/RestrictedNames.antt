@@ -14,7 +14,7 @@ use Rattle.olk_spec.specs.Tree.{Tree}
 use Rattle.olk_spec.proofs.Order.{∼_append, ∼_same, ∼_flat_map_any}
 use Rattle.olk_base.specs.Kit.{Kit}
 use Rattle.olk_meaning.specs.AdditionalProperties.{matching_accept, rest_accepts, matching_report, rest_report, others_report, patterns_asked, matching_asks, rest_asks}
-use Rattle.olk_meaning.proofs.Exchanged.{sum_of_both}
+use Rattle.olk_meaning.proofs.Facts.{sum_of_both}
 use Rattle.olk_tree.specs.Questions.{Question, every, of_asked}
 use Rattle.olk_tree.specs.Additional.{Sides, at_name, is_unexpected, others_mean, named_means, named_report, others_report as others_found}
 use Rattle.olk_tree.specs.AdditionalAgreement.{others_accepted}

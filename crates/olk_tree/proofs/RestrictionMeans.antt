@@ -21,8 +21,7 @@ use Rattle.olk_meaning.specs.Conditions.{is_restricted}
 use Rattle.olk_meaning.specs.Fused.{fused_one}
 use Rattle.olk_meaning.specs.Members.{member_accepts, member_asks, member_report, member_child}
 use Rattle.olk_meaning.specs.Plans.{plan_of, head, claims}
-use Rattle.olk_meaning.proofs.Restriction.{claims_accept, claims_accept_each, claims_find, claims_find_each, claims_ask, claims_ask_each}
-use Rattle.olk_meaning.proofs.RestrictionShown.{additional_shows}
+use Rattle.olk_meaning.proofs.Restriction.{claims_accept, claims_accept_each, claims_find, claims_find_each, claims_ask, claims_ask_each, additional_shows}
 use Rattle.olk_tree.specs.Questions.{Question, of_asked}
 use Rattle.olk_tree.specs.Additional.{Sides, repeats, means_in_turn, named_means, report_in_turn, named_report, additional_tree, sides_of, has_neighbours, required_text, required_place, lacks}
 use Rattle.olk_tree.specs.Validators.{answers_of, validator_means, validator_report, validator_tree}

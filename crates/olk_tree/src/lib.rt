@@ -2,7 +2,7 @@
 //! are generic in.
 //!
 //! `BuiltNode` is a node as building knows it. Stands on `olk_reports` and `olk_meaning`. Tested by
-//! `object_logic_tests`.
+//! `olk_node_tests`.
 #![tactic(auto)]
 
 pub mod additional_properties;

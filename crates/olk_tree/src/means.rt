@@ -1,10 +1,10 @@
 //! What validators mean, and what they report.
 ghost use Rattle.serde_json.specs.Data.{Data};
 
-/// What accepts values, or refuses them.
+/// On the other side stands one meaning, by which all ways of asking go; there is nothing to call.
 ///
-/// All ways of asking go by this one meaning. Each validator has it, and so have keywords, bodies and
-/// nodes; there is nothing to call.
+/// Validators, keywords, bodies and nodes have it. No caller implements it, except for a validator
+/// of their own.
 pub trait Means {
     ghost use Rattle.olk_tree.specs.Questions.{Question};
 
@@ -12,8 +12,10 @@ pub trait Means {
     ghost means: { Self → Data → Question };
 }
 
-/// What reports faults in values: none exactly in those that it accepts, and none first exactly in
-/// those. Each validator has it; there is nothing to call.
+/// On the other side stand the faults in a value, all and first; there is nothing to call.
+///
+/// There are none, and none is first, exactly in the values that are accepted. No caller implements
+/// it, except for a validator of their own.
 pub trait Reports: Means {
     ghost use Rattle.std.specs.Prelude.{◌≡◌, Bool, List};
     ghost use Rattle.olk_spec.specs.Names.{Path, is_empty};

@@ -1,33 +1,26 @@
-use borrow.Author.Count.{falls}
+use Rattle.std.proofs.Common.{falls, arith, rules, true, false, inl, inr, ◌++◌, [], ◌∷◌, map, refl, sym, ap, subst, ◌≡◌, ◌∙◌, Some, None, append-nil, append_assoc}
 use Rattle.std.proofs.lemmas.Result.{IfOk-weaker}
-use Rattle.olk_build.proofs.Places.{no_object_no_members, no_array_no_items, none_are_built, itself_is_built}
+use Rattle.olk_build.proofs.Built.{no_object_no_members, no_array_no_items, none_are_built, itself_is_built, next_branch, no_branch, entry_refused, one_more_entry, inner_refused, one_more_inner}
+use Rattle.olk_build.proofs.Built.{at_an_entry, past_an_entry, none_is_read, built_truth, built_object, refuses_object, refuses_no_schema, size_among}
 use Rattle.olk_build.specs.declared.shape.ReadPlaces.TheVariants.{Nothing, Entries, SchemaEntries, InnerEntries, Branches}
-use Rattle.std.proofs.Common.{arith, rules, true, false, inl, inr, ◌++◌, [], ◌∷◌, map, refl, sym, ap, subst, ◌≡◌, ◌∙◌, Some, None}
-use Rattle.olk_meaning.specs.Conditions.{known}
-use Rattle.std.proofs.lemmas.List.{append-nil, append_assoc}
 use Rattle.serde_json.specs.View.{view, members_view}
 use Rattle.serde_json.proofs.Views.{view-Object, view-Array}
 use Rattle.serde_json.specs.declared.value.Value.{the_lemmas as value_lemmas}
 use Rattle.olk_spec.specs.Schemas.{listed, numbered}
 use Rattle.olk_reports.proofs.Errors.{kind_of_multiple_types}
 use Rattle.olk_base.specs.Kit.{kit}
-use Rattle.olk_build.specs.Building.{entries_read}
-use Rattle.olk_build.specs.Placing.{PlacesAreBuilt}
-use Rattle.olk_build.proofs.Spending.{exit, exit_with, refuses_memory, within_nothing, within_exactly}
+use Rattle.olk_build.specs.Building.{entries_read, PlacesAreBuilt}
+use Rattle.olk_build.proofs.Spending.{exit, exit_with, refuses_memory, within_nothing, within_exactly, none_so_far, all_so_far, memory_so_far, memory_past}
 use Rattle.olk_spec.proofs.Maps.{items_list-view}
 use Rattle.olk_build.proofs.ReadEntries.{below, listed_alike}
-use Rattle.olk_build.proofs.Built.{next_branch, no_branch, no_entries, entries_built, entries_memory, entry_refused, entry_memory, one_more_entry, no_inner, inner_built, inner_memory, inner_refused, more_inner_memory, one_more_inner, at_an_entry, past_an_entry, none_is_read, built_truth, built_object, refuses_object, refuses_no_schema}
-use Rattle.olk_meaning.proofs.Objects.{no_schema_is}
 use Rattle.olk_build.proofs.Parts.{refuses_part_own, refuses_part_inside, part_is_built}
 use Rattle.serde_json.proofs.value.Value.TheLaws.{the_size}
-use Rattle.olk_build.proofs.Sizes.{size_among}
-use Rattle.olk_meaning.specs.Plans.{planned}
 use Rattle.olk_build.specs.Standing.{is_taken}
-use Rattle.olk_meaning.proofs.MemberLookups.{member_lookup}
-use Rattle.olk_build.proofs.Neighbouring.{neighbour_refused, no_neighbour, neighbour_built, first_beside_refused, second_beside_refused}
-use Rattle.olk_build.proofs.TakenParts.{takes_nothing, both_taken, taking_memory}
-use Rattle.olk_build.proofs.Keywords.{no_keywords_so_far, keywords_memory, object_is_built, next_found, next_taken, next_refused, one_more}
-use Rattle.olk_build.proofs.Member.{part_refused, beside_refused, read_memory, member_built, taken_built, alone_memory, alone_built}
+use Rattle.olk_build.proofs.TakenParts.{neighbour_refused, no_neighbour, neighbour_built, first_beside_refused, second_beside_refused, takes_nothing, both_taken, taking_memory}
+use Rattle.olk_build.proofs.Member.{no_keywords_so_far, keywords_memory, object_is_built, next_found, next_taken, next_refused, one_more, part_refused, beside_refused, read_memory, member_built}
+use Rattle.olk_build.proofs.Member.{taken_built, alone_memory, alone_built}
+use Rattle.olk_meaning.specs.{Conditions.known, Plans.planned}
+use Rattle.olk_meaning.proofs.{Facts.no_schema_is, Fused.member_lookup}
 use Rattle.olk_build.proofs.build.+compile.Goals as goal
 
 pub compile_entries-returns-in_err-nodes-clause-refused : goal.compile_entries-returns-in_err-nodes-clause-refused
@@ -36,7 +29,7 @@ compile_entries-returns-in_err-nodes-clause-refused g t c = exit _ _ _ c.from_re
 pub compile_entries-loop-name-init : goal.compile_entries-loop-name-init
 compile_entries-loop-name-init g t c =
     record {
-      so_far = no_entries c.in_ok-nodes.ensures.items (ap (λ l. entries_read c.args.passes_arrays (listed (members_view l))) c.into_iter-name-iterator.ensures.into_iter_gives.0);
+      so_far = none_so_far (rw c.in_ok-nodes.ensures.items tt) (ap (λ l. entries_read c.args.passes_arrays (listed (members_view l))) c.into_iter-name-iterator.ensures.into_iter_gives.0);
       next = tt;
       ends = tt;
     }
@@ -46,7 +39,7 @@ compile_entries-join-requires-text-segment g t c κs = c.as_str.utf8
 
 pub compile_entries-returns-in_err-location-clause-refused : goal.compile_entries-returns-in_err-location-clause-refused
 compile_entries-returns-in_err-location-clause-refused g t c =
-    exit _ _ _ c.from_residual-in_err-location.ensures.1 (entries_memory c.loop-name.invariant.so_far)
+    exit _ _ _ c.from_residual-in_err-location.ensures.1 (memory_so_far c.loop-name.invariant.so_far)
 
 pub compile_entries-returns-in_err-node-clause-refused : goal.compile_entries-returns-in_err-node-clause-refused
 compile_entries-returns-in_err-node-clause-refused g t c =
@@ -65,9 +58,8 @@ compile_entries-loop-name-preserved-in-Continue-branch-4 g t c =
 
 pub compile_entries-returns-in_err-append-clause-refused : goal.compile_entries-returns-in_err-append-clause-refused
 compile_entries-returns-in_err-append-clause-refused g t c =
-    exit _ _ _ c.from_residual-in_err-append.ensures.1 (entry_memory c.loop-name.invariant.so_far
-    (at_an_entry c.in-Some.ensures.steps c.args.passes_arrays c.is_read.ensures c.if-is_read.true)
-    (below _ c.in_ok-location.ensures c.as_str.ensures.value) c.in_ok-node.ensures.built)
+    exit _ _ _ c.from_residual-in_err-append.ensures.1 (memory_past c.loop-name.invariant.so_far
+    (at_an_entry c.in-Some.ensures.steps c.args.passes_arrays c.is_read.ensures c.if-is_read.true) c.in_ok-node.ensures.built.spends)
 
 pub compile_entries-loop-name-preserved : goal.compile_entries-loop-name-preserved
 compile_entries-loop-name-preserved g t c =
@@ -78,14 +70,13 @@ compile_entries-loop-name-preserved g t c =
     }
 
 pub compile_entries-returns-clause-built : goal.compile_entries-returns-clause-built
-compile_entries-returns-clause-built g t c =
-    entries_built c.loop-name.invariant.so_far
+compile_entries-returns-clause-built g t c = all_so_far c.loop-name.invariant.so_far
     (ap (λ l. entries_read c.args.passes_arrays (listed (members_view l))) c.in-None.ensures.steps.0 ∙ none_is_read c.args.passes_arrays)
 
 pub compile_inner_entries-loop-name-init : goal.compile_inner_entries-loop-name-init
 compile_inner_entries-loop-name-init g t c =
     record {
-      so_far = no_inner c.new-nodes.ensures.items (listed_alike c.into_iter-name-iterator.ensures.into_iter_gives.0);
+      so_far = none_so_far c.new-nodes.ensures.items (listed_alike c.into_iter-name-iterator.ensures.into_iter_gives.0);
       next = tt;
       ends = tt;
     }
@@ -94,8 +85,7 @@ pub compile_inner_entries-join-requires-text-segment : goal.compile_inner_entrie
 compile_inner_entries-join-requires-text-segment g t c κs = c.as_str.utf8
 
 pub compile_inner_entries-returns-in_err-location-clause-refused : goal.compile_inner_entries-returns-in_err-location-clause-refused
-compile_inner_entries-returns-in_err-location-clause-refused g t c =
-    exit _ _ _ c.from_residual.ensures.1 (inner_memory c.loop-name.invariant.so_far)
+compile_inner_entries-returns-in_err-location-clause-refused g t c = exit _ _ _ c.from_residual.ensures.1 (memory_so_far c.loop-name.invariant.so_far)
 
 pub compile_inner_entries-returns-in_err-inner-clause-refused : goal.compile_inner_entries-returns-in_err-inner-clause-refused
 compile_inner_entries-returns-in_err-inner-clause-refused g t c =
@@ -104,8 +94,7 @@ compile_inner_entries-returns-in_err-inner-clause-refused g t c =
 
 pub compile_inner_entries-returns-in_err-append-clause-refused : goal.compile_inner_entries-returns-in_err-append-clause-refused
 compile_inner_entries-returns-in_err-append-clause-refused g t c =
-    exit _ _ _ c.from_residual-in_err-append.ensures.1 (more_inner_memory c.loop-name.invariant.so_far (listed_alike c.in-Some.ensures.steps)
-    (below _ c.in_ok-location.ensures c.as_str.ensures.value) c.in_ok-inner.ensures.built)
+    exit _ _ _ c.from_residual-in_err-append.ensures.1 (memory_past c.loop-name.invariant.so_far (listed_alike c.in-Some.ensures.steps) c.in_ok-inner.ensures.built.spends)
 
 pub compile_inner_entries-loop-name-preserved : goal.compile_inner_entries-loop-name-preserved
 compile_inner_entries-loop-name-preserved g t c =
@@ -117,17 +106,16 @@ compile_inner_entries-loop-name-preserved g t c =
     }
 
 pub compile_inner_entries-returns-clause-built : goal.compile_inner_entries-returns-clause-built
-compile_inner_entries-returns-clause-built g t c =
-    inner_built c.loop-name.invariant.so_far (listed_alike c.in-None.ensures.steps.0)
+compile_inner_entries-returns-clause-built g t c = all_so_far c.loop-name.invariant.so_far (listed_alike c.in-None.ensures.steps.0)
 
 pub compile_branches-returns-in_err-nodes-clause-refused : goal.compile_branches-returns-in_err-nodes-clause-refused
 compile_branches-returns-in_err-nodes-clause-refused g t c = exit _ _ _ c.from_residual.ensures.1 (refuses_memory within_nothing)
 
 pub compile_branches-loop-i-init : goal.compile_branches-loop-i-init
-compile_branches-loop-i-init g t c = no_entries c.in_ok-nodes.ensures.items (ap (λ l. numbered (map view l)) c.deref-schema-items.ensures.value ∙ ap numbered (sym (items_list-view c.args.items.now.items)))
+compile_branches-loop-i-init g t c = none_so_far (rw c.in_ok-nodes.ensures.items tt) (ap (λ l. numbered (map view l)) c.deref-schema-items.ensures.value ∙ ap numbered (sym (items_list-view c.args.items.now.items)))
 
 pub compile_branches-returns-in_err-location-clause-refused : goal.compile_branches-returns-in_err-location-clause-refused
-compile_branches-returns-in_err-location-clause-refused g t c = exit _ _ _ c.from_residual-in_err-location.ensures.1 (entries_memory c.loop-i.invariant)
+compile_branches-returns-in_err-location-clause-refused g t c = exit _ _ _ c.from_residual-in_err-location.ensures.1 (memory_so_far c.loop-i.invariant)
 
 pub compile_branches-returns-in_err-node-clause-refused : goal.compile_branches-returns-in_err-node-clause-refused
 compile_branches-returns-in_err-node-clause-refused g t c =
@@ -135,7 +123,7 @@ compile_branches-returns-in_err-node-clause-refused g t c =
 
 pub compile_branches-returns-in_err-append-clause-refused : goal.compile_branches-returns-in_err-append-clause-refused
 compile_branches-returns-in_err-append-clause-refused g t c =
-    exit _ _ _ c.from_residual-in_err-append.ensures.1 (entry_memory c.loop-i.invariant (next_branch _ _ c.loop-i-test.true c.schema-item.is) c.in_ok-location.ensures c.in_ok-node.ensures.built)
+    exit _ _ _ c.from_residual-in_err-append.ensures.1 (memory_past c.loop-i.invariant (next_branch _ _ c.loop-i-test.true c.schema-item.is) c.in_ok-node.ensures.built.spends)
 
 pub compile_branches-loop-i-smaller : goal.compile_branches-loop-i-smaller
 compile_branches-loop-i-smaller g t c = falls _ _ c.loop-i-test.true
@@ -144,7 +132,7 @@ pub compile_branches-loop-i-preserved : goal.compile_branches-loop-i-preserved
 compile_branches-loop-i-preserved g t c = one_more_entry c.loop-i.invariant (next_branch _ _ c.loop-i-test.true c.schema-item.is) c.in_ok-location.ensures c.in_ok-node.ensures.built c.in_ok-append.ensures.items
 
 pub compile_branches-returns-clause-built : goal.compile_branches-returns-clause-built
-compile_branches-returns-clause-built g t c = entries_built c.loop-i.invariant (no_branch _ _ c.loop-i-test.false)
+compile_branches-returns-clause-built g t c = all_so_far c.loop-i.invariant (no_branch _ _ c.loop-i-test.false)
 
 pub compile_part-returns-in_err-shape-clause-refused : goal.compile_part-returns-in_err-shape-clause-refused
 compile_part-returns-in_err-shape-clause-refused g t c = exit_with _ _ _ c.from_residual.ensures.1 (refuses_part_own (kit g.L.Leaf.Leaf g.M.Engine.RegexEngine) (known c.args.neighbours) c.args.name.now (view c.args.value.now) c.in_err-shape.ensures.refused)
@@ -163,8 +151,7 @@ compile_places-returns-in_err-node-in-Itself-clause-refused g t c =
     exit_with _ _ _ c.from_residual-in_err-node-in-Itself.ensures.1 (rw (c.in-Itself.is, ← c.in_ok-place-in-Itself.ensures) c.in_err-node-in-Itself.ensures.refused)
 
 pub compile_places-returns-in_err-one-in-Itself-clause-refused : goal.compile_places-returns-in_err-one-in-Itself-clause-refused
-compile_places-returns-in_err-one-in-Itself-clause-refused g t c =
-    exit_with _ _ _ c.from_residual-in_err-one-in-Itself.ensures.1
+compile_places-returns-in_err-one-in-Itself-clause-refused g t c = exit_with _ _ _ c.from_residual-in_err-one-in-Itself.ensures.1
     (rw c.in-Itself.is (refuses_memory (within_exactly c.in_ok-node-in-Itself.ensures.built.spends) _ refl))
 
 pub compile_places-returns-in_default : goal.compile_places-returns-in_default
@@ -230,18 +217,16 @@ pub compile_schema-returns-clause-built : goal.compile_schema-returns-clause-bui
 compile_schema-returns-clause-built g t c = tt
 
 pub compile_schema-returns-clause-refused : goal.compile_schema-returns-clause-refused
-compile_schema-returns-clause-refused g t c =
-    refuses_no_schema _ _ _
-    (no_schema_is _ (elim c.in-Null.is [
-      | inl h ↦ rw h (search (rules, value_lemmas))
-      | inr h ↦ elim h [
-        | inl i ↦ rw i.1 (search (rules, value_lemmas))
-        | inr i ↦ elim i [
-          | inl j ↦ rw j.1 (search (rules, value_lemmas))
-          | inr j ↦ rw j.1 (search (rules, value_lemmas))
-        ]
-      ]
-    ])) c.tick_compiled.ensures (rw kind_of_multiple_types at c.refuse.ensures)
+compile_schema-returns-clause-refused g t c = refuses_no_schema _ _ _ (no_schema_is _ (elim c.in-Null.is [
+  | inl h ↦ rw h (search (rules, value_lemmas))
+  | inr h ↦ elim h [
+    | inl i ↦ rw i.1 (search (rules, value_lemmas))
+    | inr i ↦ elim i [
+      | inl j ↦ rw j.1 (search (rules, value_lemmas))
+      | inr j ↦ rw j.1 (search (rules, value_lemmas))
+    ]
+  ]
+])) c.tick_compiled.ensures (rw kind_of_multiple_types at c.refuse.ensures)
 
 pub compile_object-returns-in_err-keywords-clause-refused : goal.compile_object-returns-in_err-keywords-clause-refused
 compile_object-returns-in_err-keywords-clause-refused g t c = exit _ _ _ c.from_residual.ensures.1 (refuses_memory within_nothing)
@@ -255,8 +240,7 @@ compile_beside-returns-in_err-second-in-Some-clause-refused g t c =
     exit_with _ _ _ c.from_residual-in_err-second-in-Some.ensures.1 (second_beside_refused _ _ _ (sym c.in-Some.ensures) c.in_ok-first-in-Some.ensures.built c.in_err-second-in-Some.ensures.refused)
 
 pub compile_beside-returns-in_err-take-in-Some-clause-refused : goal.compile_beside-returns-in_err-take-in-Some-clause-refused
-compile_beside-returns-in_err-take-in-Some-clause-refused g t c =
-    exit _ _ _ c.from_residual-in_err-take-in-Some.ensures.1
+compile_beside-returns-in_err-take-in-Some-clause-refused g t c = exit _ _ _ c.from_residual-in_err-take-in-Some.ensures.1
     (taking_memory c.args.shape.now (sym c.in-Some.ensures) c.in_ok-first-in-Some.ensures.built c.in_ok-second-in-Some.ensures.built c.of-neighbours.ensures c.in_err-take-in-Some.ensures.asked_at_most)
 
 pub compile_beside-returns-in_ok-take-in-Some-clause-built : goal.compile_beside-returns-in_ok-take-in-Some-clause-built
@@ -268,8 +252,7 @@ pub compile_beside-returns-in-None-clause-built : goal.compile_beside-returns-in
 compile_beside-returns-in-None-clause-built g t c = takes_nothing (sym c.in-None.ensures)
 
 pub compile_neighbour-returns-in_err-location-in-Some-clause-refused : goal.compile_neighbour-returns-in_err-location-in-Some-clause-refused
-compile_neighbour-returns-in_err-location-in-Some-clause-refused g t c =
-    exit _ _ _ c.from_residual.ensures.1 (refuses_memory within_nothing)
+compile_neighbour-returns-in_err-location-in-Some-clause-refused g t c = exit _ _ _ c.from_residual.ensures.1 (refuses_memory within_nothing)
 
 pub compile_neighbour-returns-in_err-part-in-Some-clause-refused : goal.compile_neighbour-returns-in_err-part-in-Some-clause-refused
 compile_neighbour-returns-in_err-part-in-Some-clause-refused g t c =
@@ -353,5 +336,4 @@ compile_object-loop-name-preserved g t c =
     }
 
 pub compile_object-returns-clause-built : goal.compile_object-returns-clause-built
-compile_object-returns-clause-built g t c =
-    object_is_built c.loop-name.invariant.so_far (listed_alike c.in-None.ensures.steps.0)
+compile_object-returns-clause-built g t c = object_is_built c.loop-name.invariant.so_far (listed_alike c.in-None.ensures.steps.0)

@@ -7,7 +7,7 @@ use Rattle.olk_base.specs.Kit.{kit}
 use Rattle.olk_build.specs.Building.{entries_read}
 use Rattle.olk_build.proofs.Built.{EntriesSoFar, InnerSoFar, branches_from}
 use Rattle.olk_meaning.specs.Plans.{planned}
-use Rattle.olk_build.proofs.Keywords.{KeywordsSoFar}
+use Rattle.olk_build.proofs.Member.{KeywordsSoFar}
 use Rattle.olk_build.proofs.build.+compile.Given as goal
 
 -- the nodes so far are built for those of the entries so far that are read

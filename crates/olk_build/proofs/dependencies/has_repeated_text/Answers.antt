@@ -1,7 +1,7 @@
 use Rattle.std.proofs.Common.{◌+◌, drop, sym, ap, ◌∙◌}
-use Rattle.olk_build.proofs.NameLists.{meets_again, meets_none_seen, meets_past_others, meets_seen, meets_past_new, meets_at, seen_one_more}
-use Rattle.olk_build.proofs.dependencies.has_repeated_text.Goals as goal
+use Rattle.olk_build.proofs.ReadEntries.{meets_again, meets_none_seen, meets_past_others, meets_seen, meets_past_new, meets_at, seen_one_more}
 use Rattle.olk_build.proofs.dependencies.has_repeated_text.Goals.{in-Some+in_ok-is_new+else-not-is_new, in_default}
+use Rattle.olk_build.proofs.dependencies.has_repeated_text.Goals as goal
 
 pub loop-item-init : goal.loop-item-init
 loop-item-init c = meets_none_seen c.new-seen.result c.args.items.now c.new-seen.ensures.empty
@@ -15,8 +15,7 @@ loop-item-preserved c =
           (sym w.if-not-is_new.false ∙ w.in_ok-is_new.ensures.added) (seen_one_more c.loop-item.seen w.insert.new.self w.in-Some.text w.in_ok-is_new.ensures.updates))
           ∙ before
       | in_default w ↦ ap (λ s. meets_again s (drop (c.loop-item.item-index + 1) c.args.items.now)) w.seen-is
-          ∙ sym (meets_past_others c.loop-item.seen c.item-item.result _ (sym w.in_default.ensures))
-          ∙ before
+          ∙ sym (meets_past_others c.loop-item.seen c.item-item.result _ (sym w.in_default.ensures)) ∙ before
     ]
 
 pub returns-then-not-is_new : goal.returns-then-not-is_new

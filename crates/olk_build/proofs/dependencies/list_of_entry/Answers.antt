@@ -1,13 +1,10 @@
-use Rattle.std.specs.Prelude.{cond, Some, None}
-use Rattle.std.proofs.Common.{ap, ◌∙◌, sym}
+use Rattle.std.proofs.Common.{cond, Some, None, ap, ◌∙◌, sym}
 use Rattle.std.proofs.lemmas.Result.{IfOk-from_err}
 use Rattle.serde_json.specs.View.{view}
-use Rattle.olk_spec.specs.Schemas.{texts}
-use Rattle.olk_spec.specs.Malformed.{not_a_text}
 use Rattle.olk_build.specs.Reading.{list_of}
-use Rattle.olk_build.proofs.Spending.{exit_with}
 use Rattle.olk_build.proofs.Shapes.{no_array, view_of_array}
-use Rattle.olk_build.proofs.Read.{no_text_missed}
+use Rattle.olk_spec.specs.{Schemas.texts, Malformed.not_a_text}
+use Rattle.olk_build.proofs.{Spending.exit_with, Read.no_text_missed}
 use Rattle.olk_build.proofs.dependencies.list_of_entry.Goals as goal
 
 pub returns-in_err-texts_of_items : goal.returns-in_err-texts_of_items

@@ -6,8 +6,7 @@ returns-in_err-lists-clause-refused c =
     exit_with _ _ _ c.from_residual-in_err-lists.ensures.1 (rw c.in_ok-entries.ensures.object c.in_err-lists.ensures.refused)
 
 pub returns-in_err-entries-clause-refused : goal.returns-in_err-entries-clause-refused
-returns-in_err-entries-clause-refused c =
-    exit_with _ _ _ c.from_residual.ensures.1 (tells_left _ _ _ c.in_err-entries.ensures.refused)
+returns-in_err-entries-clause-refused c = exit_with _ _ _ c.from_residual.ensures.1 (tells_left _ _ _ c.in_err-entries.ensures.refused)
 
 pub returns-in_err-keys-clause-refused : goal.returns-in_err-keys-clause-refused
 returns-in_err-keys-clause-refused c = exit _ _ _ c.from_residual-in_err-keys.ensures.1 (tells_memory _)

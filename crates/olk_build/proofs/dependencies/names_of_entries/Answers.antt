@@ -6,8 +6,7 @@ pub loop-key-init : goal.loop-key-init
 loop-key-init c = none_so_far c.new-required.ensures.items c.into_iter-key-iterator.ensures.into_iter_gives.0
 
 pub loop-key-preserved : goal.loop-key-preserved
-loop-key-preserved c =
-    one_more_entry c.loop-key.invariant c.in-Some.ensures.steps c.in_ok-append.ensures.items c.in_ok-names.ensures.names
+loop-key-preserved c = one_more_entry c.loop-key.invariant c.in-Some.ensures.steps c.in_ok-append.ensures.items c.in_ok-names.ensures.names
     (rw (← c.as_str.ensures.value) c.in_ok-names.ensures.right)
 
 pub returns-in_err-names-clause-refused : goal.returns-in_err-names-clause-refused

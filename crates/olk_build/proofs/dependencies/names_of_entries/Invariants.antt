@@ -1,7 +1,6 @@
-use Rattle.olk_spec.specs.Schemas.{texts}
-use Rattle.olk_spec.specs.Malformed.{name_list_refusals}
 use Rattle.olk_build.specs.Reading.{names_in}
 use Rattle.olk_build.proofs.ReadEntries.{EntriesSoFar}
+use Rattle.olk_spec.specs.{Schemas.texts, Malformed.name_list_refusals}
 use Rattle.olk_build.proofs.dependencies.names_of_entries.Given as goal
 
 -- the names so far are those of the entries so far, and these are right

@@ -1,11 +1,10 @@
 use Rattle.std.proofs.Common.{ap, ◌∙◌, sym}
 use Rattle.std.proofs.lemmas.Result.{IfOk-from_err, IfOk-weaker, IfErr-weaker}
 use Rattle.serde_json.specs.View.{view, items_view}
-use Rattle.olk_spec.specs.Schemas.{texts_in}
-use Rattle.olk_spec.specs.Malformed.{has_repeat}
 use Rattle.olk_reports.proofs.Errors.{kind_of_unique_items}
 use Rattle.olk_build.proofs.Spending.{exit, exit_with, tells_memory, tells_same}
-use Rattle.olk_build.proofs.NameLists.{no_array_told, repeat_told, refused_as_texts}
+use Rattle.olk_build.proofs.ReadEntries.{no_array_told, repeat_told, refused_as_texts}
+use Rattle.olk_spec.specs.{Schemas.texts_in, Malformed.has_repeat}
 use Rattle.olk_build.proofs.dependencies.names_of_entry.Goals as goal
 
 pub returns-in_err-place : goal.returns-in_err-place
@@ -19,8 +18,7 @@ pub returns-in_err-items : goal.returns-in_err-items
 returns-in_err-items c = record {
   names = IfOk-from_err _ _ c.from_residual-in_err-items.ensures.0;
   right = IfOk-from_err _ _ c.from_residual-in_err-items.ensures.0;
-  refused =
-      exit_with _ _ _ c.from_residual-in_err-items.ensures.1
+  refused = exit_with _ _ _ c.from_residual-in_err-items.ensures.1
       (no_array_told c.args.key.now c.args.location.now (view c.args.value.now) _ (rw (← c.in_ok-place.ensures) c.in_err-items.ensures.refused));
 }
 

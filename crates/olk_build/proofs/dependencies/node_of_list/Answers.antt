@@ -1,7 +1,6 @@
 use Rattle.std.proofs.Common.{ap, subst, ◌∙◌}
 use Rattle.olk_base.specs.Kit.{kit}
-use Rattle.olk_tree.specs.Places.{AnswersBy}
-use Rattle.olk_tree.specs.declared.node.Body.TheVariants.{RequiredNames}
+use Rattle.olk_tree.specs.{Places.AnswersBy, declared.node.Body.TheVariants.RequiredNames}
 use Rattle.olk_build.proofs.dependencies.node_of_list.Goals as goal
 
 pub returns : goal.returns

@@ -1,7 +1,6 @@
 use Rattle.std.proofs.Common.{length, ◌≡◌}
 use Rattle.olk_base.specs.Kit.{kit}
-use Rattle.olk_build.proofs.DependencyKeywords.{MadeInOrder}
-use Rattle.olk_build.proofs.MadeSoFar.{SoFar}
+use Rattle.olk_build.proofs.{DependencyKeywords.MadeInOrder, Pairs.SoFar}
 use Rattle.olk_build.proofs.dependencies.nodes_in_order.Given as goal
 
 abbrev pub invariant-loop-list : goal.invariant-loop-list

@@ -2,7 +2,7 @@ use Rattle.std.proofs.Common.{[], ◌∷◌, length, sym, ◌∙◌, ap, subst, 
 use Rattle.std.proofs.lemmas.List.{nil_from_length}
 use Rattle.olk_base.specs.Kit.{kit}
 use Rattle.olk_build.specs.Forms.{AreListsAt}
-use Rattle.olk_build.proofs.MadeSoFar.{none_made, one_made, all_made}
+use Rattle.olk_build.proofs.Pairs.{none_made, one_made, all_made}
 use Rattle.olk_build.proofs.dependencies.nodes_of_lists.Goals as goal
 
 pub loop-list-init : goal.loop-list-init

@@ -1,7 +1,7 @@
 use Rattle.std.proofs.Common.{length, ◌≡◌}
 use Rattle.olk_base.specs.Kit.{kit}
 use Rattle.olk_build.specs.Forms.{AreListsAt}
-use Rattle.olk_build.proofs.MadeSoFar.{SoFar}
+use Rattle.olk_build.proofs.Pairs.{SoFar}
 use Rattle.olk_build.proofs.dependencies.nodes_of_lists.Given as goal
 
 abbrev pub invariant-loop-list : goal.invariant-loop-list

@@ -4,10 +4,8 @@ use Rattle.std.proofs.Common.{[], ◌∷◌, Some, None, inl, inr, refl, sym, ap
 use Rattle.olk_build.specs.declared.shape.Shape.TheVariants.{NoNames, DependentRequired}
 use Rattle.olk_build.specs.Making.{MakesClaims, MakesCondition, MakesRestriction}
 use Rattle.olk_build.proofs.AdditionalProperties.{part_of_rest, part_of_no_others, part_of_any_others}
-use Rattle.olk_build.proofs.Makes.{neighbours, part_of_claims, part_of_shape, part_of_alone, part_of_own, patterns_claim_own, without_nodes, makes_leaf, makes_unread}
-use Rattle.olk_build.proofs.PropertyNames.{makes_any_names}
+use Rattle.olk_build.proofs.Makes.{neighbours, part_of_claims, part_of_shape, part_of_alone, part_of_own, patterns_claim_own, without_nodes, makes_leaf, makes_unread, makes_any_names, is_made}
 use Rattle.olk_build.proofs.Conditions.{part_of_if, part_of_then, part_of_else, part_of_unpaired}
-use Rattle.olk_build.proofs.Made.{is_made}
 use Rattle.olk_build.proofs.making.make_keyword.Goals as goal
 
 pub returns-in-AllOf-clause-makes : goal.returns-in-AllOf-clause-makes
@@ -23,17 +21,14 @@ returns-in-OneOf-clause-makes g c =
     part_of_own _ _ c.args.part.nodes.items c.args.taken.now c.in-OneOf.is (λ k d s. s.0) refl c.make-in-OneOf.ensures.makes
 
 pub returns-in-Not-clause-makes : goal.returns-in-Not-clause-makes
-returns-in-Not-clause-makes g c =
-    part_of_own _ _ c.args.part.nodes.items c.args.taken.now c.in-Not.is (λ k d s. s.0) refl c.make-in-Not.ensures.makes
+returns-in-Not-clause-makes g c = part_of_own _ _ c.args.part.nodes.items c.args.taken.now c.in-Not.is (λ k d s. s.0) refl c.make-in-Not.ensures.makes
 
 pub returns-in-Leaf-clause-makes : goal.returns-in-Leaf-clause-makes
-returns-in-Leaf-clause-makes g c =
-    part_of_alone _ _ c.args.part.nodes.items c.args.taken.now c.in-Leaf.is (λ k d s. ap neighbours s.0)
+returns-in-Leaf-clause-makes g c = part_of_alone _ _ c.args.part.nodes.items c.args.taken.now c.in-Leaf.is (λ k d s. ap neighbours s.0)
     (makes_leaf _ _ _ c.args.part.location c.args.part.nodes.items)
 
 pub returns-in-Unread-clause-makes : goal.returns-in-Unread-clause-makes
-returns-in-Unread-clause-makes g c =
-    part_of_alone _ _ c.args.part.nodes.items c.args.taken.now c.in-Unread.is (λ k d s. ap neighbours s)
+returns-in-Unread-clause-makes g c = part_of_alone _ _ c.args.part.nodes.items c.args.taken.now c.in-Unread.is (λ k d s. ap neighbours s)
     (makes_unread _ _ c.args.part.location c.args.part.nodes.items)
 
 pub returns-in-Required-clause-makes : goal.returns-in-Required-clause-makes
@@ -73,13 +68,11 @@ returns-in-PropertyNames-clause-makes g c =
     part_of_own _ _ c.args.part.nodes.items c.args.taken.now c.in-PropertyNames.is (λ k d s. s.0) refl c.make-in-PropertyNames.ensures.makes
 
 pub returns-in-NoNames-clause-makes : goal.returns-in-NoNames-clause-makes
-returns-in-NoNames-clause-makes g c =
-    part_of_own _ _ c.args.part.nodes.items c.args.taken.now c.in-NoNames.is (λ k d s. s.0) refl
+returns-in-NoNames-clause-makes g c = part_of_own _ _ c.args.part.nodes.items c.args.taken.now c.in-NoNames.is (λ k d s. s.0) refl
     (without_nodes _ _ NoNames c.args.part.location c.args.part.nodes.items _ refl c.make_false.ensures.makes)
 
 pub returns-in-AnyNames-clause-makes : goal.returns-in-AnyNames-clause-makes
-returns-in-AnyNames-clause-makes g c =
-    part_of_own _ _ c.args.part.nodes.items c.args.taken.now c.in-AnyNames.is (λ k d s. s.0) refl
+returns-in-AnyNames-clause-makes g c = part_of_own _ _ c.args.part.nodes.items c.args.taken.now c.in-AnyNames.is (λ k d s. s.0) refl
     (makes_any_names _ _ c.args.part.location c.args.part.nodes.items)
 
 pub returns-in-DependentSchemas-clause-makes : goal.returns-in-DependentSchemas-clause-makes
@@ -88,8 +81,7 @@ returns-in-DependentSchemas-clause-makes g c =
 
 pub returns-in_ok-make_required-in-DependentRequired-clause-makes : goal.returns-in_ok-make_required-in-DependentRequired-clause-makes
 returns-in_ok-make_required-in-DependentRequired-clause-makes g c =
-    part_of_own _ _ c.args.part.nodes.items c.args.taken.now c.in-DependentRequired.is (λ k d s. s.0) refl
-    (without_nodes _ _
+    part_of_own _ _ c.args.part.nodes.items c.args.taken.now c.in-DependentRequired.is (λ k d s. s.0) refl (without_nodes _ _
     (DependentRequired c.in-DependentRequired.keys c.in-DependentRequired.lists) c.args.part.location c.args.part.nodes.items _ refl c.in_ok-make_required-in-DependentRequired.ensures.makes)
 
 pub returns-in_ok-make-in-Dependencies-clause-makes : goal.returns-in_ok-make-in-Dependencies-clause-makes
@@ -101,8 +93,7 @@ returns-in_ok-make-in-PropertyDependencies-clause-makes g c =
     part_of_own _ _ c.args.part.nodes.items c.args.taken.now c.in-PropertyDependencies.is (λ k d s. s.0) refl c.in_ok-make-in-PropertyDependencies.ensures.makes
 
 pub returns-in_ok-make-in-PatternProperties-clause-makes : goal.returns-in_ok-make-in-PatternProperties-clause-makes
-returns-in_ok-make-in-PatternProperties-clause-makes g c =
-    part_of_claims _ _ c.args.part.shape c.args.part.nodes.items c.args.taken.now
+returns-in_ok-make-in-PatternProperties-clause-makes g c = part_of_claims _ _ c.args.part.shape c.args.part.nodes.items c.args.taken.now
     (patterns_claim_own _ _ c.args.part.nodes.items c.in-PatternProperties.is c.in_ok-make-in-PatternProperties.ensures.makes)
 
 pub returns-in-AllOf-clause-form : goal.returns-in-AllOf-clause-form

@@ -1,11 +1,11 @@
 use Rattle.std.specs.Prelude.{codes}
 use Rattle.std.proofs.lemmas.Result.{IfOk-from_err}
 use Rattle.serde_json.specs.View.{members_view}
-use Rattle.olk_spec.specs.Names.{◌//◌}
-use Rattle.olk_spec.specs.Schemas.{listed}
 use Rattle.olk_base.specs.Kit.{kit}
 use Rattle.olk_build.proofs.Spending.{exit, refuses_memory, within_nothing}
 use Rattle.olk_build.proofs.CompiledPatterns.{refuses_pattern, refuses_node, refuses_entries, patterns_built}
+use Rattle.olk_spec.specs.Names.{◌//◌}
+use Rattle.olk_spec.specs.Schemas.{listed}
 use Rattle.olk_build.proofs.pattern_properties.compile_patterns.Goals as goal
 
 pub returns-in_err-location-clause-refused : goal.returns-in_err-location-clause-refused

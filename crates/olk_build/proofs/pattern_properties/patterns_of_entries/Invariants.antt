@@ -1,7 +1,7 @@
 use Rattle.serde_json.specs.View.{members_view}
 use Rattle.olk_spec.specs.Schemas.{listed}
 use Rattle.olk_base.specs.Kit.{kit}
-use Rattle.olk_build.proofs.PatternsSoFar.{PatternsSoFar}
+use Rattle.olk_build.proofs.ReadPatterns.{PatternsSoFar}
 use Rattle.olk_build.proofs.pattern_properties.patterns_of_entries.Given as goal
 
 -- the patterns so far are those of the entries so far

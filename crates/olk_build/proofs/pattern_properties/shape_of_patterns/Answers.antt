@@ -2,10 +2,10 @@ use Rattle.std.proofs.Common.{refl, ap}
 use Rattle.serde_json.specs.View.{view}
 use Rattle.olk_spec.specs.Schemas.{is_object}
 use Rattle.olk_base.specs.Kit.{kit, world}
-use Rattle.olk_build.specs.declared.reading.KeywordFor.TheVariants as for
 use Rattle.olk_build.proofs.Spending.{exit_with, tells_left}
 use Rattle.olk_build.proofs.Read.{refuses_own}
 use Rattle.olk_build.proofs.ReadPatterns.{refuses_patterns, patterns_are_read}
+use Rattle.olk_build.specs.declared.reading.KeywordFor.TheVariants as for
 use Rattle.olk_build.proofs.pattern_properties.shape_of_patterns.Goals as goal
 
 pub returns-in_err-entries-clause-refused : goal.returns-in_err-entries-clause-refused

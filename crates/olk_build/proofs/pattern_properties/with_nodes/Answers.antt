@@ -1,7 +1,7 @@
 use Rattle.std.proofs.Common.{length, inl, inr, ◌∙◌, ap, arith}
 use Rattle.std.proofs.lemmas.List.{nil_from_length}
 use Rattle.olk_build.proofs.PatternProperties.{MadeOf, both_next, no_pattern_left, no_node_left}
-use Rattle.olk_build.proofs.MadeSoFar.{one_made, all_made}
+use Rattle.olk_build.proofs.Pairs.{one_made, all_made}
 use Rattle.olk_build.proofs.pattern_properties.with_nodes.Goals as goal
 
 pub loop-entry-preserved : goal.loop-entry-preserved

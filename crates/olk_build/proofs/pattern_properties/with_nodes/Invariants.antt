@@ -1,6 +1,5 @@
 use Rattle.std.proofs.Common.{length, ◌≡◌}
-use Rattle.olk_build.proofs.PatternProperties.{MadeOf}
-use Rattle.olk_build.proofs.MadeSoFar.{SoFar}
+use Rattle.olk_build.proofs.{PatternProperties.MadeOf, Pairs.SoFar}
 use Rattle.olk_build.proofs.pattern_properties.with_nodes.Given as goal
 
 abbrev pub invariant-loop-entry : goal.invariant-loop-entry

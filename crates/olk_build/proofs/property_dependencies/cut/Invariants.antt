@@ -1,6 +1,5 @@
 use Rattle.std.proofs.Common.{length, ◌≡◌}
-use Rattle.olk_build.proofs.PropertyDependencies.{MadeByCutting}
-use Rattle.olk_build.proofs.MadeSoFar.{SoFar}
+use Rattle.olk_build.proofs.{Pairs.SoFar, PropertyDependencies.MadeByCutting}
 use Rattle.olk_build.proofs.property_dependencies.cut.Given as goal
 
 abbrev pub invariant-loop-names : goal.invariant-loop-names

@@ -1,7 +1,6 @@
-use Rattle.std.proofs.Common.{sym, ◌∙◌}
-use Rattle.olk_build.proofs.Spending.{exit_with}
-use Rattle.olk_build.proofs.Read.{object_is_right}
-use Rattle.olk_build.proofs.ReadEntries.{below, none_so_far, one_more_entry, entry_refused, entries_shown, entries_right, each_as_it_is}
+use Rattle.std.proofs.Common.{map-id, sym, ◌∙◌}
+use Rattle.olk_build.proofs.ReadEntries.{below, none_so_far, one_more_entry, entry_refused, entries_shown, entries_right}
+use Rattle.olk_build.proofs.{Spending.exit_with, Read.object_is_right}
 use Rattle.olk_build.proofs.property_dependencies.texts_of_entries.Goals as goal
 
 pub loop-key-init : goal.loop-key-init
@@ -17,7 +16,7 @@ returns-in_err-names-clause-refused c =
     (rw (below c.args.location.now c.in_ok-place.ensures c.as_str.ensures.value) at c.in_err-names.ensures.refused))
 
 pub returns-clause-names : goal.returns-clause-names
-returns-clause-names c = sym (each_as_it_is c.loop-key.texts.items) ∙ entries_shown c.loop-key.invariant c.in-None.ensures.steps.0
+returns-clause-names c = sym (map-id c.loop-key.texts.items) ∙ entries_shown c.loop-key.invariant c.in-None.ensures.steps.0
 
 pub returns-clause-objects : goal.returns-clause-objects
 returns-clause-objects c = entries_right c.loop-key.invariant c.in-None.ensures.steps.0

@@ -1,5 +1,5 @@
 use Rattle.std.proofs.Common.{refl}
-use Rattle.olk_build.proofs.PropertyNames.{makes_property_names}
+use Rattle.olk_build.proofs.Makes.{makes_property_names}
 use Rattle.olk_build.proofs.property_names.make.Goals as goal
 
 pub returns-clause-form : goal.returns-clause-form

@@ -1,4 +1,4 @@
-use Rattle.olk_build.proofs.PropertyNames.{makes_no_names}
+use Rattle.olk_build.proofs.Makes.{makes_no_names}
 use Rattle.olk_build.proofs.property_names.make_false.Goals as goal
 
 pub returns-clause-makes : goal.returns-clause-makes

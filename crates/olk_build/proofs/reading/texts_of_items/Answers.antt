@@ -1,5 +1,5 @@
 use Rattle.std.proofs.Common.{map, string_bytes, sym}
-use Rattle.olk_build.proofs.Texts.{one_more_text, first_no_text, all_are_texts, none_is_no_text}
+use Rattle.olk_build.proofs.ReadEntries.{one_more_text, first_no_text, all_are_texts, none_is_no_text}
 use Rattle.olk_build.proofs.Spending.{tells_same}
 use Rattle.olk_build.proofs.reading.texts_of_items.Goals as goal
 
@@ -14,11 +14,9 @@ returns-in_default-clause-refused c =
     (sym c.in_default.ensures)) c.refuse_type.result c.refuse_type.ensures
 
 pub returns-clause-names : goal.returns-clause-names
-returns-clause-names c =
-    all_are_texts c.deref-item-items.result.now c.loop-item.item-index c.args.items.now.items c.deref-item-items.ensures.value
+returns-clause-names c = all_are_texts c.deref-item-items.result.now c.loop-item.item-index c.args.items.now.items c.deref-item-items.ensures.value
     (map string_bytes c.loop-item.names.items) c.loop-item.invariant c.loop-item-test.false
 
 pub returns-clause-texts : goal.returns-clause-texts
-returns-clause-texts c =
-    none_is_no_text c.deref-item-items.result.now c.loop-item.item-index c.args.items.now.items c.deref-item-items.ensures.value
+returns-clause-texts c = none_is_no_text c.deref-item-items.result.now c.loop-item.item-index c.args.items.now.items c.deref-item-items.ensures.value
     (map string_bytes c.loop-item.names.items) c.loop-item.invariant c.loop-item-test.false c.args.place.now

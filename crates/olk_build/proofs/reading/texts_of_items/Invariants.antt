@@ -1,6 +1,6 @@
 use Rattle.std.proofs.Common.{map, take, string_bytes}
 use Rattle.serde_json.specs.View.{view}
-use Rattle.olk_build.proofs.Texts.{AllTexts}
+use Rattle.olk_build.proofs.ReadEntries.{AllTexts}
 use Rattle.olk_build.proofs.reading.texts_of_items.Given as goal
 
 -- the items so far are texts, and these are their names

@@ -1,5 +1,5 @@
 use Rattle.olk_base.specs.Kit.{kit}
-use Rattle.olk_build.proofs.Appending.{makes_taking}
+use Rattle.olk_build.proofs.TakenParts.{makes_taking}
 use Rattle.olk_build.proofs.taking.make_taking.Goals as goal
 
 pub returns : goal.returns

@@ -1,5 +1,5 @@
 use Rattle.std.proofs.Common.{◌∙◌}
-use Rattle.olk_meaning.proofs.MemberLookups.{has_lookup}
+use Rattle.olk_meaning.proofs.Fused.{has_lookup}
 use Rattle.olk_meaning.proofs.members.has_member.Goals as goal
 
 pub returns : goal.returns

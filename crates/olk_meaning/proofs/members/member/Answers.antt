@@ -1,4 +1,4 @@
-use Rattle.olk_meaning.proofs.MemberLookups.{member_lookup}
+use Rattle.olk_meaning.proofs.Fused.{member_lookup}
 use Rattle.olk_meaning.proofs.members.member.Goals as goal
 
 pub returns : goal.returns

@@ -1,6 +1,6 @@
 use Rattle.std.proofs.Common.{arith}
 use Rattle.serde_json.specs.View.{members_view}
-use Rattle.olk_meaning.proofs.FewMembers.{few_are_planned}
+use Rattle.olk_meaning.proofs.Fused.{few_are_planned}
 use Rattle.olk_meaning.proofs.Listed.{listed_length, sorted_distinct}
 use Rattle.olk_meaning.proofs.plan.Plan.of.Goals as goal
 
