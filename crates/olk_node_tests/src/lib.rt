@@ -1,7 +1,7 @@
 //! Tests of the validators as they are made by hand, of looking up names, and of the tables of
 //! patterns.
 //!
-//! Stands on `olk_node` and what is below, whose public calls alone it asks, and on nothing of
+//! Stands on `object_logic` and what is below, whose public calls alone it asks, and asks nothing of
 //! building. The tests are in its modules.
 #![tactic(auto)]
 
