@@ -18,7 +18,7 @@ use Rattle.olk_meaning.proofs.Claims.{members_named, members_found, named_once, 
 use Rattle.olk_meaning.proofs.Claims.{claims_no_properties, claims_no_patterns, absent_if, heads_there}
 use Rattle.olk_meaning.proofs.Listed.{names_of, claims_are_all, those_none, filter_once-same, lookup_among, named_first, found_each}
 use Rattle.olk_build.specs.Standing.{is_taken, which, Covers, StandAt, all_malformed}
-use Rattle.olk_build.specs.Beside.{rows_taken, rows_read, takes, takes_of, RefusesBeside, IsTaken, MakesTaking, MemberIsBuilt, RefusesMember, GivesMember, Gives}
+use Rattle.olk_build.specs.Taking.{rows_taken, rows_read, takes, takes_of, RefusesTaken, IsTaken, MakesTaking, MemberIsBuilt, RefusesMember, GivesMember, Gives}
 use Rattle.olk_spec.specs.Vocabulary.{Keyword, pattern_properties, keyword_named}
 use Rattle.olk_spec.proofs.Named.{Named, named as is_named}
 use Rattle.olk_meaning.specs.Chosen.{standing_step}
@@ -319,9 +319,9 @@ module _ {K R N : Type 0} (o : Kit K R) (answers : N → Answers) (ms : Members)
         part_spent : Spends b y (total_cost (costs o ms P) ((k, d) ∷ []))
         part_spent = nothing_later part_here.spends (sum_last _ ∙ none_later o answers ms k d untaken)
 
-        pub beside_refused : {z : Counts} {r : BuildError} → RefusesBeside o ms (takes_of part.shape) P y z r → RefusesMember o ms (k, d) P b z r
-        beside_refused {z} {r} w = refused_here (second_refused o ms P ((k, d) ∷ []) (rows_taken ms (takes (plan_of ms) k)) y (within_exactly part_spent)
-            (subst (λ t. RefusesBeside o ms t P y z r) same_rows w))
+        pub taken_refused : {z : Counts} {r : BuildError} → RefusesTaken o ms (takes_of part.shape) P y z r → RefusesMember o ms (k, d) P b z r
+        taken_refused {z} {r} w = refused_here (second_refused o ms P ((k, d) ∷ []) (rows_taken ms (takes (plan_of ms) k)) y (within_exactly part_spent)
+            (subst (λ t. RefusesTaken o ms t P y z r) same_rows w))
 
         module _ {t : Taken R N} {z : Counts} (taken : IsTaken o answers ms part.shape P y z t) where
           spent : Spends b z (total_cost (costs o ms P) rows)

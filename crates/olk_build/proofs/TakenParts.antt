@@ -13,8 +13,8 @@ use Rattle.olk_build.proofs.Spending.{spends_nothing, spends_append, spends_same
 use Rattle.olk_build.proofs.Spending.{refuses_memory}
 use Rattle.olk_build.specs.Standing.{which, all_malformed, PartStands, Fills, StandAt, EntriesStand, is_if_shape, is_restriction_shape, is_taken, DeclaredStand, PatternsStand, CasesStand, BesideStands}
 use Rattle.olk_build.specs.Building.{RefusesPart, all_cost, all_later, SpendsBefore, IsMember, later_cost, IsPart}
-use Rattle.olk_build.specs.Beside.{RefusesNeighbour, RefusesBeside, IsNeighbour, takes, takes_of, IsNode, DeclaredBy, IsDeclared, PatternsBy, IsPatterns, MakesTaking, rows_taken, TakenBy, asks_by}
-use Rattle.olk_build.specs.Beside.{asks_of, asks_taken, TakenStands, IsTaken}
+use Rattle.olk_build.specs.Taking.{RefusesNeighbour, RefusesTaken, IsNeighbour, takes, takes_of, IsNode, DeclaredBy, IsDeclared, PatternsBy, IsPatterns, MakesTaking, rows_taken, TakenBy, asks_by}
+use Rattle.olk_build.specs.Taking.{asks_of, asks_taken, TakenStands, IsTaken}
 use Rattle.olk_spec.specs.Vocabulary.{Keyword, leaf, unread, keyword_named}
 use Rattle.olk_meaning.specs.Plans.{Planned, plan_of, head, claims}
 use Rattle.olk_build.specs.Reading.{reads_of, IsShape, Fits}
@@ -124,13 +124,13 @@ module _ {K R N : Type 0} {o : Kit K R} {answers : N → Answers} {ms : Members}
       }
 
 module _ {K R : Type 0} (o : Kit K R) (ms : Members) (P : Path) where
-  pub first_beside_refused : {t : Option (Name × Name)} (x y : Name) (a b : Counts) (e : BuildError) → t ≡ Some (x, y) → RefusesNeighbour o ms x P a b e → RefusesBeside o ms t P a b e
-  first_beside_refused {t} x y a b e q h = subst (λ z. RefusesBeside o ms z P a b e) (sym q) (first_refused o ms P (rows_at x ms) (rows_at y ms) h)
+  pub first_taken_refused : {t : Option (Name × Name)} (x y : Name) (a b : Counts) (e : BuildError) → t ≡ Some (x, y) → RefusesNeighbour o ms x P a b e → RefusesTaken o ms t P a b e
+  first_taken_refused {t} x y a b e q h = subst (λ z. RefusesTaken o ms z P a b e) (sym q) (first_refused o ms P (rows_at x ms) (rows_at y ms) h)
 
 module _ {K R N : Type 0} {o : Kit K R} {answers : N → Answers} {ms : Members} {P : Path} where
-  pub second_beside_refused : {t : Option (Name × Name)} {x : Name} (y : Name) {p : Option (Part K R N)} {a m : Counts} (b : Counts) (e : BuildError) → t ≡ Some (x, y)
-      → IsNeighbour o answers ms p x P a m → RefusesNeighbour o ms y P m b e → RefusesBeside o ms t P a b e
-  second_beside_refused {t} {x} y {a = a} {m} b e q h k = subst (λ z. RefusesBeside o ms z P a b e) (sym q) (second_refused o ms P (rows_at x ms) (rows_at y ms) m (before_within h.spends) k)
+  pub second_taken_refused : {t : Option (Name × Name)} {x : Name} (y : Name) {p : Option (Part K R N)} {a m : Counts} (b : Counts) (e : BuildError) → t ≡ Some (x, y)
+      → IsNeighbour o answers ms p x P a m → RefusesNeighbour o ms y P m b e → RefusesTaken o ms t P a b e
+  second_taken_refused {t} {x} y {a = a} {m} b e q h k = subst (λ z. RefusesTaken o ms z P a b e) (sym q) (second_refused o ms P (rows_at x ms) (rows_at y ms) m (before_within h.spends) k)
 
 -- ---- the keyword of a part, with what it takes from its neighbours' parts
 
@@ -412,6 +412,6 @@ module _ {K R N : Type 0} {o : Kit K R} {answers : N → Answers} {ms : Members}
           (later_spent k.spends (second_later o answers ms P k x e) (spends_asks _ _ n z (ap (λ w. asks_taken o.costs w x q) same) asked)));
     }
 
-    pub taking_memory : {known : Known} → known ≡ known_of ms → AsksAtMost (asks_taken o.costs known x q) n z → {w : AllocError} (r : BuildError) → r ≡ Memory w → RefusesBeside o ms (takes_of x) P c z r
-    taking_memory same asked r s = subst (λ t. RefusesBeside o ms t P c z r) (sym e) (refuses_memory (within_same (sym (total_cost-append (costs o ms P) (rows_at a ms) (rows_at b ms)))
+    pub taking_memory : {known : Known} → known ≡ known_of ms → AsksAtMost (asks_taken o.costs known x q) n z → {w : AllocError} (r : BuildError) → r ≡ Memory w → RefusesTaken o ms (takes_of x) P c z r
+    taking_memory same asked r s = subst (λ t. RefusesTaken o ms t P c z r) (sym e) (refuses_memory (within_same (sym (total_cost-append (costs o ms P) (rows_at a ms) (rows_at b ms)))
         (within_append (before_within h.spends) (later_within k.spends (second_later o answers ms P k x e) (within_asks _ _ n z (ap (λ w. asks_taken o.costs w x q) same) asked)))) r s)

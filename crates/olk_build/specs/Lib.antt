@@ -6,4 +6,4 @@ pub mod Standing
 pub mod Made
 pub mod Making
 pub mod Building
-pub mod Beside
+pub mod Taking

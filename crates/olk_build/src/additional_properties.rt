@@ -14,7 +14,7 @@ ghost use Rattle.olk_base.specs.Kit.{kit};
 ghost use Rattle.olk_meaning.specs.Plans.{plan_of, planned};
 ghost use Rattle.olk_build.specs.Forms.{IsAdditionalProperties, IsMapOf, IsRestriction, IsFormOfAdditionalProperties};
 ghost use Rattle.olk_build.specs.Building.{IsMember};
-ghost use Rattle.olk_build.specs.Beside.{GivesMember, Gives};
+ghost use Rattle.olk_build.specs.Taking.{GivesMember, Gives};
 ghost use Rattle.olk_build.specs.Making.{MakesRestriction};
 
 use crate::part::{Beside, DeclaredNodes, Patterns};

@@ -10,7 +10,7 @@ ghost use Rattle.olk_tree.specs.Places.{Stands};
 ghost use Rattle.olk_build.specs.Building.{IsMember, IsBuilt, ObjectIsBuilt, AreBuilt, InnerAreBuilt, is_read, entries_read, RefusesSchema, RefusesEach, RefusesInner, RefusesObject, RefusesPart, IsPart, PlacesAreBuilt, RefusesPlaces};
 ghost use Rattle.olk_meaning.specs.Conditions.{known, known_of};
 ghost use Rattle.olk_build.specs.Refusing.{TellsOneOf, Spends, SpendsWithin};
-ghost use Rattle.olk_build.specs.Beside.{takes_of, IsNeighbour, RefusesNeighbour, IsTaken, RefusesBeside, MemberIsBuilt, RefusesMember, GivesMember, Gives};
+ghost use Rattle.olk_build.specs.Taking.{takes_of, IsNeighbour, RefusesNeighbour, IsTaken, RefusesTaken, MemberIsBuilt, RefusesMember, GivesMember, Gives};
 ghost use Rattle.olk_build.specs.Chooser.{has_no_validator, HasForm};
 ghost use Rattle.olk_spec.specs.Vocabulary.{keyword_named};
 
@@ -89,7 +89,7 @@ fn compile_object<'a, L: MakeLeaf, M: MakeRegex, N: BuiltNode<L::Leaf, M::Engine
             let location = place.join(alloc, name)?;
             let part = compile_part(alloc, makers, meter, neighbours, location, name, value)?;
             if takes_any(&part.shape) {
-                let taken = compile_beside(alloc, makers, meter, place, members, &part.shape)?;
+                let taken = compile_taken(alloc, makers, meter, place, members, &part.shape)?;
                 append_taking(alloc, plan, place, part, taken, &mut keywords)?;
             } else {
                 append_alone(alloc, plan, place, part, &mut keywords)?;
@@ -102,7 +102,7 @@ fn compile_object<'a, L: MakeLeaf, M: MakeRegex, N: BuiltNode<L::Leaf, M::Engine
 /// What the keyword of a part of this shape takes of two neighbours, as far as they are there.
 /// Where it takes patterns, each is asked once of each name that is declared beside them.
 #[cycle(compile)]
-fn compile_beside<'a, L: MakeLeaf, M: MakeRegex, N: BuiltNode<L::Leaf, M::Engine>>(
+fn compile_taken<'a, L: MakeLeaf, M: MakeRegex, N: BuiltNode<L::Leaf, M::Engine>>(
     alloc: Global,
     makers: &Makers<'_, L, M>,
     meter: &mut Meter,
@@ -112,7 +112,7 @@ fn compile_beside<'a, L: MakeLeaf, M: MakeRegex, N: BuiltNode<L::Leaf, M::Engine
 ) -> Result<Taken<M::Engine, N>, Stop<'a>>
     ensures built { IfOk result (IsTaken (kit L.Leaf.Leaf M.Engine.RegexEngine) N.answers
         (members_view members.now.entries) shape.now place.now meter.old meter.new) }
-    ensures refused { IfErr result (RefusesBeside (kit L.Leaf.Leaf M.Engine.RegexEngine)
+    ensures refused { IfErr result (RefusesTaken (kit L.Leaf.Leaf M.Engine.RegexEngine)
         (members_view members.now.entries) (takes_of shape.now)
         place.now meter.old meter.new) }
 {
@@ -346,7 +346,7 @@ fn compile_member<'a, L: MakeLeaf, M: MakeRegex, N: BuiltNode<L::Leaf, M::Engine
         name,
         value,
     )?;
-    let taken = compile_beside(
+    let taken = compile_taken(
         alloc,
         &ctx.makers,
         ctx.meter,

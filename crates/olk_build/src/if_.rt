@@ -10,7 +10,7 @@ ghost use Rattle.olk_reports.specs.Paths.{one_below};
 ghost use Rattle.olk_base.specs.Kit.{kit};
 ghost use Rattle.olk_build.specs.Forms.{IsIf, IsFormOfIf};
 ghost use Rattle.olk_build.specs.Building.{IsMember};
-ghost use Rattle.olk_build.specs.Beside.{GivesMember, Gives};
+ghost use Rattle.olk_build.specs.Taking.{GivesMember, Gives};
 ghost use Rattle.olk_build.specs.Making.{MakesCondition};
 
 use crate::part::Cases;
@@ -26,7 +26,7 @@ use serde_json::{Map, Value};
 use std::alloc::{AllocError, Global};
 
 /// The shape of `if`, `then` or `else`, unpaired where `if` is not read.
-pub(crate) fn shape_beside<K: Drop, R: Drop>(
+pub(crate) fn shape_if_read<K: Drop, R: Drop>(
     neighbours: Neighbours<'_>,
     shape: Shape<K, R>,
 ) -> Shape<K, R>

@@ -5,7 +5,7 @@ ghost use Rattle.olk_reports.specs.Paths.{one_below};
 ghost use Rattle.olk_base.specs.Kit.{kit};
 ghost use Rattle.olk_build.specs.Forms.{IsOneOf, IsFormOfOneOf};
 ghost use Rattle.olk_build.specs.Building.{IsMember};
-ghost use Rattle.olk_build.specs.Beside.{GivesMember, Gives};
+ghost use Rattle.olk_build.specs.Taking.{GivesMember, Gives};
 ghost use Rattle.olk_build.specs.Making.{MakesMember};
 ghost use Rattle.olk_build.specs.declared.shape.Shape.TheVariants as shape;
 

@@ -13,7 +13,7 @@ ghost use Rattle.olk_meaning.specs.Conditions.{Known, is_restricted};
 ghost use Rattle.std.specs.Option.{IfNone};
 ghost use Rattle.olk_build.specs.Forms.{IsPatternProperties, IsFormOfPatternProperties};
 ghost use Rattle.olk_build.specs.Building.{IsMember, PatternsAreBuilt, RefusesPatternEntries};
-ghost use Rattle.olk_build.specs.Beside.{GivesMember, Gives};
+ghost use Rattle.olk_build.specs.Taking.{GivesMember, Gives};
 ghost use Rattle.olk_build.specs.Making.{MakesMember};
 ghost use Rattle.olk_build.specs.declared.shape.Shape.TheVariants as shape;
 

@@ -9,7 +9,7 @@ ghost use Rattle.olk_build.specs.Forms.{IsProperties, IsMapOver, IsMapFor, IsFor
 ghost use Rattle.olk_meaning.specs.Conditions.{is_restricted};
 ghost use Rattle.olk_meaning.specs.Plans.{plan_of, planned};
 ghost use Rattle.olk_build.specs.Building.{IsMember, AreBuilt, RefusesEach};
-ghost use Rattle.olk_build.specs.Beside.{GivesMember, Gives};
+ghost use Rattle.olk_build.specs.Taking.{GivesMember, Gives};
 ghost use Rattle.olk_spec.specs.Names.{Path};
 ghost use Rattle.olk_tree.specs.Ascending.{Ascend};
 ghost use Rattle.olk_build.specs.Making.{MakesClaims};

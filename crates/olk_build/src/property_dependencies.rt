@@ -10,7 +10,7 @@ ghost use Rattle.olk_reports.specs.Paths.{one_below};
 ghost use Rattle.olk_base.specs.Kit.{kit};
 ghost use Rattle.olk_build.specs.Forms.{IsPropertyDependencies, AreCut};
 ghost use Rattle.olk_build.specs.Building.{IsMember};
-ghost use Rattle.olk_build.specs.Beside.{GivesMember, Gives};
+ghost use Rattle.olk_build.specs.Taking.{GivesMember, Gives};
 ghost use Rattle.std.specs.Vec.Iter.{into_iter_items, into_iter_len};
 ghost use Rattle.olk_build.specs.Made.{MakesPropertyDependencies};
 ghost use Rattle.olk_build.specs.Making.{MakesMember};

@@ -14,7 +14,7 @@ ghost use Rattle.olk_build.specs.Reading.{not_texts, IsFor, IsOther, IsRead, Ref
 use crate::additional_properties::shape_of_others;
 use crate::context::Makers;
 use crate::dependencies::{lists_of_object, required_of_object};
-use crate::if_::shape_beside;
+use crate::if_::shape_if_read;
 use crate::pattern_properties::shape_of_patterns;
 use crate::property_dependencies::choices_of_object;
 use crate::property_names::shape_of_names;
@@ -243,9 +243,9 @@ pub(crate) fn read_keyword<'a, L: MakeLeaf, M: MakeRegex>(
         KeywordFor::AnyOf => Ok(shape_of_branches(alloc, location, Shape::AnyOf, value)?),
         KeywordFor::OneOf => Ok(shape_of_branches(alloc, location, Shape::OneOf, value)?),
         KeywordFor::Not => Ok(Shape::Not(value.clone()?)),
-        KeywordFor::If => Ok(shape_beside(neighbours, Shape::If)),
-        KeywordFor::Then => Ok(shape_beside(neighbours, Shape::Then)),
-        KeywordFor::Else => Ok(shape_beside(neighbours, Shape::Else)),
+        KeywordFor::If => Ok(shape_if_read(neighbours, Shape::If)),
+        KeywordFor::Then => Ok(shape_if_read(neighbours, Shape::Then)),
+        KeywordFor::Else => Ok(shape_if_read(neighbours, Shape::Else)),
         KeywordFor::Refused => {
             let kind = ValidationErrorKind::Unsupported { keyword: name };
             Err(refuse(alloc, kind, value, location))

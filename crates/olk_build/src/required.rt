@@ -7,7 +7,7 @@ ghost use Rattle.olk_base.specs.Kit.{kit};
 ghost use Rattle.olk_build.specs.Forms.{IsRequired, IsRequiredOver};
 ghost use Rattle.olk_meaning.specs.Plans.{plan_of, planned};
 ghost use Rattle.olk_build.specs.Building.{IsMember};
-ghost use Rattle.olk_build.specs.Beside.{GivesMember, Gives};
+ghost use Rattle.olk_build.specs.Taking.{GivesMember, Gives};
 ghost use Rattle.olk_spec.specs.Names.{Path};
 ghost use Rattle.olk_build.specs.Making.{MakesClaims};
 ghost use Rattle.olk_build.specs.declared.shape.Shape.TheVariants as shape;

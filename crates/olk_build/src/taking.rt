@@ -5,7 +5,7 @@ ghost use Rattle.olk_meaning.specs.Conditions.{known};
 ghost use Rattle.olk_meaning.specs.Plans.{planned};
 ghost use Rattle.olk_tree.specs.Tables.{patterns_of, IsTableOf, how_many_cost, count_asks, AsksAtMost};
 ghost use Rattle.olk_build.specs.Standing.{is_taken};
-ghost use Rattle.olk_build.specs.Beside.{takes_of, IsNode, IsDeclared, IsPatterns, asks_of, asks_taken, TakenBy, MakesTaking, AppendsTaking, AppendsAlone};
+ghost use Rattle.olk_build.specs.Taking.{takes_of, IsNode, IsDeclared, IsPatterns, asks_of, asks_taken, TakenBy, MakesTaking, AppendsTaking, AppendsAlone};
 
 use crate::making::make_keyword;
 use crate::part::{Beside, Cases, DeclaredNodes, Part, Patterns, Taken};

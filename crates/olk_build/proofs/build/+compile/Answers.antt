@@ -16,8 +16,8 @@ use Rattle.olk_build.proofs.ReadEntries.{below, listed_alike}
 use Rattle.olk_build.proofs.Parts.{refuses_part_own, refuses_part_inside, part_is_built}
 use Rattle.serde_json.proofs.value.Value.TheLaws.{the_size}
 use Rattle.olk_build.specs.Standing.{is_taken}
-use Rattle.olk_build.proofs.TakenParts.{neighbour_refused, no_neighbour, neighbour_built, first_beside_refused, second_beside_refused, takes_nothing, both_taken, taking_memory}
-use Rattle.olk_build.proofs.Member.{no_keywords_so_far, keywords_memory, object_is_built, next_found, next_taken, next_refused, one_more, part_refused, beside_refused, read_memory, member_built}
+use Rattle.olk_build.proofs.TakenParts.{neighbour_refused, no_neighbour, neighbour_built, first_taken_refused, second_taken_refused, takes_nothing, both_taken, taking_memory}
+use Rattle.olk_build.proofs.Member.{no_keywords_so_far, keywords_memory, object_is_built, next_found, next_taken, next_refused, one_more, part_refused, taken_refused, read_memory, member_built}
 use Rattle.olk_build.proofs.Member.{taken_built, alone_memory, alone_built}
 use Rattle.olk_meaning.specs.{Conditions.known, Plans.planned}
 use Rattle.olk_meaning.proofs.{Facts.no_schema_is, Fused.member_lookup}
@@ -231,25 +231,25 @@ compile_schema-returns-clause-refused g t c = refuses_no_schema _ _ _ (no_schema
 pub compile_object-returns-in_err-keywords-clause-refused : goal.compile_object-returns-in_err-keywords-clause-refused
 compile_object-returns-in_err-keywords-clause-refused g t c = exit _ _ _ c.from_residual.ensures.1 (refuses_memory within_nothing)
 
-pub compile_beside-returns-in_err-first-in-Some-clause-refused : goal.compile_beside-returns-in_err-first-in-Some-clause-refused
-compile_beside-returns-in_err-first-in-Some-clause-refused g t c =
-    exit_with _ _ _ c.from_residual.ensures.1 (first_beside_refused (kit g.L.Leaf.Leaf g.M.Engine.RegexEngine) (members_view c.args.members.now.entries) c.args.place.now _ _ _ _ _ (sym c.in-Some.ensures) c.in_err-first-in-Some.ensures.refused)
+pub compile_taken-returns-in_err-first-in-Some-clause-refused : goal.compile_taken-returns-in_err-first-in-Some-clause-refused
+compile_taken-returns-in_err-first-in-Some-clause-refused g t c =
+    exit_with _ _ _ c.from_residual.ensures.1 (first_taken_refused (kit g.L.Leaf.Leaf g.M.Engine.RegexEngine) (members_view c.args.members.now.entries) c.args.place.now _ _ _ _ _ (sym c.in-Some.ensures) c.in_err-first-in-Some.ensures.refused)
 
-pub compile_beside-returns-in_err-second-in-Some-clause-refused : goal.compile_beside-returns-in_err-second-in-Some-clause-refused
-compile_beside-returns-in_err-second-in-Some-clause-refused g t c =
-    exit_with _ _ _ c.from_residual-in_err-second-in-Some.ensures.1 (second_beside_refused _ _ _ (sym c.in-Some.ensures) c.in_ok-first-in-Some.ensures.built c.in_err-second-in-Some.ensures.refused)
+pub compile_taken-returns-in_err-second-in-Some-clause-refused : goal.compile_taken-returns-in_err-second-in-Some-clause-refused
+compile_taken-returns-in_err-second-in-Some-clause-refused g t c =
+    exit_with _ _ _ c.from_residual-in_err-second-in-Some.ensures.1 (second_taken_refused _ _ _ (sym c.in-Some.ensures) c.in_ok-first-in-Some.ensures.built c.in_err-second-in-Some.ensures.refused)
 
-pub compile_beside-returns-in_err-take-in-Some-clause-refused : goal.compile_beside-returns-in_err-take-in-Some-clause-refused
-compile_beside-returns-in_err-take-in-Some-clause-refused g t c = exit _ _ _ c.from_residual-in_err-take-in-Some.ensures.1
+pub compile_taken-returns-in_err-take-in-Some-clause-refused : goal.compile_taken-returns-in_err-take-in-Some-clause-refused
+compile_taken-returns-in_err-take-in-Some-clause-refused g t c = exit _ _ _ c.from_residual-in_err-take-in-Some.ensures.1
     (taking_memory c.args.shape.now (sym c.in-Some.ensures) c.in_ok-first-in-Some.ensures.built c.in_ok-second-in-Some.ensures.built c.of-neighbours.ensures c.in_err-take-in-Some.ensures.asked_at_most)
 
-pub compile_beside-returns-in_ok-take-in-Some-clause-built : goal.compile_beside-returns-in_ok-take-in-Some-clause-built
-compile_beside-returns-in_ok-take-in-Some-clause-built g t c =
+pub compile_taken-returns-in_ok-take-in-Some-clause-built : goal.compile_taken-returns-in_ok-take-in-Some-clause-built
+compile_taken-returns-in_ok-take-in-Some-clause-built g t c =
     both_taken c.args.shape.now (sym c.in-Some.ensures) c.in_ok-first-in-Some.ensures.built c.in_ok-second-in-Some.ensures.built
     c.of-neighbours.ensures c.in_ok-take-in-Some.ensures.taken c.in_ok-take-in-Some.ensures.asked
 
-pub compile_beside-returns-in-None-clause-built : goal.compile_beside-returns-in-None-clause-built
-compile_beside-returns-in-None-clause-built g t c = takes_nothing (sym c.in-None.ensures)
+pub compile_taken-returns-in-None-clause-built : goal.compile_taken-returns-in-None-clause-built
+compile_taken-returns-in-None-clause-built g t c = takes_nothing (sym c.in-None.ensures)
 
 pub compile_neighbour-returns-in_err-location-in-Some-clause-refused : goal.compile_neighbour-returns-in_err-location-in-Some-clause-refused
 compile_neighbour-returns-in_err-location-in-Some-clause-refused g t c = exit _ _ _ c.from_residual.ensures.1 (refuses_memory within_nothing)
@@ -292,7 +292,7 @@ compile_object-returns-in_err-part-clause-refused g t c =
 
 pub compile_object-returns-in_err-taken-clause-refused : goal.compile_object-returns-in_err-taken-clause-refused
 compile_object-returns-in_err-taken-clause-refused g t c =
-    exit_with _ _ _ c.from_residual-in_err-taken.ensures.1 (next_refused c.loop-name.invariant.so_far (listed_alike c.in-Some.ensures.steps) (beside_refused (kit g.L.Leaf.Leaf g.M.Engine.RegexEngine) g.N.BuiltNode.answers (members_view c.args.members.now.entries) c.args.place.now _ _ _ (next_taken c.loop-name.invariant.so_far (listed_alike c.in-Some.ensures.steps) (subst (λ x. c.is_taken.result ≡ is_taken (planned c.of-plan.result) x) c.as_str-name.ensures.value c.is_taken.ensures) c.if-not-is_taken.true) (next_found c.loop-name.invariant.so_far (listed_alike c.in-Some.ensures.steps)) c.of-neighbours.ensures (below _ c.in_ok-location.ensures c.as_str-name.ensures.value) c.as_str-name.ensures.value c.in_ok-part.ensures.built c.in_err-taken.ensures.refused))
+    exit_with _ _ _ c.from_residual-in_err-taken.ensures.1 (next_refused c.loop-name.invariant.so_far (listed_alike c.in-Some.ensures.steps) (taken_refused (kit g.L.Leaf.Leaf g.M.Engine.RegexEngine) g.N.BuiltNode.answers (members_view c.args.members.now.entries) c.args.place.now _ _ _ (next_taken c.loop-name.invariant.so_far (listed_alike c.in-Some.ensures.steps) (subst (λ x. c.is_taken.result ≡ is_taken (planned c.of-plan.result) x) c.as_str-name.ensures.value c.is_taken.ensures) c.if-not-is_taken.true) (next_found c.loop-name.invariant.so_far (listed_alike c.in-Some.ensures.steps)) c.of-neighbours.ensures (below _ c.in_ok-location.ensures c.as_str-name.ensures.value) c.as_str-name.ensures.value c.in_ok-part.ensures.built c.in_err-taken.ensures.refused))
 
 pub compile_object-loop-name-preserved-in-Continue-branch-5 : goal.compile_object-loop-name-preserved-in-Continue-branch-5
 compile_object-loop-name-preserved-in-Continue-branch-5 g t c =

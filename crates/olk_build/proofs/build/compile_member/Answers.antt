@@ -3,7 +3,7 @@ use Rattle.serde_json.specs.View.{view, members_view}
 use Rattle.olk_base.specs.Kit.{kit}
 use Rattle.olk_build.specs.Standing.{is_taken}
 use Rattle.olk_build.proofs.Spending.{exit}
-use Rattle.olk_build.proofs.Member.{taken_built, unread_memory, part_refused, beside_refused, read_memory, member_built}
+use Rattle.olk_build.proofs.Member.{taken_built, unread_memory, part_refused, taken_refused, read_memory, member_built}
 use Rattle.olk_build.proofs.build.compile_member.Goals as goal
 
 pub returns-then-is_taken-clause-built : goal.returns-then-is_taken-clause-built
@@ -22,7 +22,7 @@ returns-in_err-part-clause-refused g c member =
 
 pub returns-in_err-taken-clause-refused : goal.returns-in_err-taken-clause-refused
 returns-in_err-taken-clause-refused g c member =
-    exit _ _ _ c.from_residual-in_err-taken.ensures.1 (λ e q. beside_refused (kit g.L.Leaf.Leaf g.M.Engine.RegexEngine) g.N.BuiltNode.answers (members_view c.args.parent.now.entries) c.args.ctx.now.place c.args.name.now (view c.args.value.now) c.args.ctx.now.meter.now
+    exit _ _ _ c.from_residual-in_err-taken.ensures.1 (λ e q. taken_refused (kit g.L.Leaf.Leaf g.M.Engine.RegexEngine) g.N.BuiltNode.answers (members_view c.args.parent.now.entries) c.args.ctx.now.place c.args.name.now (view c.args.value.now) c.args.ctx.now.meter.now
     (ap (λ p. is_taken p c.args.name.now) (sym c.of-plan.ensures.plan) ∙ sym c.is_taken.ensures ∙ c.if-is_taken.false) member c.of-neighbours.ensures c.in_ok-location.ensures refl c.in_ok-part.ensures.built (rw q c.in_err-taken.ensures.refused))
 
 pub returns-in_err-keyword-clause-refused : goal.returns-in_err-keyword-clause-refused

@@ -85,15 +85,15 @@ returns-in_ok-keys-in-PropertyDependencies-clause-built g c =
     (λ i. object_is_right (view c.args.value.now) c.args.location.now c.in_ok-keys-in-PropertyDependencies.ensures.object i ++ c.in_ok-keys-in-PropertyDependencies.ensures.objects i) refl
 
 pub returns-in-If-clause-built : goal.returns-in-If-clause-built
-returns-in-If-clause-built g c = rw c.shape_beside.ensures
+returns-in-If-clause-built g c = rw c.shape_if_read.ensures
     (conditional_is_read _ for.If shape.If _ (rw c.in-If.is at c.keyword_for.ensures) refl refl (λ e. e) refl refl refl)
 
 pub returns-in-Then-clause-built : goal.returns-in-Then-clause-built
-returns-in-Then-clause-built g c = rw c.shape_beside-in-Then.ensures
+returns-in-Then-clause-built g c = rw c.shape_if_read-in-Then.ensures
     (conditional_is_read _ for.Then shape.Then _ (rw c.in-Then.is at c.keyword_for.ensures) refl refl (λ e. e) refl refl refl)
 
 pub returns-in-Else-clause-built : goal.returns-in-Else-clause-built
-returns-in-Else-clause-built g c = rw c.shape_beside-in-Else.ensures
+returns-in-Else-clause-built g c = rw c.shape_if_read-in-Else.ensures
     (conditional_is_read _ for.Else shape.Else _ (rw c.in-Else.is at c.keyword_for.ensures) refl refl (λ e. e) refl refl refl)
 
 pub returns-in_ok-read_other-in-Other-clause-built : goal.returns-in_ok-read_other-in-Other-clause-built

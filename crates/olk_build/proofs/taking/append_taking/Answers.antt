@@ -2,7 +2,7 @@ use Rattle.std.proofs.Common.{Some, None, sym, subst, append-nil}
 use Rattle.std.proofs.lemmas.Result.{on_ok_weaker}
 use Rattle.olk_base.specs.Kit.{kit}
 use Rattle.olk_meaning.specs.Plans.{planned}
-use Rattle.olk_build.specs.Beside.{MakesTaking}
+use Rattle.olk_build.specs.Taking.{MakesTaking}
 use Rattle.olk_build.proofs.taking.append_taking.Goals as goal
 
 pub returns-in-Some : goal.returns-in-Some

@@ -97,8 +97,8 @@ module _ {K R : Type 0} (o : Kit K R) (ms : Members) where
   abbrev pub RefusesNeighbour : Name → Path → Counts → Counts → BuildError → Type 0
   RefusesNeighbour k P old new e = Refuses (all_malformed o ms P (rows_at k ms)) (all_cost o ms (rows_at k ms)) old new e
 
-  abbrev pub RefusesBeside : Option (Name × Name) → Path → Counts → Counts → BuildError → Type 0
-  RefusesBeside t P old new e = Refuses (all_malformed o ms P (rows_taken ms t)) (all_cost o ms (rows_taken ms t)) old new e
+  abbrev pub RefusesTaken : Option (Name × Name) → Path → Counts → Counts → BuildError → Type 0
+  RefusesTaken t P old new e = Refuses (all_malformed o ms P (rows_taken ms t)) (all_cost o ms (rows_taken ms t)) old new e
 
 module _ {K R N : Type 0} (o : Kit K R) (answers : N → Answers) (ms : Members) where
   -- a part stands for the member of the name k, and there is none where there is no such member
