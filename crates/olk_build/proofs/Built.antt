@@ -137,8 +137,8 @@ module _ {K R N : Type 0} (o : Kit K R) (answers : N → Answers) where
   abbrev pub InnerSoFar : Path → List (Name × Data) → Counts → List N → List (Name × Data) → Counts → Type 0
   InnerSoFar P all a ns left m = SoFar (λ e. each_malformed o (P // e.0) (members e.1)) (λ e. each_cost o (members e.1)) (λ ns es. StandInner o answers ns es P) all a ns left m
 
-module _ {K R N : Type 0} {o : Kit K R} {answers : N → Answers} {P : Path} {all : List (Name × Data)} {a : Counts} {ns : List N} {left : List (Name × Data)} where
-  module _ {m b : Counts} {x : Name × Data} {rest : List (Name × Data)} {L : Path} where
+module _ {K R N : Type 0} {o : Kit K R} {answers : N → Answers} {all : List (Name × Data)} {a : Counts} {ns : List N} {left : List (Name × Data)} where
+  module _ {m b : Counts} {x : Name × Data} {rest : List (Name × Data)} {L : Path} (P : Path) where
     module _ (h : EntriesSoFar o answers P all a ns left m) (next : left ≡ x ∷ rest) (place : L ≡ P // x.0) where
       pub entry_refused : {e : BuildError} → RefusesSchema o x.1 L m b e → RefusesEach o all P a b e
       entry_refused r = refused_so_far h next (rw (← place) r)

@@ -92,8 +92,11 @@ module _ {K R N : Type 0} (o : Kit K R) (answers : N → Answers) (ms : Members)
   unrestricted r c e = first_false r (c && false) (ap (λ b. b || (c && false)) (sym (and-true r)) ∙ e)
 
   module _ (k : Name) (d : Data) (L : Path) (place : L ≡ P // k) (ns : List N) (t : Taken R N) where
+    abbrev ChosenAt : Name → Option (KeywordOver K R N) → Type 0
+    ChosenAt n r = IsChosen ms P (keyword_named o.world n) (n, d) r
+
     abbrev Chosen : Option (KeywordOver K R N) → Type 0
-    Chosen r = IsChosen ms P (keyword_named o.world k) (k, d) r
+    Chosen = ChosenAt k
 
     named : (w : Keyword) (r : Option (KeywordOver K R N)) → keyword_named o.world k ≡ w → IsChosen ms P w (k, d) r → Chosen r
     named w r e h = subst (λ x. IsChosen ms P x (k, d) r) (sym e) h
@@ -115,7 +118,7 @@ module _ {K R N : Type 0} (o : Kit K R) (answers : N → Answers) (ms : Members)
 
     -- `if`, `then` or `else` that is not read
     unpaired : is_conditional_name k ≡ true → is_condition ms ≡ false → Chosen None
-    unpaired conditional alone = of_conditional (λ n. IsChosen {K = K} {R = R} {N = N} ms P (keyword_named o.world n) (n, d) None) (ap not alone) refl refl k conditional
+    unpaired conditional alone = of_conditional (λ n. ChosenAt n None) (ap not alone) refl refl k conditional
 
     -- nothing is without a node
     no_node : {T : Type 0} → StandAt o answers Itself ns d L → ns ≡ [] → T

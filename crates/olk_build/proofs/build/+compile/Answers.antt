@@ -43,13 +43,13 @@ compile_entries-returns-in_err-location-clause-refused g t c =
 
 pub compile_entries-returns-in_err-node-clause-refused : goal.compile_entries-returns-in_err-node-clause-refused
 compile_entries-returns-in_err-node-clause-refused g t c =
-    exit_with _ _ _ c.from_residual-in_err-node.ensures.1 (entry_refused c.loop-name.invariant.so_far
+    exit_with _ _ _ c.from_residual-in_err-node.ensures.1 (entry_refused c.args.place.now c.loop-name.invariant.so_far
     (at_an_entry c.in-Some.ensures.steps c.args.passes_arrays c.is_read.ensures c.if-is_read.true) (below _ c.in_ok-location.ensures c.as_str.ensures.value) c.in_err-node.ensures.refused)
 
 pub compile_entries-loop-name-preserved-in-Continue-branch-4 : goal.compile_entries-loop-name-preserved-in-Continue-branch-4
 compile_entries-loop-name-preserved-in-Continue-branch-4 g t c =
     record {
-      so_far = one_more_entry c.loop-name.invariant.so_far
+      so_far = one_more_entry c.args.place.now c.loop-name.invariant.so_far
           (at_an_entry c.in-Some.ensures.steps c.args.passes_arrays c.is_read.ensures c.if-is_read.true)
           (below _ c.in_ok-location.ensures c.as_str.ensures.value) c.in_ok-node.ensures.built c.in_ok-append.ensures.items;
       next = tt;
@@ -89,7 +89,7 @@ compile_inner_entries-returns-in_err-location-clause-refused g t c = exit _ _ _ 
 
 pub compile_inner_entries-returns-in_err-inner-clause-refused : goal.compile_inner_entries-returns-in_err-inner-clause-refused
 compile_inner_entries-returns-in_err-inner-clause-refused g t c =
-    exit_with _ _ _ c.from_residual-in_err-inner.ensures.1 (inner_refused c.loop-name.invariant.so_far (listed_alike c.in-Some.ensures.steps)
+    exit_with _ _ _ c.from_residual-in_err-inner.ensures.1 (inner_refused c.args.place.now c.loop-name.invariant.so_far (listed_alike c.in-Some.ensures.steps)
     (below _ c.in_ok-location.ensures c.as_str.ensures.value) c.in_err-inner.ensures.refused)
 
 pub compile_inner_entries-returns-in_err-append-clause-refused : goal.compile_inner_entries-returns-in_err-append-clause-refused
@@ -99,7 +99,7 @@ compile_inner_entries-returns-in_err-append-clause-refused g t c =
 pub compile_inner_entries-loop-name-preserved : goal.compile_inner_entries-loop-name-preserved
 compile_inner_entries-loop-name-preserved g t c =
     record {
-      so_far = one_more_inner c.loop-name.invariant.so_far (listed_alike c.in-Some.ensures.steps)
+      so_far = one_more_inner c.args.place.now c.loop-name.invariant.so_far (listed_alike c.in-Some.ensures.steps)
           (below _ c.in_ok-location.ensures c.as_str.ensures.value) c.in_ok-inner.ensures.built c.in_ok-append.ensures.items;
       next = tt;
       ends = tt;
@@ -119,7 +119,7 @@ compile_branches-returns-in_err-location-clause-refused g t c = exit _ _ _ c.fro
 
 pub compile_branches-returns-in_err-node-clause-refused : goal.compile_branches-returns-in_err-node-clause-refused
 compile_branches-returns-in_err-node-clause-refused g t c =
-    exit_with _ _ _ c.from_residual-in_err-node.ensures.1 (entry_refused c.loop-i.invariant (next_branch _ _ c.loop-i-test.true c.schema-item.is) c.in_ok-location.ensures c.in_err-node.ensures.refused)
+    exit_with _ _ _ c.from_residual-in_err-node.ensures.1 (entry_refused c.args.place.now c.loop-i.invariant (next_branch _ _ c.loop-i-test.true c.schema-item.is) c.in_ok-location.ensures c.in_err-node.ensures.refused)
 
 pub compile_branches-returns-in_err-append-clause-refused : goal.compile_branches-returns-in_err-append-clause-refused
 compile_branches-returns-in_err-append-clause-refused g t c =
@@ -129,7 +129,7 @@ pub compile_branches-loop-i-smaller : goal.compile_branches-loop-i-smaller
 compile_branches-loop-i-smaller g t c = falls _ _ c.loop-i-test.true
 
 pub compile_branches-loop-i-preserved : goal.compile_branches-loop-i-preserved
-compile_branches-loop-i-preserved g t c = one_more_entry c.loop-i.invariant (next_branch _ _ c.loop-i-test.true c.schema-item.is) c.in_ok-location.ensures c.in_ok-node.ensures.built c.in_ok-append.ensures.items
+compile_branches-loop-i-preserved g t c = one_more_entry c.args.place.now c.loop-i.invariant (next_branch _ _ c.loop-i-test.true c.schema-item.is) c.in_ok-location.ensures c.in_ok-node.ensures.built c.in_ok-append.ensures.items
 
 pub compile_branches-returns-clause-built : goal.compile_branches-returns-clause-built
 compile_branches-returns-clause-built g t c = all_so_far c.loop-i.invariant (no_branch _ _ c.loop-i-test.false)
