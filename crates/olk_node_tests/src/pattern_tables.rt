@@ -1,6 +1,6 @@
 //! The table of patterns, made with the bench's matcher.
 use olk_base::{CompiledPattern, MakeError, Meter, compile_pattern};
-use olk_base_tests::tables::{expect_rows, two};
+use olk_base_tests::tables::{expect_rows, three};
 use olk_bench::{BenchRegex, BenchRegexes};
 use olk_tree::pattern_table::{PatternIndex, PatternTable, precompute_property_pattern_indices};
 use serde_json::{Map, Value};
@@ -20,34 +20,46 @@ fn plain_error(error: MakeError) -> Fail {
     }
 }
 
-/// Two of them are left unfinished at each name with `a`, one is the test `^c`, the others match
-/// each name with `b`.
-fn pattern(alloc: Global, index: usize, meter: &mut Meter) -> Result<Pattern, Fail> {
-    let text = match index {
+/// How many patterns there are, and which of them is the test `^c`. Two others are left unfinished
+/// at each name with `a`, and all further ones match each name with `b`.
+#[derive(Clone, Copy, Drop)]
+struct Patterns {
+    count: usize,
+    test: usize,
+}
+
+fn text_of(index: usize, test: usize) -> &'static str {
+    if index == test {
+        return "^c";
+    }
+    match index {
         1 | 64 => "(slow)a",
-        3 => "^c",
         _ => "b",
-    };
+    }
+}
+
+fn pattern(alloc: Global, text: &str, meter: &mut Meter) -> Result<Pattern, Fail> {
     compile_pattern(alloc, &BenchRegexes, text, meter).map_err(plain_error)
 }
 
-fn patterns(alloc: Global, count: usize) -> Result<Vec<Alone>, Fail> {
+fn compiled(alloc: Global, patterns: Patterns) -> Result<Vec<Alone>, Fail> {
     let mut meter = Meter::new();
-    let mut patterns = Vec::with_capacity(alloc, count)?;
-    for index in 0..count {
-        patterns.push((pattern(alloc, index, &mut meter)?, ()))?;
+    let mut compiled = Vec::with_capacity(alloc, patterns.count)?;
+    for index in 0..patterns.count {
+        let text = text_of(index, patterns.test);
+        compiled.push((pattern(alloc, text, &mut meter)?, ()))?;
     }
-    Ok(patterns)
+    Ok(compiled)
 }
 
-/// The table of these names and so many patterns.
+/// The table of these names and patterns.
 fn table_over(
     alloc: Global,
-    count: usize,
+    patterns: Patterns,
     names: &Map<String, Value>,
     meter: &mut Meter,
 ) -> Result<PatternTable, Fail> {
-    let patterns = patterns(alloc, count)?;
+    let patterns = compiled(alloc, patterns)?;
     let table = precompute_property_pattern_indices(alloc, names, &patterns, meter);
     drop(patterns);
     Ok(table?)
@@ -55,25 +67,25 @@ fn table_over(
 
 fn table_in(
     alloc: Global,
-    count: usize,
+    patterns: Patterns,
     declared: &Value,
     meter: &mut Meter,
 ) -> Result<PatternTable, Fail> {
     match declared.as_object() {
-        Some(names) => table_over(alloc, count, names, meter),
+        Some(names) => table_over(alloc, patterns, names, meter),
         None => Err(Fail::new("no object")),
     }
 }
 
-/// The table of these declared names and so many patterns.
+/// The table of these declared names and patterns.
 fn table_of(
     alloc: Global,
-    count: usize,
+    patterns: Patterns,
     declared: &str,
     meter: &mut Meter,
 ) -> Result<PatternTable, Fail> {
     let declared = Value::from_str(alloc, declared)?;
-    let table = table_in(alloc, count, &declared, meter);
+    let table = table_in(alloc, patterns, &declared, meter);
     drop(declared);
     table
 }
@@ -81,9 +93,11 @@ fn table_of(
 // The names `ab`, `b` and `cd`, which stand in that order.
 const NAMES: &str = r#"{"cd":true,"b":true,"ab":true}"#;
 
+const PATTERNS: Patterns = Patterns { count: 65, test: 3 };
+
 /// The table of these names and 65 patterns.
 fn table(alloc: Global, meter: &mut Meter) -> Result<PatternTable, Fail> {
-    table_of(alloc, 65, NAMES, meter)
+    table_of(alloc, PATTERNS, NAMES, meter)
 }
 
 /// No row is answered otherwise than it says.
@@ -180,7 +194,7 @@ fn wrong_nothing(table: &PatternTable) -> Option<(usize, bool)> {
 #[test]
 fn a_name_that_nothing_matches(rt: HostRuntime) -> Result<(), Fail> {
     let declared = r#"{"a":true,"b":true,"dd":true}"#;
-    let table = table_of(rt.alloc(), 65, declared, &mut Meter::new())?;
+    let table = table_of(rt.alloc(), PATTERNS, declared, &mut Meter::new())?;
     let wrong = wrong_nothing(&table);
     drop(table);
     expect_none(wrong)
@@ -212,27 +226,41 @@ fn places_of(alloc: Global, table: &PatternTable, name: &str) -> Result<String, 
     text
 }
 
-/// The places that a table of so many patterns lists of a name.
+fn number(text: &str) -> Result<usize, Fail> {
+    text.parse().map_err(|_| Fail::new("no number"))
+}
+
+/// The places that a table of such patterns lists of a name.
 fn places(alloc: Global, cells: &str) -> Result<String, Fail> {
-    let (count, name) = two(cells);
-    let count = count.parse().map_err(|_| Fail::new("no number"))?;
-    let table = table_of(alloc, count, NAMES, &mut Meter::new())?;
+    let Some((count, test, name)) = three(cells) else {
+        return Err(Fail::new("no three cells"));
+    };
+    let patterns = Patterns {
+        count: number(count)?,
+        test: number(test)?,
+    };
+    let table = table_of(alloc, patterns, NAMES, &mut Meter::new())?;
     let text = places_of(alloc, &table, name);
     drop(table);
     Ok(text?)
 }
 
-// How many patterns there are, a name, and the places that are listed of it, which follow by hand
-// from `pattern`.
+// How many patterns there are, which of them is the test, a name, and the places that are listed of
+// it, which follow by hand from `text_of`. The last rows are those of one place alone, on either
+// side of a word's end.
 const PLACES: &str =
-    "65 | ab | 0 1? 2 4 5 6 7 8 9 10 11 12 13 14 15 16 17 18 19 20 21 22 23 24 25 26 27 28 29 30 31 32 33 34 35 36 37 38 39 40 41 42 43 44 45 46 47 48 49 50 51 52 53 54 55 56 57 58 59 60 61 62 63 64?
-65 | b | 0 2 4 5 6 7 8 9 10 11 12 13 14 15 16 17 18 19 20 21 22 23 24 25 26 27 28 29 30 31 32 33 34 35 36 37 38 39 40 41 42 43 44 45 46 47 48 49 50 51 52 53 54 55 56 57 58 59 60 61 62 63
-65 | cd | 3
-65 | bb | none
-66 | ab | 0 1? 2 4 5 6 7 8 9 10 11 12 13 14 15 16 17 18 19 20 21 22 23 24 25 26 27 28 29 30 31 32 33 34 35 36 37 38 39 40 41 42 43 44 45 46 47 48 49 50 51 52 53 54 55 56 57 58 59 60 61 62 63 64? 65
-66 | b | 0 2 4 5 6 7 8 9 10 11 12 13 14 15 16 17 18 19 20 21 22 23 24 25 26 27 28 29 30 31 32 33 34 35 36 37 38 39 40 41 42 43 44 45 46 47 48 49 50 51 52 53 54 55 56 57 58 59 60 61 62 63 65
-66 | cd | 3
-66 | bb | none";
+    "65 | 3 | ab | 0 1? 2 4 5 6 7 8 9 10 11 12 13 14 15 16 17 18 19 20 21 22 23 24 25 26 27 28 29 30 31 32 33 34 35 36 37 38 39 40 41 42 43 44 45 46 47 48 49 50 51 52 53 54 55 56 57 58 59 60 61 62 63 64?
+65 | 3 | b | 0 2 4 5 6 7 8 9 10 11 12 13 14 15 16 17 18 19 20 21 22 23 24 25 26 27 28 29 30 31 32 33 34 35 36 37 38 39 40 41 42 43 44 45 46 47 48 49 50 51 52 53 54 55 56 57 58 59 60 61 62 63
+65 | 3 | cd | 3
+65 | 3 | bb | none
+66 | 3 | ab | 0 1? 2 4 5 6 7 8 9 10 11 12 13 14 15 16 17 18 19 20 21 22 23 24 25 26 27 28 29 30 31 32 33 34 35 36 37 38 39 40 41 42 43 44 45 46 47 48 49 50 51 52 53 54 55 56 57 58 59 60 61 62 63 64? 65
+66 | 3 | b | 0 2 4 5 6 7 8 9 10 11 12 13 14 15 16 17 18 19 20 21 22 23 24 25 26 27 28 29 30 31 32 33 34 35 36 37 38 39 40 41 42 43 44 45 46 47 48 49 50 51 52 53 54 55 56 57 58 59 60 61 62 63 65
+66 | 3 | cd | 3
+66 | 3 | bb | none
+64 | 63 | cd | 63
+65 | 64 | cd | 64
+66 | 64 | cd | 64
+66 | 65 | cd | 65";
 
 #[test]
 fn places_of_a_name(rt: HostRuntime) -> Result<(), Fail> {
