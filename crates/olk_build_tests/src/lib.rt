@@ -1,8 +1,8 @@
 //! Tests of building: what the module of each keyword compiles, and of whole schemas what is
 //! counted, what is refused, what is fused and which variants are built.
 //!
-//! Stands on `olk_keywords`, `olk_node` and what is below, whose public calls alone it asks. The
-//! tests are in its modules.
+//! Stands on `object_logic` and what is below, whose public calls alone it asks. The tests are in
+//! its modules.
 #![tactic(auto)]
 
 #[cfg(test)]

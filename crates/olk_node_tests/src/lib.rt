@@ -1,8 +1,8 @@
 //! Tests of the validators as they are made by hand, of looking up names, and of the tables of
 //! patterns.
 //!
-//! Stands on `olk_node` and what is below, whose public calls alone it asks, and on nothing of
-//! building. The tests are in its modules.
+//! Stands on `object_logic` and what is below, and asks their public calls alone, none of building.
+//! The tests are in its modules.
 #![tactic(auto)]
 
 #[cfg(test)]
