@@ -8,14 +8,14 @@ use Rattle.serde_json.specs.declared.value.Value.{Value, Array, Object, out-Valu
 use Rattle.olk_spec.specs.Names.{Name, Path, ◌//◌, put_if}
 use Rattle.olk_spec.specs.Faults.{fault, MultipleTypes, like_through}
 use Rattle.olk_spec.specs.Schemas.{listed, members}
-use Rattle.olk_spec.specs.Malformed.{malformations_at, items_of_array}
-use Rattle.olk_spec.specs.Costs.{cost, one_place, no_cost}
+use Rattle.olk_spec.specs.Malformed.{items_of_array}
+use Rattle.olk_spec.specs.Costs.{one_place, no_cost}
 use Rattle.olk_spec.proofs.Order.{∼_same}
 use Rattle.olk_base.specs.Count.{Counts, count_compiled}
 use Rattle.olk_reports.specs.declared.error.BuildError.{BuildError}
 use Rattle.olk_base.specs.Kit.{Kit}
 use Rattle.olk_tree.specs.Places.{AnswersBy, Stands}
-use Rattle.olk_build.specs.Refusing.{TellsOneOf, Refuses}
+use Rattle.olk_build.specs.Refusing.{TellsOneOf, Refuses, Spends, SpendsWithin}
 use Rattle.olk_build.specs.Standing.{StandEach, StandInner, StandAt}
 use Rattle.olk_build.specs.Building.{IsBuilt, ObjectIsBuilt, RefusesObject, RefusesSchema, RefusesEach, RefusesInner, no_lists, entries_read, is_read, each_malformed, each_cost, PlacesAreBuilt}
 use Rattle.olk_build.specs.Building.{RefusesPlaces, places_malformed, places_cost}
@@ -23,7 +23,7 @@ use Rattle.olk_build.proofs.Spending.{SoFar, refused_so_far, one_more_so_far, on
 use Rattle.olk_build.proofs.Spending.{spends_nothing}
 use Rattle.olk_build.specs.declared.shape.ReadPlaces.TheVariants.{Entries, Nothing, Itself, SchemaEntries, InnerEntries, Branches}
 use Rattle.olk_tree.specs.declared.node.Body.TheVariants.{True, False, Keywords}
-use Rattle.olk_meaning.specs.Chosen.{object_form, validators}
+use Rattle.olk_meaning.specs.Chosen.{object_form}
 use Rattle.olk_meaning.proofs.Standing.{object_stands}
 use Rattle.olk_meaning.proofs.Facts.{IsNoSchema, no_schema_malformed, no_schema_cost, object_accepts, object_asks, object_report, object_tree, object_malformed, object_cost}
 use Rattle.olk_build.proofs.Shapes.{rolled}
@@ -32,8 +32,15 @@ use Rattle.serde_json.specs.declared.value.Value.TheVariants.{rolls-Array, rolls
 use Rattle.olk_build.specs.declared.shape.ReadPlaces.{ReadPlaces}
 use denote.Param.Weighed.{most}
 use Rattle.std.specs.{List.enumerate_from, Prelude.⊤, Map.values_of}
-use Rattle.olk_spec.specs.{Meaning.meaning, Tree.plain, World.World}
+use Rattle.olk_spec.specs.{Tree.plain, World.World}
 use Rattle.olk_tree.specs.{Answers.Answers, declared.node.KeywordOver.KeywordOver, declared.node.Body.Body, Questions.of_asked}
+use Rattle.olk_meaning.specs.Steps.{meaning, malformations_at, cost, validators}
+use Rattle.olk_spec.specs.Meaning.{meaning as own_meaning}
+use Rattle.olk_spec.specs.Malformed.{malformations_at as own_malformations}
+use Rattle.olk_spec.specs.Costs.{cost as own_cost}
+use Rattle.olk_meaning.specs.Chosen.{validators as own_validators}
+use Rattle.olk_tree.specs.Steps.{StandsBy, StepsOf, layer_of}
+use Rattle.olk_meaning.proofs.Layer.{layer_steps, layer_refuses, layer_costs}
 
 -- ---- what is built so far, and one more
 
@@ -57,17 +64,17 @@ module _ (i : ℕ) (vs : List Value) where
   pub no_branch : length vs ≤ i → branches_from i vs ≡ []
   no_branch l = ap (λ xs. numbered_from i (map view xs)) (drop_all i vs l)
 
--- ---- no schema, and an object
+-- ---- no schema, and an object, where the places inside answer what they do for the layer
 
 module _ (W : World) (P : Path) {a b : Counts} {e : BuildError} where
-  pub refuses_no_schema : (d : Data) → IsNoSchema d → b ≡ count_compiled a → TellsOneOf (fault MultipleTypes d [] P ∷ []) e → Refuses (malformations_at W d P) (cost W d) a b e
+  pub refuses_no_schema : (d : Data) → IsNoSchema d → b ≡ count_compiled a → TellsOneOf (fault MultipleTypes d [] P ∷ []) e → Refuses (malformations_at (layer_steps W) d P) (cost (layer_steps W) d) a b e
   refuses_no_schema d h c t = record {
     tells = tells_same (sym (no_schema_malformed W d P h)) e t;
     spends = within_same (sym (no_schema_cost W d h)) (within_exactly (spends_place a b c));
   }
 
 module _ {K R : Type 0} (o : Kit K R) (ms : Members) (P : Path) {a m b : Counts} {e : BuildError} where
-  pub refuses_object : m ≡ count_compiled a → RefusesObject o ms P m b e → RefusesSchema o (object ms) P a b e
+  pub refuses_object : m ≡ count_compiled a → RefusesObject (layer_of o) ms P m b e → RefusesSchema (layer_of o) (object ms) P a b e
   refuses_object c r = record {
     tells = tells_same (sym (object_malformed o.world ms P)) e r.tells;
     spends = within_same (sym (object_cost o.world ms)) (within_after a m b one_place _ (spends_place a m c) r.spends);
@@ -76,7 +83,7 @@ module _ {K R : Type 0} (o : Kit K R) (ms : Members) (P : Path) {a m b : Counts}
 -- ---- a node
 
 module _ {K R N : Type 0} {o : Kit K R} {answers : N → Answers} {n : N} {P : Path} {a m : Counts} (c : m ≡ count_compiled a) where
-  pub built_truth : {d : Data} (t : Bool) → AnswersBy o answers P (truth_body t) n → d ≡ boolean t → IsBuilt o answers n d P a m
+  pub built_truth : {d : Data} (t : Bool) → AnswersBy o answers P (truth_body t) n → d ≡ boolean t → IsBuilt (layer_of o) answers n d P a m
   unfolding meaning malformations_at cost validators
   built_truth true is e = rw e record {
     stands = record {
@@ -105,8 +112,8 @@ module _ {K R N : Type 0} {o : Kit K R} {answers : N → Answers} {n : N} {P : P
     spends = spends_place a m c;
   }
 
-  pub built_object : {ms : Members} {ks : Vec (KeywordOver K R N) Global} {z : Counts} → AnswersBy o answers P (Keywords ks) n → ObjectIsBuilt o ms answers ks.items P m z
-      → IsBuilt o answers n (object ms) P a z
+  pub built_object : {ms : Members} {ks : Vec (KeywordOver K R N) Global} {z : Counts} → AnswersBy o answers P (Keywords ks) n → ObjectIsBuilt (layer_of o) ms answers ks.items P m z
+      → IsBuilt (layer_of o) answers n (object ms) P a z
   built_object {ms} {z = z} is h = record {
     stands = record {
       verdict = λ u v. ap (λ q. q.accepts u) (is.verdict v) ∙ h.mean.covers.verdict u v ∙ sym (object_accepts o.world ms u v);
@@ -121,37 +128,65 @@ module _ {K R N : Type 0} {o : Kit K R} {answers : N → Answers} {n : N} {P : P
     spends = spends_same a z _ _ (sym (object_cost o.world ms)) (spends_append a m z one_place _ (spends_place a m c) h.spends);
   }
 
-module _ {K R N : Type 0} (o : Kit K R) (answers : N → Answers) where
+-- what is built by the layer's steps is what the definitions say
+module _ {K R : Type 0} (o : Kit K R) (S : Data) {P L : Path} (place : L ≡ P) {a b : Counts} where
+  module _ {N : Type 0} {answers : N → Answers} {n : N} (h : IsBuilt (layer_of o) answers n S L a b) where
+    pub own_stands : Stands o answers n S P
+    unfolding meaning own_meaning validators own_validators
+    own_stands = rw (← place) record {
+      verdict = h.stands.verdict;
+      asks_within = h.stands.asks_within;
+      faults = h.stands.faults;
+      evaluation = h.stands.evaluation;
+      place = h.stands.place;
+      formed = h.stands.formed;
+      forms = h.stands.forms;
+    }
+
+    pub own_clean : own_malformations o.world S P ≡ []
+    own_clean = rw (← place) (sym (layer_refuses o.world S L) ∙ h.clean)
+
+    pub own_spends : Spends a b (own_cost o.world S)
+    own_spends = spends_same a b _ _ (layer_costs o.world S) h.spends
+
+  module _ {e : BuildError} (h : RefusesSchema (layer_of o) S L a b e) where
+    pub own_tells : TellsOneOf (own_malformations o.world S P) e
+    own_tells = rw (← place) (tells_same (layer_refuses o.world S L) e h.tells)
+
+    pub own_within : SpendsWithin a b (own_cost o.world S)
+    own_within = within_same (layer_costs o.world S) h.spends
+
+module _ {K R N : Type 0} {o : Kit K R} (I : StepsOf o) (answers : N → Answers) where
   -- nodes for the entries so far
   abbrev pub EntriesSoFar : Path → List (Name × Data) → Counts → List N → List (Name × Data) → Counts → Type 0
-  EntriesSoFar P all a ns left m = SoFar (λ e. malformations_at o.world e.1 (P // e.0)) (λ e. cost o.world e.1) (λ ns es. StandEach o answers ns es P) all a ns left m
+  EntriesSoFar P all a ns left m = SoFar (λ e. malformations_at I.steps e.1 (P // e.0)) (λ e. cost I.steps e.1) (λ ns es. StandEach I answers ns es P) all a ns left m
 
   -- ---- nodes for the entries of each of these
 
-  inner_push : (P : Path) (ns here : List N) (es : List (Name × Data)) (e : Name × Data) → StandInner o answers ns es P → StandEach o answers here (members e.1) (P // e.0)
-      → StandInner o answers (ns ++ here) (es ++ e ∷ []) P
+  inner_push : (P : Path) (ns here : List N) (es : List (Name × Data)) (e : Name × Data) → StandInner I answers ns es P → StandEach I answers here (members e.1) (P // e.0)
+      → StandInner I answers (ns ++ here) (es ++ e ∷ []) P
   inner_push P ns here [] e h s = (here, [], ap (λ l. l ++ here) h ∙ sym (append-nil here), s, refl)
   inner_push P ns here (x ∷ es) e h s = (h.0, h.1 ++ here, ap (λ l. l ++ here) h.2 ∙ append_assoc h.0 h.1 here, h.3, inner_push P h.1 here es e h.4 s)
 
   -- and for the entries of those so far
   abbrev pub InnerSoFar : Path → List (Name × Data) → Counts → List N → List (Name × Data) → Counts → Type 0
-  InnerSoFar P all a ns left m = SoFar (λ e. each_malformed o (P // e.0) (members e.1)) (λ e. each_cost o (members e.1)) (λ ns es. StandInner o answers ns es P) all a ns left m
+  InnerSoFar P all a ns left m = SoFar (λ e. each_malformed I (P // e.0) (members e.1)) (λ e. each_cost I (members e.1)) (λ ns es. StandInner I answers ns es P) all a ns left m
 
-module _ {K R N : Type 0} {o : Kit K R} {answers : N → Answers} {all : List (Name × Data)} {a : Counts} {ns : List N} {left : List (Name × Data)} where
+module _ {K R N : Type 0} {o : Kit K R} {I : StepsOf o} {answers : N → Answers} {all : List (Name × Data)} {a : Counts} {ns : List N} {left : List (Name × Data)} where
   module _ {m b : Counts} {x : Name × Data} {rest : List (Name × Data)} {L : Path} (P : Path) where
-    module _ (h : EntriesSoFar o answers P all a ns left m) (next : left ≡ x ∷ rest) (place : L ≡ P // x.0) where
-      pub entry_refused : {e : BuildError} → RefusesSchema o x.1 L m b e → RefusesEach o all P a b e
+    module _ (h : EntriesSoFar I answers P all a ns left m) (next : left ≡ x ∷ rest) (place : L ≡ P // x.0) where
+      pub entry_refused : {e : BuildError} → RefusesSchema I x.1 L m b e → RefusesEach I all P a b e
       entry_refused r = refused_so_far h next (rw (← place) r)
 
-      pub one_more_entry : {n : N} → IsBuilt o answers n x.1 L m b → {new : List N} → new ≡ ns ++ n ∷ [] → EntriesSoFar o answers P all a new rest b
-      one_more_entry built q = one_more_pair (λ n e. Stands o answers n e.1 (P // e.0)) h next q built.spends (rw (← place) built.stands) (rw (← place) built.clean)
+      pub one_more_entry : {n : N} → IsBuilt I answers n x.1 L m b → {new : List N} → new ≡ ns ++ n ∷ [] → EntriesSoFar I answers P all a new rest b
+      one_more_entry built q = one_more_pair (λ n e. StandsBy I answers n e.1 (P // e.0)) h next q built.spends (rw (← place) built.stands) (rw (← place) built.clean)
 
-    module _ (h : InnerSoFar o answers P all a ns left m) (next : left ≡ x ∷ rest) (place : L ≡ P // x.0) where
-      pub inner_refused : {e : BuildError} → RefusesPlaces o Entries x.1 L m b e → RefusesInner o all P a b e
+    module _ (h : InnerSoFar I answers P all a ns left m) (next : left ≡ x ∷ rest) (place : L ≡ P // x.0) where
+      pub inner_refused : {e : BuildError} → RefusesPlaces I Entries x.1 L m b e → RefusesInner I all P a b e
       inner_refused r = refused_so_far h next (rw (← place) r)
 
-      pub one_more_inner : {here : List N} → PlacesAreBuilt o answers Entries here x.1 L m b → {new : List N} → new ≡ ns ++ here → InnerSoFar o answers P all a new rest b
-      one_more_inner built q = one_more_so_far h next built.spends (rw q (inner_push o answers P ns _ h.done x h.built.stand (rw (← place) built.stand))) (rw (← place) built.clean)
+      pub one_more_inner : {here : List N} → PlacesAreBuilt I answers Entries here x.1 L m b → {new : List N} → new ≡ ns ++ here → InnerSoFar I answers P all a new rest b
+      one_more_inner built q = one_more_so_far h next built.spends (rw q (inner_push I answers P ns _ h.done x h.built.stand (rw (← place) built.stand))) (rw (← place) built.clean)
 
 -- ---- entries that are read
 
@@ -192,13 +227,13 @@ NoneIn d Itself = ⊥
 NoneIn d Branches = items_of_array d ≡ []
 NoneIn d r = members d ≡ []
 
-module _ {K R N : Type 0} {o : Kit K R} {answers : N → Answers} {d : Data} {L : Path} {a : Counts} where
+module _ {K R N : Type 0} {o : Kit K R} {I : StepsOf o} {answers : N → Answers} {d : Data} {L : Path} {a : Counts} where
   -- ---- where there are none
 
-  nothing_stands : (r : ReadPlaces) → StandAt o answers r [] d L → places_malformed o r d L ≡ [] → places_cost o r d ≡ no_cost → PlacesAreBuilt o answers r [] d L a a
+  nothing_stands : (r : ReadPlaces) → StandAt I answers r [] d L → places_malformed I r d L ≡ [] → places_cost I r d ≡ no_cost → PlacesAreBuilt I answers r [] d L a a
   nothing_stands r h c e = record { stand = h; clean = c; spends = spends_same a a _ _ (sym e) (spends_nothing a) }
 
-  pub none_are_built : (r : ReadPlaces) → NoneIn d r → PlacesAreBuilt o answers r [] d L a a
+  pub none_are_built : (r : ReadPlaces) → NoneIn d r → PlacesAreBuilt I answers r [] d L a a
   none_are_built Nothing e = nothing_stands Nothing refl refl refl
   none_are_built Itself e = absurd e
   none_are_built Entries e = nothing_stands Entries (rw e tt) (rw e refl) (rw e refl)
@@ -208,7 +243,7 @@ module _ {K R N : Type 0} {o : Kit K R} {answers : N → Answers} {d : Data} {L 
 
   -- ---- the value itself
 
-  pub itself_is_built : {n : N} {b : Counts} → IsBuilt o answers n d L a b → PlacesAreBuilt o answers Itself (n ∷ []) d L a b
+  pub itself_is_built : {n : N} {b : Counts} → IsBuilt I answers n d L a b → PlacesAreBuilt I answers Itself (n ∷ []) d L a b
   itself_is_built h = record { stand = h.stands; clean = h.clean; spends = h.spends }
 
 -- ---- a value among the values of a map is no larger than the largest of them

@@ -21,10 +21,11 @@ use Rattle.std.proofs.{lemmas.List.length-map, lemmas.List.FromFn.length-enumera
 use Rattle.olk_base.specs.{Kit.Kit, declared.pattern.CompiledPattern.CompiledPattern}
 use Rattle.olk_meaning.proofs.{PropertyNames.false_is_no_object, Conditions.of_conditional}
 use Rattle.olk_build.specs.{declared.shape.Shape.Shape, declared.shape.ReadPlaces.TheVariants.Itself}
-use Rattle.olk_tree.specs.{Answers.Answers, declared.node.KeywordOver.KeywordOver, Questions.conditional, Places.Stands}
+use Rattle.olk_tree.specs.{Answers.Answers, declared.node.KeywordOver.KeywordOver, Questions.conditional}
 use Rattle.olk_build.specs.{declared.part.DeclaredNodes.DeclaredNodes, declared.part.Patterns.Patterns, declared.part.Taken.Taken}
 use Rattle.olk_build.specs.declared.shape.Shape.TheVariants as shape
 use Rattle.olk_tree.specs.declared.node.KeywordOver.TheVariants as keyword
+use Rattle.olk_tree.specs.Steps.{StandsBy, StepsOf}
 
 -- ---- branches, and how many there are
 
@@ -46,14 +47,14 @@ module _ {K R N : Type 0} {L M : Path} (ns : List N) (d : Data) (e : length ns �
 
 -- ---- as many as there are
 
-module _ {K R N : Type 0} (o : Kit K R) (answers : N → Answers) where
-  pub branches_length : (ns : List N) (d : Data) (P : Path) → StandEach o answers ns (numbered (items_of_array d)) P → length ns ≡ length (items_of_array d)
-  branches_length ns d P h = sym (AllZip-long (λ n e. Stands o answers n e.1 (P // e.0)) ns (numbered (items_of_array d)) h) ∙ length-map (enumerate_from 0 (items_of_array d)) _ ∙ length-enumerate_from 0 (items_of_array d)
+module _ {K R N : Type 0} {o : Kit K R} (I : StepsOf o) (answers : N → Answers) where
+  pub branches_length : (ns : List N) (d : Data) (P : Path) → StandEach I answers ns (numbered (items_of_array d)) P → length ns ≡ length (items_of_array d)
+  branches_length ns d P h = sym (AllZip-long (λ n e. StandsBy I answers n e.1 (P // e.0)) ns (numbered (items_of_array d)) h) ∙ length-map (enumerate_from 0 (items_of_array d)) _ ∙ length-enumerate_from 0 (items_of_array d)
 
-  pub entries_length : (ps : List (CompiledPattern R × N)) (es : List (Name × Data)) (L : Path) → EntriesStand o answers ps es L → length ps ≡ length es
-  entries_length ps es L h = sym (AllZip-long (λ e d. IsPattern o e.0 d.0 × Stands o answers e.1 d.1 (L // d.0)) ps es h)
+  pub entries_length : (ps : List (CompiledPattern R × N)) (es : List (Name × Data)) (L : Path) → EntriesStand I answers ps es L → length ps ≡ length es
+  entries_length ps es L h = sym (AllZip-long (λ e d. IsPattern o e.0 d.0 × StandsBy I answers e.1 d.1 (L // d.0)) ps es h)
 
-  pub both_stand : (ps : List (CompiledPattern R)) (ns : List N) (ds : List (Name × Data)) (L : Path) → ArePatterns o ps ds → StandEach o answers ns ds L → EntriesStand o answers (zip ps ns) ds L
+  pub both_stand : (ps : List (CompiledPattern R)) (ns : List N) (ds : List (Name × Data)) (L : Path) → ArePatterns o ps ds → StandEach I answers ns ds L → EntriesStand I answers (zip ps ns) ds L
   both_stand [] ns [] L h s = tt
   both_stand (p ∷ ps) [] (d ∷ ds) L h s = absurd s
   both_stand (p ∷ ps) (n ∷ ns) (d ∷ ds) L h s = ((h.0, s.0), both_stand ps ns ds L h.1 s.1)
@@ -86,7 +87,7 @@ first_false true b e = absurd (true≢false e)
 
 -- ---- the validator of a member
 
-module _ {K R N : Type 0} (o : Kit K R) (answers : N → Answers) (ms : Members) (P : Path) where
+module _ {K R N : Type 0} {o : Kit K R} (I : StepsOf o) (answers : N → Answers) (ms : Members) (P : Path) where
   -- a keyword that tells members by their names, and that no other takes
   unrestricted : (r c : Bool) → ((r && true) || (c && false)) ≡ false → r ≡ false
   unrestricted r c e = first_false r (c && false) (ap (λ b. b || (c && false)) (sym (and-true r)) ∙ e)
@@ -105,12 +106,12 @@ module _ {K R N : Type 0} (o : Kit K R) (answers : N → Answers) (ms : Members)
     at_place : (F : Path → KeywordOver K R N → Type 0) (x : KeywordOver K R N) → F L x → F (P // k) x
     at_place F x h = subst (λ M. F M x) place h
 
-    others : (rest : Bool) → rest ≡ is_object d → BesideStands o answers (known_of ms) t.beside ms P → (x : KeywordOver K R N) → MakesOthers o answers L ns t P (plan_of ms) rest x
+    others : (rest : Bool) → rest ≡ is_object d → BesideStands I answers (known_of ms) t.beside ms P → (x : KeywordOver K R N) → MakesOthers I answers L ns t P (plan_of ms) rest x
         → HasForm ms P additional_properties k d x
     others rest kind stand x form = subst (λ T. T) (λ i. IsAdditionalProperties P (place i) (kind i)
         (counted_as _ (λ (m : DeclaredNodes N). length m.names) (λ m d s. ap length s.names ∙ length-map (members d) (λ e. e.0)) t.beside.properties _ stand.0 i)
         (counted_as _ (λ (p : Patterns R N). length p.patterns.items)
-        (λ p d s. entries_length o answers p.patterns.items (members d) (P // codes "patternProperties") s.entries) t.beside.patterns _ stand.1 i)
+        (λ p d s. entries_length I answers p.patterns.items (members d) (P // codes "patternProperties") s.entries) t.beside.patterns _ stand.1 i)
         (plan_of ms).fused_one x) form
 
     neither : (c x y : Bool) → (c && (x || y)) ≡ true → x ≡ false → y ≡ false → ⊥
@@ -121,18 +122,18 @@ module _ {K R N : Type 0} (o : Kit K R) (answers : N → Answers) (ms : Members)
     unpaired conditional alone = of_conditional (λ n. ChosenAt n None) (ap not alone) refl refl k conditional
 
     -- nothing is without a node
-    no_node : {T : Type 0} → StandAt o answers Itself ns d L → ns ≡ [] → T
-    no_node stand e = absurd (subst (λ x. StandAt o answers Itself x d L) e stand)
+    no_node : {T : Type 0} → StandAt I answers Itself ns d L → ns ≡ [] → T
+    no_node stand e = absurd (subst (λ x. StandAt I answers Itself x d L) e stand)
 
-    pub chosen : (x : Shape K R) → IsShape o k d x → Fits o (known_of ms) x → StandAt o answers (reads_of x) ns d L → (is_if_shape x ≡ true → CasesStand o answers t.cases ms P)
-        → (is_restriction_shape x ≡ true → BesideStands o answers (known_of ms) t.beside ms P) → is_taken (plan_of ms) k ≡ false → (r : Option (KeywordOver K R N)) → IsMade o answers x L ns t P (plan_of ms) r → Chosen r
+    pub chosen : (x : Shape K R) → IsShape o k d x → Fits o (known_of ms) x → StandAt I answers (reads_of x) ns d L → (is_if_shape x ≡ true → CasesStand I answers t.cases ms P)
+        → (is_restriction_shape x ≡ true → BesideStands I answers (known_of ms) t.beside ms P) → is_taken (plan_of ms) k ≡ false → (r : Option (KeywordOver K R N)) → IsMade I answers x L ns t P (plan_of ms) r → Chosen r
     chosen (shape.Properties n) s f stand cases beside free (Some x) form = named properties (Some x) (ap (keyword_named o.world) s.0) (
       unrestricted (is_restricted ms) (is_condition ms) (subst (λ n. is_taken (plan_of ms) n ≡ false) s.0 free),
       subst (λ T. T) (λ i. IsProperties P (place i) ((ap length s.2 ∙ length-map (members d) (λ e. e.0)) i) (plan_of ms).fused_pair x) form,
     )
     chosen (shape.PatternProperties v) s f stand cases beside free (Some x) form = named pattern_properties (Some x) (ap (keyword_named o.world) s.0) (
       unrestricted (is_restricted ms) (is_condition ms) (subst (λ n. is_taken (plan_of ms) n ≡ false) s.0 free),
-      subst (λ T. T) (λ i. IsPatternProperties (place i) (entries_length o answers (zip v.items ns) (members d) L (both_stand o answers v.items ns (members d) L s.2 stand) i) x) form,
+      subst (λ T. T) (λ i. IsPatternProperties (place i) (entries_length I answers (zip v.items ns) (members d) L (both_stand I answers v.items ns (members d) L s.2 stand) i) x) form,
     )
     chosen shape.AdditionalProperties s f stand cases beside free (Some x) form = named additional_properties (Some x) (ap (keyword_named o.world) s.0) (object_is_not_true d s.1, others true (sym s.1) (beside refl) x form)
     chosen shape.AdditionalProperties s f stand cases beside free None form = no_node stand form
@@ -157,9 +158,9 @@ module _ {K R N : Type 0} (o : Kit K R) (answers : N → Answers) (ms : Members)
       refl,
       at_place (λ M x. IsPropertyDependencies M (map (λ e. e.0) (members d)) (map (λ e. map (λ c. c.0) (members e.1)) (members d)) x) x (form (k, d) s stand),
     )
-    chosen shape.AllOf s f stand cases beside free (Some x) form = named all_of (Some x) (ap (keyword_named o.world) s.0) (refl, all_of_form ns d (branches_length o answers ns d L stand) place x form)
-    chosen shape.AnyOf s f stand cases beside free (Some x) form = named any_of (Some x) (ap (keyword_named o.world) s.0) (refl, any_of_form ns d (branches_length o answers ns d L stand) place x form)
-    chosen shape.OneOf s f stand cases beside free (Some x) form = named one_of (Some x) (ap (keyword_named o.world) s.0) (refl, one_of_form ns d (branches_length o answers ns d L stand) place x form)
+    chosen shape.AllOf s f stand cases beside free (Some x) form = named all_of (Some x) (ap (keyword_named o.world) s.0) (refl, all_of_form ns d (branches_length I answers ns d L stand) place x form)
+    chosen shape.AnyOf s f stand cases beside free (Some x) form = named any_of (Some x) (ap (keyword_named o.world) s.0) (refl, any_of_form ns d (branches_length I answers ns d L stand) place x form)
+    chosen shape.OneOf s f stand cases beside free (Some x) form = named one_of (Some x) (ap (keyword_named o.world) s.0) (refl, one_of_form ns d (branches_length I answers ns d L stand) place x form)
     chosen (shape.Not v) s f stand cases beside free (Some x) form = named not_keyword (Some x) (ap (keyword_named o.world) s.0) (refl, subst (λ T. T) (λ i. IsNot (place i) (s.1 i) x) form)
     chosen (shape.Not v) s f stand cases beside free None form = no_node stand form
     chosen shape.If s f stand cases beside free (Some x) form = named if_keyword (Some x) (ap (keyword_named o.world) s) (

@@ -24,15 +24,16 @@ use Rattle.olk_build.specs.{declared.shape.ReadPlaces.TheVariants.Itself, Readin
 use Rattle.olk_spec.specs.Faults.{◌∼◌}
 use Rattle.olk_spec.specs.{Schemas.numbered, Malformed.items_of_array, declared.TheConstants.HASHMAP_THRESHOLD}
 use Rattle.olk_base.specs.{Kit.Kit, declared.pattern.CompiledPattern.CompiledPattern}
-use Rattle.olk_tree.specs.{Answers.Answers, Places.Stands, declared.properties.SmallPropertiesWithRequired2.SmallPropertiesWithRequired2}
+use Rattle.olk_tree.specs.{Answers.Answers, declared.properties.SmallPropertiesWithRequired2.SmallPropertiesWithRequired2}
 use Rattle.olk_tree.specs.{declared.map.SmallMap.SmallMap, declared.properties_map.PropertiesMap.PropertiesMap, declared.node.KeywordOver.KeywordOver}
 use Rattle.std.specs.{Option.option_map_or, declared.boxed.Box.Box}
 use Rattle.std.proofs.{Math.Bool.and-true, lemmas.List.length-map}
 use Rattle.olk_tree.specs.declared.node.KeywordOver.TheVariants as keyword
+use Rattle.olk_tree.specs.Steps.{StandsBy, StepsOf}
 
 -- ---- nodes that answer as entries of a keyword's value are to be answered
 
-module _ {K R N : Type 0} (o : Kit K R) (answers : N → Answers) where
+module _ {K R N : Type 0} {o : Kit K R} (I : StepsOf o) (answers : N → Answers) where
   module _ {X : Type 0} (w : EntryAnswers X) where
     pub record AnswersFor (n : N) (e : X) (L : Path) : Type 0 where
       pub verdict : (u : Bool) (v : Data) → ((answers n).means v).accepts u ≡ w.verdict u e v
@@ -75,26 +76,26 @@ module _ {K R N : Type 0} (o : Kit K R) (answers : N → Answers) where
 
   -- ---- entries that are schemas
 
-  pub schema_answer : (n : N) (e : Name × Data) (L : Path) → Stands o answers n e.1 (L // e.0) → AnswersFor (schema_answers o.world) n e L
+  pub schema_answer : (n : N) (e : Name × Data) (L : Path) → StandsBy I answers n e.1 (L // e.0) → AnswersFor (schema_answers I.steps) n e L
   schema_answer n e L h = record { verdict = h.verdict; asks_within = h.asks_within; faults = h.faults; evaluation = h.evaluation; formed = h.formed; forms = h.forms }
 
-  pub schemas_answer : (ns : List N) (es : Rows) (L : Path) → StandEach o answers ns es L → AnswerEach (schema_answers o.world) ns es L
-  schemas_answer ns es L h = AllZip-implies (λ n e. Stands o answers n e.1 (L // e.0)) (λ n e. AnswersFor (schema_answers o.world) n e L) (λ n e s. schema_answer n e L s) ns es h
+  pub schemas_answer : (ns : List N) (es : Rows) (L : Path) → StandEach I answers ns es L → AnswerEach (schema_answers I.steps) ns es L
+  schemas_answer ns es L h = AllZip-implies (λ n e. StandsBy I answers n e.1 (L // e.0)) (λ n e. AnswersFor (schema_answers I.steps) n e L) (λ n e s. schema_answer n e L s) ns es h
 
   -- ---- one node, the last of several
 
   -- the one place that is read has one node
-  pub last_stands : (before : List N) {ns : List N} {n : N} {d : Data} {L : Path} → ns ≡ before ++ n ∷ [] → StandAt o answers Itself ns d L → Stands o answers n d L
-  last_stands before {ns} {n} {d} {L} e h = by before (subst (λ l. StandAt o answers Itself l d L) e h)
+  pub last_stands : (before : List N) {ns : List N} {n : N} {d : Data} {L : Path} → ns ≡ before ++ n ∷ [] → StandAt I answers Itself ns d L → StandsBy I answers n d L
+  last_stands before {ns} {n} {d} {L} e h = by before (subst (λ l. StandAt I answers Itself l d L) e h)
     where
-      by : (before : List N) → StandAt o answers Itself (before ++ n ∷ []) d L → Stands o answers n d L
+      by : (before : List N) → StandAt I answers Itself (before ++ n ∷ []) d L → StandsBy I answers n d L
       by [] g = g
       by (x ∷ []) g = absurd g
       by (x ∷ y ∷ before) g = absurd g
 
   -- and what was taken of it stands for it
-  pub taken_stands : (ns : List N) (t : Option N) (d : Data) (L : Path) → IsLast ns t → StandAt o answers Itself ns d L → Fills (λ n x. Stands o answers n x L) t (Some d)
-  taken_stands ns None d L e h = subst (λ l. StandAt o answers Itself l d L) e h
+  pub taken_stands : (ns : List N) (t : Option N) (d : Data) (L : Path) → IsLast ns t → StandAt I answers Itself ns d L → Fills (λ n x. StandsBy I answers n x L) t (Some d)
+  taken_stands ns None d L e h = subst (λ l. StandAt I answers Itself l d L) e h
   taken_stands ns (Some n) d L e h = last_stands e.0 e.1 h
 
 -- ---- one, or several
@@ -140,7 +141,7 @@ module _ {N : Type 0} (names : List Name) (ns : List N) where
     map_formed (Small m) h size = and_from _ _ (ap (λ ks. nat_lt (length ks) HASHMAP_THRESHOLD) h.0 ∙ lt-ltb (length names) HASHMAP_THRESHOLD size) (paired m.names m.nodes h.0 h.1)
     map_formed (Big m) h size = and_from _ _ (ap (λ ks. not (nat_lt (length ks) HASHMAP_THRESHOLD)) h.0 ∙ ap not (le-ltb (length names) HASHMAP_THRESHOLD size)) (paired m.names m.nodes h.0 h.1)
 
-module _ {K R N : Type 0} (o : Kit K R) (answers : N → Answers) where
+module _ {K R N : Type 0} {o : Kit K R} (I : StepsOf o) (answers : N → Answers) where
   abbrev pub has_form : N → Bool
   has_form n = (answers n).formed
 
@@ -158,27 +159,27 @@ module _ {K R N : Type 0} (o : Kit K R) (answers : N → Answers) where
 
   -- ---- nodes
 
-  pub stand_formed : (ns : List N) (es : Rows) (L : Path) → StandEach o answers ns es L → list_all has_form ns ≡ true
-  stand_formed ns es L h = each_formed o answers (schema_answers o.world) ns es L (schemas_answer o answers ns es L h)
+  pub stand_formed : (ns : List N) (es : Rows) (L : Path) → StandEach I answers ns es L → list_all has_form ns ≡ true
+  stand_formed ns es L h = each_formed I answers (schema_answers I.steps) ns es L (schemas_answer I answers ns es L h)
 
-  pub stand_placed : (ns : List N) (es : Rows) (L : Path) → StandEach o answers ns es L → flat_map stand_in ns ≡ each_placed o.world L es
-  stand_placed ns es L h = each_place o answers (schema_answers o.world) ns es L (schemas_answer o answers ns es L h)
+  pub stand_placed : (ns : List N) (es : Rows) (L : Path) → StandEach I answers ns es L → flat_map stand_in ns ≡ each_placed I.steps L es
+  stand_placed ns es L h = each_place I answers (schema_answers I.steps) ns es L (schemas_answer I answers ns es L h)
 
   -- ---- entries of these names and nodes
 
   module _ (ds : List (Name × N)) (ns : List N) (es : Rows) (L : Path) (held : ds ≡ zip (keys_in es) ns) where
-    module _ (w : EntryAnswers (Name × Data)) (each : AnswerEach o answers w ns es L) where
+    module _ (w : EntryAnswers (Name × Data)) (each : AnswerEach I answers w ns es L) where
       pub each_keys : keys_in ds ≡ keys_in es
-      each_keys = ap keys_in held ∙ firsts-zip (keys_in es) ns (each_count o answers w ns es L each)
+      each_keys = ap keys_in held ∙ firsts-zip (keys_in es) ns (each_count I answers w ns es L each)
 
       pub each_nodes : nodes_in ds ≡ ns
-      each_nodes = ap nodes_in held ∙ seconds-zip (keys_in es) ns (each_count o answers w ns es L each)
+      each_nodes = ap nodes_in held ∙ seconds-zip (keys_in es) ns (each_count I answers w ns es L each)
 
       pub each_held_formed : list_all has_form (nodes_in ds) ≡ true
-      each_held_formed = ap (list_all has_form) each_nodes ∙ each_formed o answers w ns es L each
+      each_held_formed = ap (list_all has_form) each_nodes ∙ each_formed I answers w ns es L each
 
       pub each_held_placed : flat_map stand_in (nodes_in ds) ≡ flat_map (λ e. w.placed e L) es
-      each_held_placed = ap (flat_map stand_in) each_nodes ∙ each_place o answers w ns es L each
+      each_held_placed = ap (flat_map stand_in) each_nodes ∙ each_place I answers w ns es L each
 
   -- ---- validators
 
@@ -207,9 +208,9 @@ module _ {K R N : Type 0} (o : Kit K R) (answers : N → Answers) where
 
   -- over the branches of an array, as it is to stand at M
   pub branches_placed : (k : KeywordOver K R N) (L M : Path) (single other : Form) (ns : List N) (d : Data) → L ≡ M → stand_as k ≡ (L, one_or_other single other (length ns)) ∷ flat_map stand_in ns
-      → StandEach o answers ns (numbered (items_of_array d)) L → flat_map stand_as (k ∷ []) ≡ (M, one_or_other single other (length (items_of_array d))) ∷ each_placed o.world M (numbered (items_of_array d))
+      → StandEach I answers ns (numbered (items_of_array d)) L → flat_map stand_as (k ∷ []) ≡ (M, one_or_other single other (length (items_of_array d))) ∷ each_placed I.steps M (numbered (items_of_array d))
   branches_placed k L M single other ns d p is h = append-nil (stand_as k) ∙ is
-      ∙ (λ i. (p i, one_or_other single other (branches_length o answers ns d L h i)) ∷ (stand_placed ns (numbered (items_of_array d)) L h ∙ ap (λ Z. each_placed o.world Z (numbered (items_of_array d))) p) i)
+      ∙ (λ i. (p i, one_or_other single other (branches_length I answers ns d L h i)) ∷ (stand_placed ns (numbered (items_of_array d)) L h ∙ ap (λ Z. each_placed I.steps Z (numbered (items_of_array d))) p) i)
 
   abbrev pub entry_formed : CompiledPattern R × N → Bool
   entry_formed e = has_form e.1
@@ -221,8 +222,8 @@ module _ {K R N : Type 0} (o : Kit K R) (answers : N → Answers) where
   patterns_hold (keyword.SingleValuePatternProperties k) L es f = single_holds entry_formed (λ e. stand_in e.1) single_pattern_form patterns_form f.1 es (k.value.regex, k.value.node) f.0
   patterns_hold k L es f = absurd f
 
-  pub entries_placed : (es : List (CompiledPattern R × N)) (ds : Rows) (L : Path) → EntriesStand o answers es ds L → flat_map (λ e. stand_in e.1) es ≡ each_placed o.world L ds
-  entries_placed es ds L h = same_flat_map (λ e d. IsPattern o e.0 d.0 × Stands o answers e.1 d.1 (L // d.0)) _ _ (λ e d s. s.1.forms) es ds h
+  pub entries_placed : (es : List (CompiledPattern R × N)) (ds : Rows) (L : Path) → EntriesStand I answers es ds L → flat_map (λ e. stand_in e.1) es ≡ each_placed I.steps L ds
+  entries_placed es ds L h = same_flat_map (λ e d. IsPattern o e.0 d.0 × StandsBy I answers e.1 d.1 (L // d.0)) _ _ (λ e d s. s.1.forms) es ds h
 
   abbrev pub case_in : Option N → List Placed
   case_in c = flat_map stand_in (option_to_list c)
@@ -240,7 +241,7 @@ module _ {K R N : Type 0} (o : Kit K R) (answers : N → Answers) where
       ∙ ap (λ l. (L, if_then_else_form) ∷ l) (sym (λ i. (stand_in n ++ append-nil (stand_in t) i) ++ append-nil (stand_in e) i))
   if_placed L n t e k f = absurd f
 
-  pub case_as : (t : Option N) (a : Option Data) (L : Path) → Fills (λ n d. Stands o answers n d L) t a → case_in t ≡ case_placed o.world L a
+  pub case_as : (t : Option N) (a : Option Data) (L : Path) → Fills (λ n d. StandsBy I answers n d L) t a → case_in t ≡ case_placed I.steps L a
   case_as None None L h = refl
   case_as (Some n) (Some d) L h = ap (λ l. l ++ []) h.forms
   case_as _ _ L h = absurd h

@@ -21,7 +21,6 @@ use Rattle.olk_build.specs.Standing.{is_taken, which, Covers, StandAt, all_malfo
 use Rattle.olk_build.specs.Taking.{rows_taken, rows_read, takes, takes_of, RefusesTaken, IsTaken, MakesTaking, MemberIsBuilt, RefusesMember, GivesMember, Gives}
 use Rattle.olk_spec.specs.Vocabulary.{Keyword, pattern_properties, keyword_named}
 use Rattle.olk_spec.proofs.Named.{Named, named as is_named}
-use Rattle.olk_meaning.specs.Chosen.{standing_step}
 use Rattle.olk_meaning.specs.Members.{member_child, member_standing}
 use Rattle.olk_meaning.proofs.Standing.{properties_stand_elsewhere, patterns_stand_elsewhere}
 use Rattle.olk_meaning.specs.PatternProperties.{open_names, names_asked}
@@ -44,6 +43,7 @@ use Rattle.olk_base.specs.{Count.Counts, Kit.Kit}
 use Rattle.olk_reports.specs.{declared.error.BuildError.BuildError, declared.error.BuildError.TheVariants.Memory}
 use Rattle.olk_tree.specs.{Answers.Answers, declared.node.KeywordOver.KeywordOver}
 use Rattle.olk_build.specs.{declared.part.Part.Part, declared.part.Taken.Taken, Making.KeywordsMean}
+use Rattle.olk_tree.specs.Steps.{StepsOf}
 
 -- ---- in another order
 
@@ -214,7 +214,7 @@ module _ {K R N : Type 0} (ms : Members) (P : Path) (named : Name → Keyword) w
 
 -- ---- where another keyword takes what a member holds, it claims nothing, shows nothing and has no validator
 
-module _ {K R : Type 0} (o : Kit K R) (ms : Members) (P : Path) (m : Name × Data) (taken : is_taken (plan_of ms) m.0 ≡ true) where
+module _ {K R : Type 0} {o : Kit K R} (I : StepsOf o) (ms : Members) (P : Path) (m : Name × Data) (taken : is_taken (plan_of ms) m.0 ≡ true) where
   -- what holds of each of the four names where it is taken holds of the member's
   of_each_taken : (G : Name → Type 0) → (is_restricted ms ≡ true → G (codes "properties")) → (is_restricted ms ≡ true → G (codes "patternProperties"))
       → (is_condition ms ≡ true → G (codes "then")) → (is_condition ms ≡ true → G (codes "else")) → G m.0
@@ -240,14 +240,14 @@ module _ {K R : Type 0} (o : Kit K R) (ms : Members) (P : Path) (m : Name × Dat
   taken_claims_none = of_each_taken (λ k. claims (head (plan_of ms)) (listed ms) (k, m.1) ≡ []) (λ r. claims_no_properties ms r (listed ms) m.1)
       (λ r. claims_no_patterns ms r (listed ms) m.1) (λ c. claims_no_case (plan_of ms) c (listed ms) (codes "then", m.1) refl) (λ c. claims_no_case (plan_of ms) c (listed ms) (codes "else", m.1) refl)
 
-  taken_shows_none : (u : Bool) (v : Data) (Q : Path) → member_child o.world ms m (which o ms m) u v P Q ≡ []
-  taken_shows_none u v Q = of_each_taken (λ k. member_child o.world ms (k, m.1) (which o ms (k, m.1)) u v P Q ≡ [])
-      (λ r. properties_show_none o.world ms u v P Q m.1 r) (λ r. patterns_show_none o.world ms u v P Q m.1 r) (λ c. refl) (λ c. refl)
+  taken_shows_none : (u : Bool) (v : Data) (Q : Path) → member_child I.steps ms m (which o ms m) u v P Q ≡ []
+  taken_shows_none u v Q = of_each_taken (λ k. member_child I.steps ms (k, m.1) (which o ms (k, m.1)) u v P Q ≡ [])
+      (λ r. properties_show_none I.steps ms u v P Q m.1 r) (λ r. patterns_show_none I.steps ms u v P Q m.1 r) (λ c. refl) (λ c. refl)
 
-  taken_stands_nowhere : member_standing o.world ms m (which o ms m) P ≡ []
-  taken_stands_nowhere = of_each_taken (λ k. member_standing o.world ms (k, m.1) (which o ms (k, m.1)) P ≡ [])
-      (λ r. properties_stand_elsewhere o.world ms P m.1 (restricted_read (standing_step o.world) ms ∙ r))
-      (λ r. patterns_stand_elsewhere o.world ms P m.1 (restricted_read (standing_step o.world) ms ∙ r)) (λ c. refl) (λ c. refl)
+  taken_stands_nowhere : member_standing I.steps ms m (which o ms m) P ≡ []
+  taken_stands_nowhere = of_each_taken (λ k. member_standing I.steps ms (k, m.1) (which o ms (k, m.1)) P ≡ [])
+      (λ r. properties_stand_elsewhere I.steps ms P m.1 (restricted_read I.steps.stands ms ∙ r))
+      (λ r. patterns_stand_elsewhere I.steps ms P m.1 (restricted_read I.steps.stands ms ∙ r)) (λ c. refl) (λ c. refl)
 
   taken_has_none : has_no_validator ms (which o ms m) m.1 ≡ true
   taken_has_none = of_each_taken (λ k. has_no_validator ms (which o ms (k, m.1)) m.1 ≡ true) (λ r. r) (λ r. r) (λ c. refl) (λ c. refl)
@@ -255,8 +255,8 @@ module _ {K R : Type 0} (o : Kit K R) (ms : Members) (P : Path) (m : Name × Dat
 -- ---- one member
 
 -- for a member that is not taken nothing is counted later
-module _ {K R N : Type 0} (o : Kit K R) (answers : N → Answers) (ms : Members) (k : Name) (d : Data) (untaken : is_taken (plan_of ms) k ≡ false) where
-  none_later : later_cost o ms d (keyword_named o.world k) ≡ no_cost
+module _ {K R N : Type 0} {o : Kit K R} (I : StepsOf o) (answers : N → Answers) (ms : Members) (k : Name) (d : Data) (untaken : is_taken (plan_of ms) k ≡ false) where
+  none_later : later_cost I ms d (keyword_named o.world k) ≡ no_cost
   none_later = by (keyword_named o.world k) (is_named k o.world)
     where
       no_name : (b : Bool) → b ≡ false → names_asked o.world (cond b (declared_beside ms) []) d ≡ no_cost
@@ -266,29 +266,29 @@ module _ {K R N : Type 0} (o : Kit K R) (answers : N → Answers) (ms : Members)
           none : 0 * length (open_names o.world d) ≡ 0
           none = omega arith
 
-      by : (w : Keyword) → Named k w → later_cost o ms d w ≡ no_cost
-      by pattern_properties n = no_name (is_restricted ms) (unrestricted_if_untaken o answers (plan_of ms) k (ap tells_members n) untaken)
+      by : (w : Keyword) → Named k w → later_cost I ms d w ≡ no_cost
+      by pattern_properties n = no_name (is_restricted ms) (unrestricted_if_untaken I answers (plan_of ms) k (ap tells_members n) untaken)
       by w n = refl
 
-module _ {K R N : Type 0} (o : Kit K R) (answers : N → Answers) (ms : Members) (P : Path) (k : Name) (d : Data) (b : Counts) where
+module _ {K R N : Type 0} {o : Kit K R} (I : StepsOf o) (answers : N → Answers) (ms : Members) (P : Path) (k : Name) (d : Data) (b : Counts) where
   -- it is taken by another
-  pub taken_built : is_taken (plan_of ms) k ≡ true → MemberIsBuilt o ms (k, d) P b b answers None
+  pub taken_built : is_taken (plan_of ms) k ≡ true → MemberIsBuilt I ms (k, d) P b b answers None
   taken_built taken = record {
     made = record {
       means = record {
-        covers = subst (λ rows. Covers o answers ms [] rows P) (sym (taken_claims_none o ms P (k, d) taken)) (no_keywords_mean o answers ms P [] refl).covers;
-        shows = λ clean u v Q. sym (append-nil _ ∙ taken_shows_none o ms P (k, d) taken u v Q);
+        covers = subst (λ rows. Covers I answers ms [] rows P) (sym (taken_claims_none I ms P (k, d) taken)) (no_keywords_mean I answers ms P [] refl).covers;
+        shows = λ clean u v Q. sym (append-nil _ ∙ taken_shows_none I ms P (k, d) taken u v Q);
         formed = refl;
-        forms = λ clean. sym (append-nil _ ∙ taken_stands_nowhere o ms P (k, d) taken);
+        forms = λ clean. sym (append-nil _ ∙ taken_stands_nowhere I ms P (k, d) taken);
       };
-      chosen = taken_has_none o ms P (k, d) taken;
+      chosen = taken_has_none I ms P (k, d) taken;
     };
-    clean = ap (λ x. flat_map (wrong o ms P) (cond x [] ((k, d) ∷ rows_taken ms (takes (plan_of ms) k)))) taken;
-    spends = subst (λ x. Spends b b (total_cost (costs o ms P) (cond x [] ((k, d) ∷ rows_taken ms (takes (plan_of ms) k))))) (sym taken) (spends_nothing b);
+    clean = ap (λ x. flat_map (wrong I ms P) (cond x [] ((k, d) ∷ rows_taken ms (takes (plan_of ms) k)))) taken;
+    spends = subst (λ x. Spends b b (total_cost (costs I ms P) (cond x [] ((k, d) ∷ rows_taken ms (takes (plan_of ms) k))))) (sym taken) (spends_nothing b);
   }
 
   -- nothing is read yet
-  pub unread_memory : {w : AllocError} (r : BuildError) → r ≡ Memory w → RefusesMember o ms (k, d) P b b r
+  pub unread_memory : {w : AllocError} (r : BuildError) → r ≡ Memory w → RefusesMember I ms (k, d) P b b r
   unread_memory r x = refuses_memory within_nothing r x
 
   -- it stays, and is read with what it takes
@@ -299,45 +299,45 @@ module _ {K R N : Type 0} (o : Kit K R) (answers : N → Answers) (ms : Members)
     read_here : rows_read ms (k, d) ≡ rows
     read_here = ap (λ x. cond x [] rows) untaken
 
-    refused_here : {c : Counts} {r : BuildError} → Refuses (flat_map (wrong o ms P) rows) (total_cost (costs o ms P) rows) b c r → RefusesMember o ms (k, d) P b c r
-    refused_here {c} {r} w = subst (λ l. Refuses (flat_map (wrong o ms P) l) (total_cost (costs o ms P) l) b c r) (sym read_here) w
+    refused_here : {c : Counts} {r : BuildError} → Refuses (flat_map (wrong I ms P) rows) (total_cost (costs I ms P) rows) b c r → RefusesMember I ms (k, d) P b c r
+    refused_here {c} {r} w = subst (λ l. Refuses (flat_map (wrong I ms P) l) (total_cost (costs I ms P) l) b c r) (sym read_here) w
 
     module _ {c : Known} (known : c ≡ known_of ms) {L : Path} (place : L ≡ P // k) {n : Name} (same : n ≡ k) where
-      pub part_refused : {z : Counts} {r : BuildError} → RefusesPart o c n d L b z r → RefusesMember o ms (k, d) P b z r
-      part_refused {z} {r} w = refused_here (first_refused o ms P ((k, d) ∷ []) (rows_taken ms (takes (plan_of ms) k))
-          (refuses_among (wrong o ms P) (costs o ms P) ((k, d) ∷ []) b z [] (k, d) [] b r refl (spends_nothing b)
-          (subst (λ i. RefusesPart o c i d L b z r) same w ms P place (subst (λ x. IsKnown x ms k) (sym known) (there_known o ms P k d found)))))
+      pub part_refused : {z : Counts} {r : BuildError} → RefusesPart I c n d L b z r → RefusesMember I ms (k, d) P b z r
+      part_refused {z} {r} w = refused_here (first_refused I ms P ((k, d) ∷ []) (rows_taken ms (takes (plan_of ms) k))
+          (refuses_among (wrong I ms P) (costs I ms P) ((k, d) ∷ []) b z [] (k, d) [] b r refl (spends_nothing b)
+          (subst (λ i. RefusesPart I c i d L b z r) same w ms P place (subst (λ x. IsKnown x ms k) (sym known) (there_known I ms P k d found)))))
 
-      module _ {part : Part K R N} {y : Counts} (built : IsPart o answers part c n d L b y) where
-        part_here : PartsAreBuilt o answers ms (part ∷ []) ((k, d) ∷ []) P b y
-        part_here = subst (λ i. IsPart o answers part c i d L b y) same built ms P place (subst (λ x. IsKnown x ms k) (sym known) (there_known o ms P k d found))
+      module _ {part : Part K R N} {y : Counts} (built : IsPart I answers part c n d L b y) where
+        part_here : PartsAreBuilt I answers ms (part ∷ []) ((k, d) ∷ []) P b y
+        part_here = subst (λ i. IsPart I answers part c i d L b y) same built ms P place (subst (λ x. IsKnown x ms k) (sym known) (there_known I ms P k d found))
 
         same_rows : takes_of part.shape ≡ takes (plan_of ms) k
-        same_rows = same_takes o answers ms part.shape k d part_here.stand.0.shape part_here.stand.0.fits found
+        same_rows = same_takes I answers ms part.shape k d part_here.stand.0.shape part_here.stand.0.fits found
 
         -- no other member's names are asked for it
-        part_spent : Spends b y (total_cost (costs o ms P) ((k, d) ∷ []))
-        part_spent = nothing_later part_here.spends (sum_last _ ∙ none_later o answers ms k d untaken)
+        part_spent : Spends b y (total_cost (costs I ms P) ((k, d) ∷ []))
+        part_spent = nothing_later part_here.spends (sum_last _ ∙ none_later I answers ms k d untaken)
 
-        pub taken_refused : {z : Counts} {r : BuildError} → RefusesTaken o ms (takes_of part.shape) P y z r → RefusesMember o ms (k, d) P b z r
-        taken_refused {z} {r} w = refused_here (second_refused o ms P ((k, d) ∷ []) (rows_taken ms (takes (plan_of ms) k)) y (within_exactly part_spent)
-            (subst (λ t. RefusesTaken o ms t P y z r) same_rows w))
+        pub taken_refused : {z : Counts} {r : BuildError} → RefusesTaken I ms (takes_of part.shape) P y z r → RefusesMember I ms (k, d) P b z r
+        taken_refused {z} {r} w = refused_here (second_refused I ms P ((k, d) ∷ []) (rows_taken ms (takes (plan_of ms) k)) y (within_exactly part_spent)
+            (subst (λ t. RefusesTaken I ms t P y z r) same_rows w))
 
-        module _ {t : Taken R N} {z : Counts} (taken : IsTaken o answers ms part.shape P y z t) where
-          spent : Spends b z (total_cost (costs o ms P) rows)
-          spent = both_spent o ms P ((k, d) ∷ []) (rows_taken ms (takes (plan_of ms) k)) b y z part_spent (subst (λ t. Spends y z (total_cost (costs o ms P) (rows_taken ms t))) same_rows taken.spends)
+        module _ {t : Taken R N} {z : Counts} (taken : IsTaken I answers ms part.shape P y z t) where
+          spent : Spends b z (total_cost (costs I ms P) rows)
+          spent = both_spent I ms P ((k, d) ∷ []) (rows_taken ms (takes (plan_of ms) k)) b y z part_spent (subst (λ t. Spends y z (total_cost (costs I ms P) (rows_taken ms t))) same_rows taken.spends)
 
-          pub read_memory : {w : AllocError} (r : BuildError) → r ≡ Memory w → RefusesMember o ms (k, d) P b z r
+          pub read_memory : {w : AllocError} (r : BuildError) → r ≡ Memory w → RefusesMember I ms (k, d) P b z r
           read_memory r x = refused_here (refuses_memory (within_exactly spent) r x)
 
           pub member_built : {q : Planned} {r : Option (KeywordOver K R N)} → has_repeat (map (λ m. m.0) (listed ms)) ≡ false → q ≡ plan_of ms
-              → MakesTaking o answers part.shape part.location part.nodes.items t P q r → MemberIsBuilt o ms (k, d) P b z answers r
+              → MakesTaking I answers part.shape part.location part.nodes.items t P q r → MemberIsBuilt I ms (k, d) P b z answers r
           member_built {q} distinct plan makes =
               let s = part_here.stand.0 in
               record {
-                made = makes ms (k, d) s.place s.shape s.fits (subst (λ l. StandAt o answers (reads_of part.shape) part.nodes.items d l) (sym s.place) s.nodes) taken.stands distinct found plan (ap (λ p. is_taken p k) plan ∙ untaken);
-                clean = ap (flat_map (wrong o ms P)) read_here ∙ flat_map-append (wrong o ms P) ((k, d) ∷ []) (rows_taken ms (takes (plan_of ms) k)) ∙ (λ i. part_here.clean i ++ (ap (λ t. flat_map (wrong o ms P) (rows_taken ms t)) (sym same_rows) ∙ taken.clean) i);
-                spends = subst (λ l. Spends b z (total_cost (costs o ms P) l)) (sym read_here) spent;
+                made = makes ms (k, d) s.place s.shape s.fits (subst (λ l. StandAt I answers (reads_of part.shape) part.nodes.items d l) (sym s.place) s.nodes) taken.stands distinct found plan (ap (λ p. is_taken p k) plan ∙ untaken);
+                clean = ap (flat_map (wrong I ms P)) read_here ∙ flat_map-append (wrong I ms P) ((k, d) ∷ []) (rows_taken ms (takes (plan_of ms) k)) ∙ (λ i. part_here.clean i ++ (ap (λ t. flat_map (wrong I ms P) (rows_taken ms t)) (sym same_rows) ∙ taken.clean) i);
+                spends = subst (λ l. Spends b z (total_cost (costs I ms P) l)) (sym read_here) spent;
               }
 
         -- one that takes nothing
@@ -345,23 +345,23 @@ module _ {K R N : Type 0} (o : Kit K R) (answers : N → Answers) (ms : Members)
           takes_none : takes_of part.shape ≡ None
           takes_none = absent_if (takes_of part.shape) (sym is ∙ no)
 
-          none_here : IsTaken o answers ms part.shape P y y nothing
+          none_here : IsTaken I answers ms part.shape P y y nothing
           none_here = takes_nothing takes_none
 
-          pub alone_memory : {w : AllocError} (r : BuildError) → r ≡ Memory w → RefusesMember o ms (k, d) P b y r
+          pub alone_memory : {w : AllocError} (r : BuildError) → r ≡ Memory w → RefusesMember I ms (k, d) P b y r
           alone_memory r x = read_memory none_here r x
 
           pub alone_built : {q : Planned} {r : Option (KeywordOver K R N)} → has_repeat (map (λ m. m.0) (listed ms)) ≡ false → q ≡ plan_of ms
-              → (takes_of part.shape ≡ None → (t : Taken R N) → MakesTaking o answers part.shape part.location part.nodes.items t P q r) → MemberIsBuilt o ms (k, d) P b y answers r
+              → (takes_of part.shape ≡ None → (t : Taken R N) → MakesTaking I answers part.shape part.location part.nodes.items t P q r) → MemberIsBuilt I ms (k, d) P b y answers r
           alone_built distinct plan makes = member_built none_here distinct plan (makes takes_none nothing)
 
 -- ---- what is given of it
 
-module _ {K R N : Type 0} (o : Kit K R) (answers : N → Answers) (ms : Members) (m : Name × Data) (P : Path) (a b : Counts) where
+module _ {K R N : Type 0} {o : Kit K R} (I : StepsOf o) (answers : N → Answers) (ms : Members) (m : Name × Data) (P : Path) (a b : Counts) where
   abbrev Built : Result (Option (KeywordOver K R N)) BuildError → Type 0
-  Built r = IsMember ms m → IfOk r (MemberIsBuilt o ms m P a b answers)
+  Built r = IsMember ms m → IfOk r (MemberIsBuilt I ms m P a b answers)
 
-  pub gives_member : (r : Result (Option (KeywordOver K R N)) BuildError) → Built r → (IsMember ms m → IfErr r (RefusesMember o ms m P a b)) → GivesMember o ms m P a b answers (result_transpose r)
+  pub gives_member : (r : Result (Option (KeywordOver K R N)) BuildError) → Built r → (IsMember ms m → IfErr r (RefusesMember I ms m P a b)) → GivesMember I ms m P a b answers (result_transpose r)
   gives_member (Ok (Some x)) h f = λ member. (h member, tt)
   gives_member (Ok None) h f = λ member. tt
   gives_member (Err e) h f = λ member. (tt, f member)
@@ -389,53 +389,53 @@ module _ {X : Type 0} (f : X → List Fault) where
 
 -- ---- member by member
 
-module _ {K R N : Type 0} (o : Kit K R) (answers : N → Answers) (ms : Members) (P : Path) where
+module _ {K R N : Type 0} {o : Kit K R} (I : StepsOf o) (answers : N → Answers) (ms : Members) (P : Path) where
   -- what is wrong with the members that are read for a member, and what they cost
   abbrev wrong_read : Name × Data → List Fault
-  wrong_read m = flat_map (wrong o ms P) (rows_read ms m)
+  wrong_read m = flat_map (wrong I ms P) (rows_read ms m)
 
   abbrev cost_read : Name × Data → Cost
-  cost_read m = total_cost (costs o ms P) (rows_read ms m)
+  cost_read m = total_cost (costs I ms P) (rows_read ms m)
 
   -- the keywords so far mean what the members so far claim
   pub record KeywordsSoFar (q : Planned) (a : Counts) (ks : List (KeywordOver K R N)) (left : Rows) (b : Counts) : Type 0 where
     pub plan : q ≡ plan_of ms
     pub distinct : has_repeat (map (λ m. m.0) (listed ms)) ≡ false
-    pub so_far : SoFar wrong_read cost_read (λ ks done. KeywordsMean o answers ms ks (flat_map (claims (head (plan_of ms)) (listed ms)) done) done P × AreChosen ms P (keyword_named o.world) done ks) (listed ms) a ks left b
+    pub so_far : SoFar wrong_read cost_read (λ ks done. KeywordsMean I answers ms ks (flat_map (claims (head (plan_of ms)) (listed ms)) done) done P × AreChosen ms P (keyword_named o.world) done ks) (listed ms) a ks left b
 
   module _ (distinct : has_repeat (map (λ m. m.0) (listed ms)) ≡ false) where
-    all_of_it : total_cost cost_read (listed ms) ≡ all_cost o ms (listed ms)
-    all_of_it = sym (total_cost-flat_map (rows_read ms) (costs o ms P) (listed ms)) ∙ total_cost-permuted (costs o ms P) _ _ (rows_read_are_all ms distinct)
+    all_of_it : total_cost cost_read (listed ms) ≡ all_cost I ms (listed ms)
+    all_of_it = sym (total_cost-flat_map (rows_read ms) (costs I ms P) (listed ms)) ∙ total_cost-permuted (costs I ms P) _ _ (rows_read_are_all ms distinct)
 
     -- what is refused for all that is read is refused for the object
-    refused_for_all : {a b : Counts} {e : BuildError} → Refuses (flat_map wrong_read (listed ms)) (total_cost cost_read (listed ms)) a b e → RefusesObject o ms P a b e
+    refused_for_all : {a b : Counts} {e : BuildError} → Refuses (flat_map wrong_read (listed ms)) (total_cost cost_read (listed ms)) a b e → RefusesObject I ms P a b e
     refused_for_all {a} {b} {e} h = record {
-      tells = tells (flat_map wrong_read (listed ms)) (all_malformed o ms P (listed ms))
-          (λ f c. Contains-permutation _ _ f (flat_map_turned (wrong o ms P) _ _ (rows_read_are_all ms distinct)) (subst (λ l. Contains l f) (sym (flat_map-flat_map (rows_read ms) (wrong o ms P) (listed ms))) c)) e h.tells;
+      tells = tells (flat_map wrong_read (listed ms)) (all_malformed I ms P (listed ms))
+          (λ f c. Contains-permutation _ _ f (flat_map_turned (wrong I ms P) _ _ (rows_read_are_all ms distinct)) (subst (λ l. Contains l f) (sym (flat_map-flat_map (rows_read ms) (wrong I ms P) (listed ms))) c)) e h.tells;
       spends = within_same all_of_it h.spends;
     }
 
-module _ {K R N : Type 0} {o : Kit K R} {answers : N → Answers} {ms : Members} {P : Path} {q : Planned} {a : Counts} where
+module _ {K R N : Type 0} {o : Kit K R} {I : StepsOf o} {answers : N → Answers} {ms : Members} {P : Path} {q : Planned} {a : Counts} where
   pub no_keywords_so_far : {ks : List (KeywordOver K R N)} {all : Rows} → q ≡ plan_of ms → has_repeat (map (λ m. m.0) (listed ms)) ≡ false → ks ≡ [] → all ≡ listed ms
-      → KeywordsSoFar o answers ms P q a ks all a
+      → KeywordsSoFar I answers ms P q a ks all a
   no_keywords_so_far {ks} plan distinct e w = record {
     plan = plan;
     distinct = distinct;
-    so_far = none_so_far (no_keywords_mean o answers ms P ks e, subst (HaveForms ms P (keyword_named o.world) []) (sym e) tt) w;
+    so_far = none_so_far (no_keywords_mean I answers ms P ks e, subst (HaveForms ms P (keyword_named o.world) []) (sym e) tt) w;
   }
 
-  module _ {ks : List (KeywordOver K R N)} {left : Rows} {b : Counts} (h : KeywordsSoFar o answers ms P q a ks left b) where
-    pub keywords_memory : {w : AllocError} (e : BuildError) → e ≡ Memory w → RefusesObject o ms P a b e
-    keywords_memory e r = refused_for_all o answers ms P h.distinct (memory_so_far h.so_far e r)
+  module _ {ks : List (KeywordOver K R N)} {left : Rows} {b : Counts} (h : KeywordsSoFar I answers ms P q a ks left b) where
+    pub keywords_memory : {w : AllocError} (e : BuildError) → e ≡ Memory w → RefusesObject I ms P a b e
+    keywords_memory e r = refused_for_all I answers ms P h.distinct (memory_so_far h.so_far e r)
 
-    pub object_is_built : left ≡ [] → ObjectIsBuilt o ms answers ks P a b
+    pub object_is_built : left ≡ [] → ObjectIsBuilt I ms answers ks P a b
     object_is_built e =
         let all = all_so_far h.so_far e in
         record {
-          mean = heads_mean_all o answers ms P (head (plan_of ms)) ks h.distinct (heads_there ms h.distinct (plan_of ms) refl) all.stand.0;
+          mean = heads_mean_all I answers ms P (head (plan_of ms)) ks h.distinct (heads_there ms h.distinct (plan_of ms) refl) all.stand.0;
           chosen = all.stand.1;
-          clean = none_permuted (wrong o ms P) _ _ (rows_read_are_all ms h.distinct) (flat_map-flat_map (rows_read ms) (wrong o ms P) (listed ms) ∙ all.clean);
-          spends = spends_same a b _ _ (all_of_it o answers ms P h.distinct) all.spends;
+          clean = none_permuted (wrong I ms P) _ _ (rows_read_are_all ms h.distinct) (flat_map-flat_map (rows_read ms) (wrong I ms P) (listed ms) ∙ all.clean);
+          spends = spends_same a b _ _ (all_of_it I answers ms P h.distinct) all.spends;
         }
 
     -- the next member
@@ -447,15 +447,15 @@ module _ {K R N : Type 0} {o : Kit K R} {answers : N → Answers} {ms : Members}
       pub next_taken : {t u : Bool} → t ≡ is_taken q m.0 → t ≡ u → is_taken (plan_of ms) m.0 ≡ u
       next_taken e f = ap (λ p. is_taken p m.0) (sym h.plan) ∙ sym e ∙ f
 
-      pub next_refused : {c : Counts} {e : BuildError} → RefusesMember o ms m P b c e → RefusesObject o ms P a c e
-      next_refused w = refused_for_all o answers ms P h.distinct (refused_so_far h.so_far here w)
+      pub next_refused : {c : Counts} {e : BuildError} → RefusesMember I ms m P b c e → RefusesObject I ms P a c e
+      next_refused w = refused_for_all I answers ms P h.distinct (refused_so_far h.so_far here w)
 
-      pub one_more : {new : List (KeywordOver K R N)} {c : Counts} {r : Option (KeywordOver K R N)} → MemberIsBuilt o ms m P b c answers r → new ≡ ks ++ option_to_list r → KeywordsSoFar o answers ms P q a new next c
+      pub one_more : {new : List (KeywordOver K R N)} {c : Counts} {r : Option (KeywordOver K R N)} → MemberIsBuilt I ms m P b c answers r → new ≡ ks ++ option_to_list r → KeywordsSoFar I answers ms P q a new next c
       one_more {new} {r = r} built e = record {
         plan = h.plan;
         distinct = h.distinct;
         so_far = one_more_so_far h.so_far here built.spends (
-          one_more_keyword o answers ms P (head (plan_of ms)) ks (option_to_list r) new h.so_far.done m e h.so_far.built.stand.0 built.made.means,
+          one_more_keyword I answers ms P (head (plan_of ms)) ks (option_to_list r) new h.so_far.done m e h.so_far.built.stand.0 built.made.means,
           subst (AreChosen ms P (keyword_named o.world) (h.so_far.done ++ m ∷ [])) (sym e) (one_more_chosen ms P (keyword_named o.world) m r built.made.chosen h.so_far.done ks h.so_far.built.stand.1),
         ) built.clean;
       }

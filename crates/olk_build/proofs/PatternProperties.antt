@@ -9,7 +9,6 @@ use Rattle.olk_spec.specs.World.{reads_as, is_unfinished}
 use Rattle.olk_spec.specs.Faults.{Fault, ◌∼◌, like_through}
 use Rattle.olk_spec.specs.Schemas.{is_object, members}
 use Rattle.olk_spec.specs.Meanings.{matches, is_open}
-use Rattle.olk_spec.specs.Meaning.{accepts, asks, report, tree}
 use Rattle.olk_spec.specs.Tree.{Tree, result}
 use Rattle.olk_spec.proofs.Order.{∼_same, ∼_flat_map_any}
 use Rattle.olk_base.specs.Compiled.{pattern_answers, pattern_costs}
@@ -32,9 +31,11 @@ use Rattle.olk_meaning.proofs.{Rows.Rows, PatternProperties.pattern_properties_t
 use Rattle.std.proofs.{lemmas.List.Sums.sum_by-cons, Math.Bool.and-true}
 use Rattle.olk_tree.proofs.{Answering.more_within, RestrictedAsks.open_counts}
 use Rattle.olk_base.specs.{Kit.Kit, declared.pattern.CompiledPattern.CompiledPattern}
-use Rattle.olk_tree.specs.{Validators.answers_of, declared.node.KeywordOver.KeywordOver, Answers.Answers, Places.Stands}
+use Rattle.olk_tree.specs.{Validators.answers_of, declared.node.KeywordOver.KeywordOver, Answers.Answers}
 use Rattle.olk_tree.specs.declared.node.KeywordOver.TheVariants as keyword
 use Rattle.olk_build.specs.declared.shape.Shape.TheVariants as shape
+use Rattle.olk_meaning.specs.Steps.{accepts, asks, report, tree}
+use Rattle.olk_tree.specs.Steps.{StandsBy, StepsOf}
 
 -- ---- patterns and nodes side by side
 
@@ -56,7 +57,7 @@ module _ {P N : Type 0} where
       none [] = refl
       none (p ∷ ps) = refl
 
-module _ {K R N : Type 0} (o : Kit K R) (answers : N → Answers) where
+module _ {K R N : Type 0} {o : Kit K R} (I : StepsOf o) (answers : N → Answers) where
   abbrev Entry : Type 0
   Entry = CompiledPattern R × N
 
@@ -67,17 +68,17 @@ module _ {K R N : Type 0} (o : Kit K R) (answers : N → Answers) where
 
   module _ (u : Bool) (v : Data) where
     abbrev entry_report : Path → Path → Name × Data → List Fault
-    entry_report L Q d = flat_map (λ x. report o.world u d.1 x.1 (L // d.0) (Q // x.0)) (matched_members o.world u d.0 v)
+    entry_report L Q d = flat_map (λ x. report I.steps u d.1 x.1 (L // d.0) (Q // x.0)) (matched_members o.world u d.0 v)
 
     abbrev entry_trees : Path → Path → Name × Data → List Tree
-    entry_trees L Q d = map (λ x. tree o.world u d.1 x.1 (L // d.0) (Q // x.0)) (matched_members o.world u d.0 v)
+    entry_trees L Q d = map (λ x. tree I.steps u d.1 x.1 (L // d.0) (Q // x.0)) (matched_members o.world u d.0 v)
 
     abbrev entry_names : Name × Data → List Name
     entry_names d = map (λ x. x.0) (matched_members o.world u d.0 v)
 
   -- ---- one pattern
 
-  module _ (e : Entry) (d : Name × Data) (L : Path) (h : IsPattern o e.0 d.0) (s : Stands o answers e.1 d.1 (L // d.0)) (u : Bool) where
+  module _ (e : Entry) (d : Name × Data) (L : Path) (h : IsPattern o e.0 d.0) (s : StandsBy I answers e.1 d.1 (L // d.0)) (u : Bool) where
     matched_same : (v : Data) → matched o.answers u e.0 v ≡ matched_members o.world u d.0 v
     matched_same v = λ i. filter_once (λ x. reads_as u (h.answers x.0 i)) (members v)
 
@@ -85,17 +86,17 @@ module _ {K R N : Type 0} (o : Kit K R) (answers : N → Answers) where
     ask_member x = matches o.world u d.0 x.0
 
     matched_accept : (xs : Rows) → (every (λ x. conditional (match_question o.answers o.costs e.0 x.0) ((answers e.1).means x.1) (always true)) xs).accepts u ≡ list_all
-        (λ x. accepts o.world u d.1 x.1) (filter_once ask_member xs)
+        (λ x. accepts I.steps u d.1 x.1) (filter_once ask_member xs)
     matched_accept [] = refl
     matched_accept (x ∷ xs) = (λ i. cond (reads_as u (h.answers x.0 i)) (s.verdict u x.1 i) true && matched_accept xs i) ∙ by (ask_member x)
       where
-        by : (b : Bool) → (cond b (accepts o.world u d.1 x.1) true && list_all (λ y. accepts o.world u d.1 y.1) (filter_once ask_member xs)) ≡ list_all
-            (λ y. accepts o.world u d.1 y.1) (put_if b x (filter_once ask_member xs))
+        by : (b : Bool) → (cond b (accepts I.steps u d.1 x.1) true && list_all (λ y. accepts I.steps u d.1 y.1) (filter_once ask_member xs)) ≡ list_all
+            (λ y. accepts I.steps u d.1 y.1) (put_if b x (filter_once ask_member xs))
         by true = refl
         by false = refl
 
     abbrev asked_member : Name × Data → ℕ
-    asked_member x = pattern_asks o.world d.0 + cond (matches o.world u d.0 x.0) (asks o.world u d.1 x.1) 0
+    asked_member x = pattern_asks o.world d.0 + cond (matches o.world u d.0 x.0) (asks I.steps u d.1 x.1) 0
 
     abbrev counts : Name × Data → ℕ
     counts x = cond {A = ℕ} (pattern_costs o.costs e.0 || is_unfinished (pattern_answers o.answers e.0 x.0)) 1 0
@@ -110,7 +111,7 @@ module _ {K R N : Type 0} (o : Kit K R) (answers : N → Answers) where
     one_asks : (x : Name × Data) → match_asks x ≤ asked_member x
     one_asks x = by (ask_member x) (ap (reads_as u) (h.answers x.0))
       where
-        by : (b : Bool) → reads_as u (pattern_answers o.answers e.0 x.0) ≡ b → match_asks x ≤ pattern_asks o.world d.0 + cond b (asks o.world u d.1 x.1) 0
+        by : (b : Bool) → reads_as u (pattern_answers o.answers e.0 x.0) ≡ b → match_asks x ≤ pattern_asks o.world d.0 + cond b (asks I.steps u d.1 x.1) 0
         by true q = let c = counted x in let a = ap {B = ℕ} (λ b. cond b (((answers e.1).means x.1).asks of_asked u) 0) q in let w = s.asks_within u x.1 in omega (arith, c, a, w)
         by false q = let c = counted x in let a = ap {B = ℕ} (λ b. cond b (((answers e.1).means x.1).asks of_asked u) 0) q in omega (arith, c, a)
 
@@ -128,18 +129,18 @@ module _ {K R N : Type 0} (o : Kit K R) (answers : N → Answers) where
 
   -- ---- all patterns
 
-  module _ (L : Path) (es : List Entry) (ds : Rows) (h : EntriesStand o answers es ds L) where
+  module _ (L : Path) (es : List Entry) (ds : Rows) (h : EntriesStand I answers es ds L) where
     abbrev StandsFor : Entry → Name × Data → Type 0
-    StandsFor e d = IsPattern o e.0 d.0 × Stands o answers e.1 d.1 (L // d.0)
+    StandsFor e d = IsPattern o e.0 d.0 × StandsBy I answers e.1 d.1 (L // d.0)
 
-    pub all_formed : list_all (entry_formed o answers) es ≡ true
+    pub all_formed : list_all (entry_formed I answers) es ≡ true
     all_formed = all_hold StandsFor _ (λ e d s. s.1.formed) es ds h
 
     module _ (u : Bool) (v : Data) where
-      patterns_accept : (all_mean v es).accepts u ≡ list_all (λ d. list_all (λ x. accepts o.world u d.1 x.1) (matched_members o.world u d.0 v)) ds
+      patterns_accept : (all_mean v es).accepts u ≡ list_all (λ d. list_all (λ x. accepts I.steps u d.1 x.1) (matched_members o.world u d.0 v)) ds
       patterns_accept = every_accepts StandsFor _ u _ (λ e d s. matched_accept e d L s.0 s.1 u (members v)) es ds h
 
-      patterns_ask : (all_mean v es).asks of_asked u ≤ sum_by (λ d. sum_by (λ x. pattern_asks o.world d.0 + cond (matches o.world u d.0 x.0) (asks o.world u d.1 x.1) 0) (members v)) ds
+      patterns_ask : (all_mean v es).asks of_asked u ≤ sum_by (λ d. sum_by (λ x. pattern_asks o.world d.0 + cond (matches o.world u d.0 x.0) (asks I.steps u d.1 x.1) 0) (members v)) ds
       patterns_ask = every_asks StandsFor _ u _ (λ e d s. matched_ask e d L s.0 s.1 u (members v)) es ds h
 
       module _ (Q : Path) where
@@ -162,7 +163,7 @@ module _ {K R N : Type 0} (o : Kit K R) (answers : N → Answers) where
     all_tree l M Q = patterns_tree (λ n. (answers n).tree u) v Q o.answers u M l
 
     of_patterns : (k : KeywordOver K R N) → IsFormOfPatternProperties L es k
-        → Answered o answers k u v ((all_mean v es).accepts u) ((all_mean v es).asks of_asked u) (all_faults es) (all_tree es L)
+        → Answered I answers k u v ((all_mean v es).accepts u) ((all_mean v es).asks of_asked u) (all_faults es) (all_tree es L)
     unfolding answers_of
     of_patterns (keyword.PatternProperties p) f = record {
       verdict = ap (λ l. (all_mean v l).accepts u) f.0;
@@ -178,23 +179,23 @@ module _ {K R N : Type 0} (o : Kit K R) (answers : N → Answers) where
     }
     of_patterns x f = absurd f
 
-  module _ (k : KeywordOver K R N) (L : Path) (es : List Entry) (form : IsFormOfPatternProperties L es k) (d : Data) (stand : EntriesStand o answers es (members d) L) where
-    means_patterns : (ms : Members) (P : Path) → L ≡ P // codes "patternProperties" → KeywordMeans o answers ms (k ∷ []) (codes "patternProperties", d) P
-    means_patterns ms P p = means_told o answers ms k (codes "patternProperties", d) P L (patterns_told o.world (members d)) p (pattern_properties_told o.world ms d) (record {
+  module _ (k : KeywordOver K R N) (L : Path) (es : List Entry) (form : IsFormOfPatternProperties L es k) (d : Data) (stand : EntriesStand I answers es (members d) L) where
+    means_patterns : (ms : Members) (P : Path) → L ≡ P // codes "patternProperties" → KeywordMeans I answers ms (k ∷ []) (codes "patternProperties", d) P
+    means_patterns ms P p = means_told I answers ms k (codes "patternProperties", d) P L (patterns_told I.steps (members d)) p (pattern_properties_told I.steps ms d) (record {
       verdict = λ u v. (of_patterns L es u v k form).verdict ∙ patterns_accept L es (members d) stand u v;
       asks_within = λ u v. let f = (of_patterns L es u v k form).asks_within in let a = patterns_ask L es (members d) stand u v in omega (arith, f, a);
       faults = λ u v Q. like_through (∼_same ((of_patterns L es u v k form).faults Q)) (patterns_find L es (members d) stand u v Q);
       evaluation = λ u v Q. (of_patterns L es u v k form).evaluation Q
           ∙ (λ i. result L Q (cond (is_object v) (Some (patterns_name L es (members d) stand u v Q i)) None) false [] (patterns_show L es (members d) stand u v Q i));
-      formed = (patterns_hold o answers k L es form).0 (all_formed L es (members d) stand);
-    }) (λ own. append-nil (stand_as o answers k) ∙ (patterns_hold o answers k L es form).1
-        ∙ (λ i. (p i, one_or_other single_pattern_form patterns_form (entries_length o answers es (members d) L stand i))
-        ∷ (entries_placed o answers es (members d) L stand ∙ ap (λ M. each_placed o.world M (members d)) p) i) ∙ sym (patterns_stand o.world ms P d own))
+      formed = (patterns_hold I answers k L es form).0 (all_formed L es (members d) stand);
+    }) (λ own. append-nil (stand_as I answers k) ∙ (patterns_hold I answers k L es form).1
+        ∙ (λ i. (p i, one_or_other single_pattern_form patterns_form (entries_length I answers es (members d) L stand i))
+        ∷ (entries_placed I answers es (members d) L stand ∙ ap (λ M. each_placed I.steps M (members d)) p) i) ∙ sym (patterns_stand I.steps ms P d own))
 
   pub makes_pattern_properties : (k : KeywordOver K R N) (L : Path) (v : Vec (CompiledPattern R) Global) (ns : List N) (es : List Entry)
-      → es ≡ zip v.items ns → IsFormOfPatternProperties L es k → MakesMember o answers (shape.PatternProperties v) L ns (k ∷ [])
-  makes_pattern_properties k L v ns es e form ms m P p s h = by_its_name o answers s.0 p
-      (means_patterns k L es form m.1 (subst (λ l. EntriesStand o answers l (members m.1) L) (sym e) (both_stand o answers v.items ns (members m.1) L s.2 h)) ms P)
+      → es ≡ zip v.items ns → IsFormOfPatternProperties L es k → MakesMember I answers (shape.PatternProperties v) L ns (k ∷ [])
+  makes_pattern_properties k L v ns es e form ms m P p s h = by_its_name I answers s.0 p
+      (means_patterns k L es form m.1 (subst (λ l. EntriesStand I answers l (members m.1) L) (sym e) (both_stand I answers v.items ns (members m.1) L s.2 h)) ms P)
 
 -- ---- the form, by how many patterns there are
 

@@ -28,6 +28,7 @@ use Rattle.olk_spec.proofs.{Truth.and_from, Walks.same_name}
 use Rattle.olk_tree.specs.{declared.map.SmallMap.SmallMap, Validators.answers_of, declared.node.KeywordOver.KeywordOver, Answers.Answers, Formed.is_paired}
 use Rattle.olk_tree.specs.declared.node.KeywordOver.TheVariants as keyword
 use Rattle.olk_build.specs.declared.shape.Shape.TheVariants as shape
+use Rattle.olk_tree.specs.Steps.{StepsOf}
 
 -- maps, made of the lists of names and the nodes that are left
 abbrev pub MadeByCutting : {N : Type 0} → List (List Name) × List N → List (SmallMap N) → Type 0
@@ -47,12 +48,12 @@ module _ {N : Type 0} (n : ℕ) (ns taken left : List N) (parts : ns ≡ taken +
   one_cut names len m held ts maps h =
       ((held.0, held.1 ∙ taken_first ∙ ap (λ k. take k ns) (sym len)), subst (λ l. AreCut ts l maps) (left_behind ∙ ap (λ k. drop k ns) (sym len)) h)
 
-module _ {K R N : Type 0} (o : Kit K R) (answers : N → Answers) where
+module _ {K R N : Type 0} {o : Kit K R} (I : StepsOf o) (answers : N → Answers) where
   abbrev SchemaFor : N → Name × Data → Path → Type 0
-  SchemaFor = AnswersFor o answers (schema_answers o.world)
+  SchemaFor = AnswersFor I answers (schema_answers I.steps)
 
   abbrev SchemaEach : List N → Rows → Path → Type 0
-  SchemaEach = AnswerEach o answers (schema_answers o.world)
+  SchemaEach = AnswerEach I answers (schema_answers I.steps)
 
   -- ---- the nodes that are chosen stand for the schemas that are
 
@@ -86,20 +87,20 @@ module _ {K R N : Type 0} (o : Kit K R) (answers : N → Answers) where
   MapsAnswer maps es L = AllZip (λ m e. MapAnswers m e L) maps es
 
   module _ (maps : List (SmallMap N)) (es : Rows) (L : Path) (h : MapsAnswer maps es L) where
-    maps_formed : list_all (λ m. is_paired m.names m.nodes && list_all (has_form o answers) (nodes_in (named m))) maps ≡ true
+    maps_formed : list_all (λ m. is_paired m.names m.nodes && list_all (has_form I answers) (nodes_in (named m))) maps ≡ true
     maps_formed = all_hold (λ m e. MapAnswers m e L) _ (λ m e a. and_from _ _
-        (paired (names_of e.1) a.nodes (each_count o answers _ _ _ _ a.each) m.names m.nodes a.entries.0 a.entries.1) (each_held_formed o answers (named m) _ _ _ a.held _ a.each)) maps es h
+        (paired (names_of e.1) a.nodes (each_count I answers _ _ _ _ a.each) m.names m.nodes a.entries.0 a.entries.1) (each_held_formed I answers (named m) _ _ _ a.held _ a.each)) maps es h
 
     -- the names of each
     maps_names : map (λ m. keys_in (named m)) maps ≡ map (λ e. names_of e.1) es
-    maps_names = same_map (λ m e. MapAnswers m e L) _ _ (λ m e a. each_keys o answers (named m) _ _ _ a.held _ a.each) maps es h
+    maps_names = same_map (λ m e. MapAnswers m e L) _ _ (λ m e a. each_keys I answers (named m) _ _ _ a.held _ a.each) maps es h
 
     -- as many as entries
     maps_count : length maps ≡ length (keys_in es)
     maps_count = sym (AllZip-long (λ m e. MapAnswers m e L) maps es h) ∙ sym (length-map es (λ e. e.0))
 
-    maps_placed : flat_map (λ m. flat_map (stand_in o answers) (nodes_in (named m))) maps ≡ flat_map (λ e. each_placed o.world (L // e.0) (members e.1)) es
-    maps_placed = same_flat_map (λ m e. MapAnswers m e L) _ _ (λ m e a. each_held_placed o answers (named m) _ _ _ a.held _ a.each) maps es h
+    maps_placed : flat_map (λ m. flat_map (stand_in I answers) (nodes_in (named m))) maps ≡ flat_map (λ e. each_placed I.steps (L // e.0) (members e.1)) es
+    maps_placed = same_flat_map (λ m e. MapAnswers m e L) _ _ (λ m e a. each_held_placed I answers (named m) _ _ _ a.held _ a.each) maps es h
 
   module _ (v : Data) where
     chosen_answer : (m : SmallMap N) (e : Name × Data) (L : Path) → MapAnswers m e L → SchemaEach (flat_map (chosen_at m) (at e.0 v)) (chosen v e) (L // e.0)
@@ -111,7 +112,7 @@ module _ {K R N : Type 0} (o : Kit K R) (answers : N → Answers) where
     chosen_of maps es = chosen_nodes (zip (keys_in es) maps) v
 
     -- schemas of an entry, told of the keyword
-    under_key : (k : Name) (ns : List N) (cs : Rows) (L : Path) → SchemaEach ns cs (L // k) → AnswerEach o answers (choice_answers o.world) ns (map (λ c. (k, c.0, c.1)) cs) L
+    under_key : (k : Name) (ns : List N) (cs : Rows) (L : Path) → SchemaEach ns cs (L // k) → AnswerEach I answers (choice_answers I.steps) ns (map (λ c. (k, c.0, c.1)) cs) L
     under_key k [] [] L h = tt
     under_key k (n ∷ ns) (c ∷ cs) L h = (
       record { verdict = h.0.verdict; asks_within = h.0.asks_within; faults = h.0.faults; evaluation = h.0.evaluation; formed = h.0.formed; forms = h.0.forms },
@@ -119,9 +120,9 @@ module _ {K R N : Type 0} (o : Kit K R) (answers : N → Answers) where
     )
     under_key k _ _ L h = absurd h
 
-    choices_answer : (maps : List (SmallMap N)) (es : Rows) (L : Path) → MapsAnswer maps es L → AnswerEach o answers (choice_answers o.world) (chosen_of maps es) (choices es v) L
+    choices_answer : (maps : List (SmallMap N)) (es : Rows) (L : Path) → MapsAnswer maps es L → AnswerEach I answers (choice_answers I.steps) (chosen_of maps es) (choices es v) L
     choices_answer [] [] L h = tt
-    choices_answer (m ∷ maps) (e ∷ es) L h = AllZip-append (λ n c. AnswersFor o answers (choice_answers o.world) n c L) (flat_map (chosen_at m) (at e.0 v)) (chosen_of maps es) (map (λ c. (e.0, c.0, c.1)) (chosen v e)) (choices es v)
+    choices_answer (m ∷ maps) (e ∷ es) L h = AllZip-append (λ n c. AnswersFor I answers (choice_answers I.steps) n c L) (flat_map (chosen_at m) (at e.0 v)) (chosen_of maps es) (map (λ c. (e.0, c.0, c.1)) (chosen v e)) (choices es v)
         (under_key e.0 (flat_map (chosen_at m) (at e.0 v)) (chosen v e) L (chosen_answer m e L h.0)) (choices_answer maps es L h.1)
     choices_answer _ _ L h = absurd h
 
@@ -144,22 +145,22 @@ module _ {K R N : Type 0} (o : Kit K R) (answers : N → Answers) where
       refl,
     )
 
-    means_property_dependencies : (ms : Members) (P : Path) → L ≡ P // codes "propertyDependencies" → KeywordMeans o answers ms (choices_of m L ∷ []) (codes "propertyDependencies", d) P
+    means_property_dependencies : (ms : Members) (P : Path) → L ≡ P // codes "propertyDependencies" → KeywordMeans I answers ms (choices_of m L ∷ []) (codes "propertyDependencies", d) P
     unfolding answers_of
     means_property_dependencies ms P p =
-        means_told o answers ms (choices_of m L) (codes "propertyDependencies", d) P L _ p (property_dependencies_told o.world ms d)
-        (nodes_told o answers (choice_answers o.world) (choices (members d)) (choices_of m L) (chosen_nodes (named m)) L (each_asks o answers (choices_of m L) (chosen_nodes (named m)) L _ _ refl)
-        (λ v. subst (λ ds. AnswerEach o answers (choice_answers o.world) (chosen_nodes ds v) (choices (members d) v) L) (sym keyed) (choices_answer v maps (members d) L stand))
+        means_told I answers ms (choices_of m L) (codes "propertyDependencies", d) P L _ p (property_dependencies_told I.steps ms d)
+        (nodes_told I answers (choice_answers I.steps) (choices (members d)) (choices_of m L) (chosen_nodes (named m)) L (each_asks I answers (choices_of m L) (chosen_nodes (named m)) L _ _ refl)
+        (λ v. subst (λ ds. AnswerEach I answers (choice_answers I.steps) (chosen_nodes ds v) (choices (members d) v) L) (sym keyed) (choices_answer v maps (members d) L stand))
         (and_from _ _ (paired (names_of d) maps (maps_count maps (members d) L stand) m.names m.nodes names nodes)
-        (ap (list_all (λ m. is_paired m.names m.nodes && list_all (has_form o answers) (nodes_in (named m)))) held_maps ∙ maps_formed maps (members d) L stand)))
-        (λ own. append-nil (stand_as o answers (choices_of m L)) ∙ ap (λ l. (L, property_dependencies_form) ∷ flat_map (λ m. flat_map (stand_in o answers) (nodes_in (named m))) l) held_maps
+        (ap (list_all (λ m. is_paired m.names m.nodes && list_all (has_form I answers) (nodes_in (named m)))) held_maps ∙ maps_formed maps (members d) L stand)))
+        (λ own. append-nil (stand_as I answers (choices_of m L)) ∙ ap (λ l. (L, property_dependencies_form) ∷ flat_map (λ m. flat_map (stand_in I answers) (nodes_in (named m))) l) held_maps
         ∙ ap (λ l. (L, property_dependencies_form) ∷ l) (maps_placed maps (members d) L stand)
-        ∙ (λ i. (p i, property_dependencies_form) ∷ flat_map (λ e. each_placed o.world (p i // e.0) (members e.1)) (members d)) ∙ sym (property_dependencies_stand o.world ms P d))
+        ∙ (λ i. (p i, property_dependencies_form) ∷ flat_map (λ e. each_placed I.steps (p i // e.0) (members e.1)) (members d)) ∙ sym (property_dependencies_stand I.steps ms P d))
 
   -- ---- what is made of the nodes
 
   maps_answer : (ts : List (List Name)) (ns : List N) (maps : List (SmallMap N)) (es : Rows) (L : Path) → AreCut ts ns maps
-      → ts ≡ map (λ e. names_of e.1) es → StandInner o answers ns es L → MapsAnswer maps es L
+      → ts ≡ map (λ e. names_of e.1) es → StandInner I answers ns es L → MapsAnswer maps es L
   maps_answer [] ns [] [] L h q stand = tt
   maps_answer [] ns [] (e ∷ es) L h q stand = absurd (true≢false (ap is_empty q))
   maps_answer (t ∷ ts) ns (m ∷ maps) [] L h q stand = absurd (true≢false (sym (ap is_empty q)))
@@ -167,8 +168,8 @@ module _ {K R N : Type 0} (o : Kit K R) (answers : N → Answers) where
       let here = stand.0 in
       let after = stand.1 in
       let name : t ≡ names_of e.1 = ap (λ l. get_or l 0 []) q in
-      let each = schemas_answer o answers _ _ _ stand.3 in
-      let count : length here ≡ length t = each_count o answers _ _ _ _ each ∙ sym (ap length name) in
+      let each = schemas_answer I answers _ _ _ stand.3 in
+      let count : length here ≡ length t = each_count I answers _ _ _ _ each ∙ sym (ap length name) in
       let first : take (length t) ns ≡ here = ap (take (length t)) stand.2 ∙ take_at here after (length t) count in (
         record {
           nodes = here;
@@ -176,7 +177,7 @@ module _ {K R N : Type 0} (o : Kit K R) (answers : N → Answers) where
           held = entries_zipped (names_of e.1) here m (h.0.0 ∙ name, h.0.1 ∙ first);
           each = each;
         },
-        maps_answer ts (drop (length t) ns) maps es L h.1 (ap (drop 1) q) (subst (λ l. StandInner o answers l es L) (sym (ap (drop (length t)) stand.2 ∙ drop_at here after (length t) count)) stand.4),
+        maps_answer ts (drop (length t) ns) maps es L h.1 (ap (drop 1) q) (subst (λ l. StandInner I answers l es L) (sym (ap (drop (length t)) stand.2 ∙ drop_at here after (length t) count)) stand.4),
       )
   maps_answer _ ns _ es L h q stand = absurd h
 
@@ -184,9 +185,9 @@ module _ {K R N : Type 0} (o : Kit K R) (answers : N → Answers) where
     abbrev together : SmallMap (SmallMap N)
     together = record { names = keys; nodes = maps }
 
-    pub makes_property_dependencies : MakesMember o answers (shape.PropertyDependencies keys texts) L ns (choices_of together L ∷ [])
-    makes_property_dependencies ms x P p s h = by_its_name o answers s.0 p
+    pub makes_property_dependencies : MakesMember I answers (shape.PropertyDependencies keys texts) L ns (choices_of together L ∷ [])
+    makes_property_dependencies ms x P p s h = by_its_name I answers s.0 p
         (means_property_dependencies together maps.items L x.1 s.2 refl (maps_answer texts.items ns maps.items (members x.1) L is s.3 h) ms P)
 
-    pub keys_of_property_dependencies : MakesPropertyDependencies o answers (shape.PropertyDependencies keys texts) L ns (choices_of together L)
+    pub keys_of_property_dependencies : MakesPropertyDependencies I answers (shape.PropertyDependencies keys texts) L ns (choices_of together L)
     keys_of_property_dependencies x s h = choices_are together maps.items L x.1 s.2 refl (maps_answer texts.items ns maps.items (members x.1) L is s.3 h)

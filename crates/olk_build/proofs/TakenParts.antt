@@ -30,13 +30,14 @@ use Rattle.std.proofs.{lemmas.Grind.flat_map-append, Math.Bool.and-false}
 use Rattle.olk_spec.specs.{Faults.Fault, Malformed.has_repeat}
 use Rattle.olk_base.specs.{Count.Counts, Kit.Kit, declared.pattern.CompiledPattern.CompiledPattern}
 use Rattle.olk_reports.specs.{declared.error.BuildError.BuildError, declared.error.BuildError.TheVariants.Memory}
-use Rattle.olk_tree.specs.{Answers.Answers, Places.Stands, declared.node.KeywordOver.KeywordOver}
+use Rattle.olk_tree.specs.{Answers.Answers, declared.node.KeywordOver.KeywordOver}
 use Rattle.olk_meaning.specs.{AdditionalProperties.rows_at, PatternProperties.open_names}
 use Rattle.olk_build.specs.{declared.part.Part.Part, Made.IsMade, declared.part.Taken.Taken, declared.part.DeclaredNodes.DeclaredNodes}
 use Rattle.olk_build.specs.declared.part.Patterns.{Patterns}
 use Rattle.olk_build.specs.{declared.shape.Shape.Shape, declared.shape.ReadPlaces.TheVariants.Itself, Reading.ArePatterns}
 use Rattle.olk_tree.specs.declared.node.KeywordOver.TheVariants as keyword
 use Rattle.olk_build.specs.declared.shape.Shape.TheVariants as shape
+use Rattle.olk_tree.specs.Steps.{StandsBy, StepsOf}
 
 -- ---- what is built of neighbours, and what the keyword means that takes them
 
@@ -52,28 +53,28 @@ within_append {a} {b} {d} h k = record {
   };
 }
 
-module _ {K R : Type 0} {o : Kit K R} {ms : Members} {es : List (Name × Data)} {a b : Counts} (h : SpendsBefore o ms es a b) where
+module _ {K R : Type 0} {o : Kit K R} {I : StepsOf o} {ms : Members} {es : List (Name × Data)} {a b : Counts} (h : SpendsBefore I ms es a b) where
   -- no more than all is counted before
-  pub before_within : SpendsWithin a b (all_cost o ms es)
-  before_within = within_same (sym h.whole) (within_before a b h.spent (all_later o ms es) (within_exactly h.exactly))
+  pub before_within : SpendsWithin a b (all_cost I ms es)
+  before_within = within_same (sym h.whole) (within_before a b h.spent (all_later I ms es) (within_exactly h.exactly))
 
   -- where nothing is counted later, it is all
-  pub nothing_later : all_later o ms es ≡ no_cost → Spends a b (all_cost o ms es)
+  pub nothing_later : all_later I ms es ≡ no_cost → Spends a b (all_cost I ms es)
   nothing_later e = spends_same a b _ _ (sym (h.whole ∙ ap (λ z. h.spent ⊕ z) e ∙ sum_last h.spent)) h.exactly
 
   -- what is counted later, and then it is all
-  pub later_spent : {d : Counts} {x : Cost} → all_later o ms es ≡ x → Spends b d x → Spends a d (all_cost o ms es)
+  pub later_spent : {d : Counts} {x : Cost} → all_later I ms es ≡ x → Spends b d x → Spends a d (all_cost I ms es)
   later_spent {d} {x} e k = spends_same a d _ _ (sym (h.whole ∙ ap (λ z. h.spent ⊕ z) e)) (spends_append a b d _ _ h.exactly k)
 
-  pub later_within : {d : Counts} {x : Cost} → all_later o ms es ≡ x → SpendsWithin b d x → SpendsWithin a d (all_cost o ms es)
+  pub later_within : {d : Counts} {x : Cost} → all_later I ms es ≡ x → SpendsWithin b d x → SpendsWithin a d (all_cost I ms es)
   later_within {d} {x} e k = within_same (sym (h.whole ∙ ap (λ z. h.spent ⊕ z) e)) (within_after a b d _ _ h.exactly k)
 
-module _ {K R : Type 0} (o : Kit K R) (ms : Members) (P : Path) where
+module _ {K R : Type 0} {o : Kit K R} (I : StepsOf o) (ms : Members) (P : Path) where
   abbrev pub wrong : Name × Data → List Fault
-  wrong m = member_malformations o.world ms m (which o ms m) P
+  wrong m = member_malformations I.steps ms m (which o ms m) P
 
   abbrev pub costs : Name × Data → Cost
-  costs m = member_cost o.world ms m (which o ms m)
+  costs m = member_cost I.steps ms m (which o ms m)
 
   -- the name of a member that is there is known as far as its keyword has to know its neighbours
   pub there_known : (k : Name) (d : Data) → lookup_name k (listed ms) ≡ Some d → IsKnown (known_of ms) ms k
@@ -82,7 +83,7 @@ module _ {K R : Type 0} (o : Kit K R) (ms : Members) (P : Path) where
   -- ---- one neighbour
 
   pub neighbour_refused : (k : Name) {d : Data} {c : Known} {L : Path} {a b : Counts} {e : BuildError} → c ≡ known_of ms → lookup_name k (listed ms) ≡ Some d → L ≡ P // k
-      → RefusesPart o c k d L a b e → RefusesNeighbour o ms k P a b e
+      → RefusesPart I c k d L a b e → RefusesNeighbour I ms k P a b e
   neighbour_refused k {d} {c} {L} {a} {b} {e} known there place h =
       refuses_among wrong costs (rows_at k ms) a b [] (k, d) [] a e (ap (λ x. map (λ d. (k, d)) (option_to_list x)) (sym there)) (spends_nothing a)
       (h ms P place (subst (λ x. IsKnown x ms k) (sym known) (there_known k d there)))
@@ -105,32 +106,32 @@ module _ {K R : Type 0} (o : Kit K R) (ms : Members) (P : Path) where
   pub both_spent : (xs ys : List (Name × Data)) (a m b : Counts) → Spends a m (total_cost costs xs) → Spends m b (total_cost costs ys) → Spends a b (total_cost costs (xs ++ ys))
   both_spent xs ys a m b h k = spends_same a b _ _ (sym (total_cost-append costs xs ys)) (spends_append a m b _ _ h k)
 
-module _ {K R N : Type 0} {o : Kit K R} {answers : N → Answers} {ms : Members} {P : Path} where
-  pub no_neighbour : {k : Name} {a : Counts} → lookup_name k (listed ms) ≡ None → IsNeighbour o answers ms None k P a a
+module _ {K R N : Type 0} {o : Kit K R} {I : StepsOf o} {answers : N → Answers} {ms : Members} {P : Path} where
+  pub no_neighbour : {k : Name} {a : Counts} → lookup_name k (listed ms) ≡ None → IsNeighbour I answers ms None k P a a
   no_neighbour {k} {a} e = record {
-    stands = subst (Fills (λ x d. PartStands o answers (known_of ms) x (k, d) P) None) (sym e) tt;
-    clean = ap (λ x. all_malformed o ms P (map (λ d. (k, d)) (option_to_list x))) e;
-    spends = subst (λ x. SpendsBefore o ms (map (λ d. (k, d)) (option_to_list x)) a a) (sym e) (record { spent = no_cost; exactly = spends_nothing a; whole = refl });
+    stands = subst (Fills (λ x d. PartStands I answers (known_of ms) x (k, d) P) None) (sym e) tt;
+    clean = ap (λ x. all_malformed I ms P (map (λ d. (k, d)) (option_to_list x))) e;
+    spends = subst (λ x. SpendsBefore I ms (map (λ d. (k, d)) (option_to_list x)) a a) (sym e) (record { spent = no_cost; exactly = spends_nothing a; whole = refl });
   }
 
   pub neighbour_built : {k : Name} {d : Data} {p : Part K R N} {c : Known} {L : Path} {a b : Counts} → c ≡ known_of ms → lookup_name k (listed ms) ≡ Some d → L ≡ P // k
-      → IsPart o answers p c k d L a b → IsNeighbour o answers ms (Some p) k P a b
+      → IsPart I answers p c k d L a b → IsNeighbour I answers ms (Some p) k P a b
   neighbour_built {k} {d} {p} {c} {L} {a} {b} known there place part =
-      let built = part ms P place (subst (λ x. IsKnown x ms k) (sym known) (there_known o ms P k d there)) in
+      let built = part ms P place (subst (λ x. IsKnown x ms k) (sym known) (there_known I ms P k d there)) in
       record {
-        stands = subst (Fills (λ x d. PartStands o answers (known_of ms) x (k, d) P) (Some p)) (sym there) built.stand.0;
-        clean = ap (λ y. all_malformed o ms P (map (λ d. (k, d)) (option_to_list y))) there ∙ built.clean;
-        spends = subst (λ y. SpendsBefore o ms (map (λ d. (k, d)) (option_to_list y)) a b) (sym there) built.spends;
+        stands = subst (Fills (λ x d. PartStands I answers (known_of ms) x (k, d) P) (Some p)) (sym there) built.stand.0;
+        clean = ap (λ y. all_malformed I ms P (map (λ d. (k, d)) (option_to_list y))) there ∙ built.clean;
+        spends = subst (λ y. SpendsBefore I ms (map (λ d. (k, d)) (option_to_list y)) a b) (sym there) built.spends;
       }
 
-module _ {K R : Type 0} (o : Kit K R) (ms : Members) (P : Path) where
-  pub first_taken_refused : {t : Option (Name × Name)} (x y : Name) (a b : Counts) (e : BuildError) → t ≡ Some (x, y) → RefusesNeighbour o ms x P a b e → RefusesTaken o ms t P a b e
-  first_taken_refused {t} x y a b e q h = subst (λ z. RefusesTaken o ms z P a b e) (sym q) (first_refused o ms P (rows_at x ms) (rows_at y ms) h)
+module _ {K R : Type 0} {o : Kit K R} (I : StepsOf o) (ms : Members) (P : Path) where
+  pub first_taken_refused : {t : Option (Name × Name)} (x y : Name) (a b : Counts) (e : BuildError) → t ≡ Some (x, y) → RefusesNeighbour I ms x P a b e → RefusesTaken I ms t P a b e
+  first_taken_refused {t} x y a b e q h = subst (λ z. RefusesTaken I ms z P a b e) (sym q) (first_refused I ms P (rows_at x ms) (rows_at y ms) h)
 
-module _ {K R N : Type 0} {o : Kit K R} {answers : N → Answers} {ms : Members} {P : Path} where
+module _ {K R N : Type 0} {o : Kit K R} {I : StepsOf o} {answers : N → Answers} {ms : Members} {P : Path} where
   pub second_taken_refused : {t : Option (Name × Name)} {x : Name} (y : Name) {p : Option (Part K R N)} {a m : Counts} (b : Counts) (e : BuildError) → t ≡ Some (x, y)
-      → IsNeighbour o answers ms p x P a m → RefusesNeighbour o ms y P m b e → RefusesTaken o ms t P a b e
-  second_taken_refused {t} {x} y {a = a} {m} b e q h k = subst (λ z. RefusesTaken o ms z P a b e) (sym q) (second_refused o ms P (rows_at x ms) (rows_at y ms) m (before_within h.spends) k)
+      → IsNeighbour I answers ms p x P a m → RefusesNeighbour I ms y P m b e → RefusesTaken I ms t P a b e
+  second_taken_refused {t} {x} y {a = a} {m} b e q h k = subst (λ z. RefusesTaken I ms z P a b e) (sym q) (second_refused I ms P (rows_at x ms) (rows_at y ms) m (before_within h.spends) k)
 
 -- ---- the keyword of a part, with what it takes from its neighbours' parts
 
@@ -139,7 +140,7 @@ has_no_shape leaf = true
 has_no_shape unread = true
 has_no_shape w = false
 
-module _ {K R N : Type 0} (o : Kit K R) (answers : N → Answers) where
+module _ {K R N : Type 0} {o : Kit K R} (I : StepsOf o) (answers : N → Answers) where
   -- the place of `then` or `else`, where the condition is read, is read itself
   case_reads_itself : (c : Known) (k : Name) → is_conditional_name k ≡ true → has_no_shape (keyword_named o.world k) ≡ false → (x : Shape K R) (d : Data) → IsShape o k d x → Fits o c x
       → c.condition ≡ true → reads_of x ≡ Itself
@@ -153,17 +154,17 @@ module _ {K R N : Type 0} (o : Kit K R) (answers : N → Answers) where
 
   module _ (ms : Members) (P : Path) where
     pub node_fills : (k : Name) → is_conditional_name k ≡ true → has_no_shape (keyword_named o.world k) ≡ false → is_condition ms ≡ true → (p : Option (Part K R N)) (t : Option N) (a : Option Data)
-        → IsNode p t → Fills (λ x d. PartStands o answers (known_of ms) x (k, d) P) p a → Fills (λ n d. Stands o answers n d (P // k)) t a
-    node_fills k h n read None t None e s = subst (λ x. Fills (λ n d. Stands o answers n d (P // k)) x None) (sym e) tt
-    node_fills k h n read (Some p) t (Some d) e s = taken_stands o answers p.nodes.items t d (P // k) e
-        (subst (λ r. StandAt o answers r p.nodes.items d (P // k)) (case_reads_itself (known_of ms) k h n p.shape d s.shape s.fits read) s.nodes)
+        → IsNode p t → Fills (λ x d. PartStands I answers (known_of ms) x (k, d) P) p a → Fills (λ n d. StandsBy I answers n d (P // k)) t a
+    node_fills k h n read None t None e s = subst (λ x. Fills (λ n d. StandsBy I answers n d (P // k)) x None) (sym e) tt
+    node_fills k h n read (Some p) t (Some d) e s = taken_stands I answers p.nodes.items t d (P // k) e
+        (subst (λ r. StandAt I answers r p.nodes.items d (P // k)) (case_reads_itself (known_of ms) k h n p.shape d s.shape s.fits read) s.nodes)
     node_fills k h n read _ t _ e s = absurd s
 
     -- ---- `properties`
 
     declared_by : (x : Shape K R) (p : Part K R N) (t : Option (DeclaredNodes N)) (d : Data) → DeclaredBy x p t → IsShape o (codes "properties") d x
-        → StandAt o answers (reads_of x) p.nodes.items d (P // codes "properties") → Fills (λ y. DeclaredStand o answers y (P // codes "properties")) t (Some d)
-    declared_by (shape.Properties names) p t d e s h = subst (λ x. Fills (λ y. DeclaredStand o answers y (P // codes "properties")) x (Some d)) (sym e) (record { kind = s.1; names = s.2; nodes = h })
+        → StandAt I answers (reads_of x) p.nodes.items d (P // codes "properties") → Fills (λ y. DeclaredStand I answers y (P // codes "properties")) t (Some d)
+    declared_by (shape.Properties names) p t d e s h = subst (λ x. Fills (λ y. DeclaredStand I answers y (P // codes "properties")) x (Some d)) (sym e) (record { kind = s.1; names = s.2; nodes = h })
     declared_by (shape.Leaf l) p t d e s h = absurd (true≢false (sym (ap has_no_shape s.0)))
     declared_by shape.Unread p t d e s h = absurd (true≢false (sym (ap has_no_shape s)))
     declared_by shape.Unpaired p t d e s h = absurd (true≢false (sym s))
@@ -173,20 +174,20 @@ module _ {K R N : Type 0} (o : Kit K R) (answers : N → Answers) where
     declared_by x p t d e s h = absurd (true≢false (ap (bytes_eq (codes "properties")) s.0))
 
     pub declared_fills : (p : Option (Part K R N)) (t : Option (DeclaredNodes N)) (a : Option Data) → IsDeclared p t
-        → Fills (λ x d. PartStands o answers (known_of ms) x (codes "properties", d) P) p a → Fills (λ y. DeclaredStand o answers y (P // codes "properties")) t a
-    declared_fills None t None e s = subst (λ x. Fills (λ y. DeclaredStand o answers y (P // codes "properties")) x None) (sym e) tt
+        → Fills (λ x d. PartStands I answers (known_of ms) x (codes "properties", d) P) p a → Fills (λ y. DeclaredStand I answers y (P // codes "properties")) t a
+    declared_fills None t None e s = subst (λ x. Fills (λ y. DeclaredStand I answers y (P // codes "properties")) x None) (sym e) tt
     declared_fills (Some p) t (Some d) e s = declared_by p.shape p t d e s.shape s.nodes
     declared_fills _ t _ e s = absurd s
 
     -- ---- `patternProperties`
 
     patterns_by : (x : Shape K R) (p : Part K R N) (t : Option (Patterns R N)) (d : Data) → PatternsBy o.answers (known_of ms) x p t → p.location ≡ P // codes "patternProperties"
-        → IsShape o (codes "patternProperties") d x → StandAt o answers (reads_of x) p.nodes.items d (P // codes "patternProperties")
-        → Fills (λ y. PatternsStand o answers (known_of ms) y (P // codes "patternProperties")) t (Some d)
+        → IsShape o (codes "patternProperties") d x → StandAt I answers (reads_of x) p.nodes.items d (P // codes "patternProperties")
+        → Fills (λ y. PatternsStand I answers (known_of ms) y (P // codes "patternProperties")) t (Some d)
     patterns_by (shape.PatternProperties v) p (Some y) d e place s h = record {
       place = e.place ∙ place;
       kind = s.1;
-      entries = subst (λ l. EntriesStand o answers l (members d) (P // codes "patternProperties")) (sym e.entries) (both_stand o answers v.items p.nodes.items (members d) (P // codes "patternProperties") s.2 h);
+      entries = subst (λ l. EntriesStand I answers l (members d) (P // codes "patternProperties")) (sym e.entries) (both_stand I answers v.items p.nodes.items (members d) (P // codes "patternProperties") s.2 h);
       names = e.names;
       table = e.table;
     }
@@ -200,8 +201,8 @@ module _ {K R N : Type 0} (o : Kit K R) (answers : N → Answers) where
     patterns_by x p t d e place s h = absurd (true≢false (ap (bytes_eq (codes "patternProperties")) s.0))
 
     pub patterns_fill : (p : Option (Part K R N)) (t : Option (Patterns R N)) (a : Option Data) → IsPatterns o.answers (known_of ms) p t
-        → Fills (λ x d. PartStands o answers (known_of ms) x (codes "patternProperties", d) P) p a → Fills (λ y. PatternsStand o answers (known_of ms) y (P // codes "patternProperties")) t a
-    patterns_fill None t None e s = subst (λ x. Fills (λ y. PatternsStand o answers (known_of ms) y (P // codes "patternProperties")) x None) (sym e) tt
+        → Fills (λ x d. PartStands I answers (known_of ms) x (codes "patternProperties", d) P) p a → Fills (λ y. PatternsStand I answers (known_of ms) y (P // codes "patternProperties")) t a
+    patterns_fill None t None e s = subst (λ x. Fills (λ y. PatternsStand I answers (known_of ms) y (P // codes "patternProperties")) x None) (sym e) tt
     patterns_fill (Some p) t (Some d) e s = patterns_by p.shape p t d e s.place s.shape s.nodes
     patterns_fill _ t _ e s = absurd s
 
@@ -221,31 +222,31 @@ module _ {K R N : Type 0} (o : Kit K R) (answers : N → Answers) where
   if_read x c e f = absurd (true≢false (sym e))
 
   module _ (x : Shape K R) {L : Path} (ns : List N) (t : Taken R N) {P : Path} {q : Planned} {r : Option (KeywordOver K R N)}
-      (make : MakesPart o answers x L ns t P q (option_to_list r)) (form : IsMade o answers x L ns t P q r) where
+      (make : MakesPart I answers x L ns t P q (option_to_list r)) (form : IsMade I answers x L ns t P q r) where
     -- where all that it takes stands there
-    made_of : (ms : Members) (m : Name × Data) → L ≡ P // m.0 → IsShape o m.0 m.1 x → Fits o (known_of ms) x → StandAt o answers (reads_of x) ns m.1 L
-        → (is_if_shape x ≡ true → CasesStand o answers t.cases ms P) → (is_restriction_shape x ≡ true → BesideStands o answers (known_of ms) t.beside ms P)
-        → has_repeat (map (λ m. m.0) (listed ms)) ≡ false → IsMember ms m → q ≡ plan_of ms → is_taken q m.0 ≡ false → IsMadeOf o answers ms m P r
+    made_of : (ms : Members) (m : Name × Data) → L ≡ P // m.0 → IsShape o m.0 m.1 x → Fits o (known_of ms) x → StandAt I answers (reads_of x) ns m.1 L
+        → (is_if_shape x ≡ true → CasesStand I answers t.cases ms P) → (is_restriction_shape x ≡ true → BesideStands I answers (known_of ms) t.beside ms P)
+        → has_repeat (map (λ m. m.0) (listed ms)) ≡ false → IsMember ms m → q ≡ plan_of ms → is_taken q m.0 ≡ false → IsMadeOf I answers ms m P r
     made_of ms m place s f stand cases beside distinct found same untaken = record {
-      means = subst (λ p. KeywordsMean o answers ms (option_to_list r) (claims (head p) (listed ms) m) (m ∷ []) P) same (make ms m place s f stand cases beside distinct found same untaken);
-      chosen = chosen o answers ms P m.0 m.1 L place ns t x s f stand cases beside (subst (λ p. is_taken p m.0 ≡ false) same untaken) r (subst (λ p. IsMade o answers x L ns t P p r) same form);
+      means = subst (λ p. KeywordsMean I answers ms (option_to_list r) (claims (head p) (listed ms) m) (m ∷ []) P) same (make ms m place s f stand cases beside distinct found same untaken);
+      chosen = chosen I answers ms P m.0 m.1 L place ns t x s f stand cases beside (subst (λ p. is_taken p m.0 ≡ false) same untaken) r (subst (λ p. IsMade I answers x L ns t P p r) same form);
     }
 
     -- a part that takes nothing
-    pub makes_nothing : takes_of x ≡ None → (u : Taken R N) → MakesTaking o answers x L ns u P q r
+    pub makes_nothing : takes_of x ≡ None → (u : Taken R N) → MakesTaking I answers x L ns u P q r
     makes_nothing none u ms m place s f stand fills distinct found same untaken = made_of ms m place s f stand
         (λ taking. absurd (true≢false (sym (ap is_some (if_takes x taking)) ∙ ap is_some none)))
         (λ taking. absurd (true≢false (sym (ap is_some (restriction_takes x taking)) ∙ ap is_some none))) distinct found same untaken
 
     -- one that takes what stands there
-    pub makes_taking : MakesTaking o answers x L ns t P q r
+    pub makes_taking : MakesTaking I answers x L ns t P q r
     makes_taking ms m place s f stand taken = made_of ms m place s f stand (λ taking. taken.cases taking (if_read x (known_of ms) taking f)) taken.beside
 
   -- a leaf takes nothing
-  pub makes_leaf_taking : {x : Shape K R} (l : K) {L : Path} (ns : List N) (u : Taken R N) {P : Path} {q : Planned} → x ≡ shape.Leaf l → MakesTaking o answers x L ns u P q (Some (keyword.Leaf L l))
+  pub makes_leaf_taking : {x : Shape K R} (l : K) {L : Path} (ns : List N) (u : Taken R N) {P : Path} {q : Planned} → x ≡ shape.Leaf l → MakesTaking I answers x L ns u P q (Some (keyword.Leaf L l))
   makes_leaf_taking {x} l {L} ns u {P} {q} is =
-      makes_nothing x ns nothing (part_of_alone o answers {L = L} {P = P} {ks = keyword.Leaf L l ∷ []} {p = q} ns nothing is (λ k d s. ap neighbours s.0) (makes_leaf o answers l L ns))
-      (subst (λ y. IsMade o answers y L ns nothing P q (Some (keyword.Leaf L l))) (sym is) refl) (ap takes_of is) u
+      makes_nothing x ns nothing (part_of_alone I answers {L = L} {P = P} {ks = keyword.Leaf L l ∷ []} {p = q} ns nothing is (λ k d s. ap neighbours s.0) (makes_leaf I answers l L ns))
+      (subst (λ y. IsMade I answers y L ns nothing P q (Some (keyword.Leaf L l))) (sym is) refl) (ap takes_of is) u
     where
       nothing : Taken R N
       nothing = record { cases = record { then_schema = None; else_schema = None }; beside = record { properties = None; patterns = None } }
@@ -288,9 +289,9 @@ module _ {K R N : Type 0} (o : Kit K R) (answers : N → Answers) where
     same_takes shape.Unpaired k d s f found = takes_none (is_condition ms) (is_restricted ms) _ _ (ap (λ c. c && bytes_eq (codes "if") k) f)
         ((λ i. is_restricted ms && apart_by (λ x. not (is_conditional_name x)) (codes "additionalProperties") k refl (ap not s) i) ∙ and-false (is_restricted ms)) _ _
     same_takes shape.AdditionalProperties k d s f found =
-        takes_beside ms k s.0 (ap is_restriction (ap (λ n. lookup_name n (listed ms)) (sym s.0) ∙ found) ∙ (restriction_named o answers shape.AdditionalProperties k d s refl).1)
+        takes_beside ms k s.0 (ap is_restriction (ap (λ n. lookup_name n (listed ms)) (sym s.0) ∙ found) ∙ (restriction_named I answers shape.AdditionalProperties k d s refl).1)
     same_takes shape.NoOthers k d s f found =
-        takes_beside ms k s.0 (ap is_restriction (ap (λ n. lookup_name n (listed ms)) (sym s.0) ∙ found) ∙ (restriction_named o answers shape.NoOthers k d s refl).1)
+        takes_beside ms k s.0 (ap is_restriction (ap (λ n. lookup_name n (listed ms)) (sym s.0) ∙ found) ∙ (restriction_named I answers shape.NoOthers k d s refl).1)
     same_takes shape.AnyOthers k d s f found =
         let free = ap is_restriction (ap (λ n. lookup_name n (listed ms)) (sym s.0) ∙ found) ∙ true_allows d s.1 in
         takes_none (is_condition ms) (is_restricted ms) _ _ ((λ i. is_condition ms && bytes_eq (codes "if") (s.0 i)) ∙ and-false (is_condition ms))
@@ -311,8 +312,8 @@ first_name e = ap (λ (o : Option (Name × Name)). (unwrap_or {T = Name × Name}
 second_name : {x y a b : Name} → ◌≡◌ {A = Option (Name × Name)} (Some (x, y)) (Some (a, b)) → y ≡ b
 second_name e = ap (λ (o : Option (Name × Name)). (unwrap_or {T = Name × Name} o ([], [])).1) e
 
-module _ {K R N : Type 0} (o : Kit K R) (answers : N → Answers) where
-  entries_are_patterns : (ps : List (CompiledPattern R × N)) (es : List (Name × Data)) (L : Path) → EntriesStand o answers ps es L → ArePatterns o (patterns_of ps) es
+module _ {K R N : Type 0} {o : Kit K R} (I : StepsOf o) (answers : N → Answers) where
+  entries_are_patterns : (ps : List (CompiledPattern R × N)) (es : List (Name × Data)) (L : Path) → EntriesStand I answers ps es L → ArePatterns o (patterns_of ps) es
   entries_are_patterns [] [] L h = tt
   entries_are_patterns (p ∷ ps) (e ∷ es) L h = (h.0.0, entries_are_patterns ps es L h.1)
   entries_are_patterns _ _ L h = absurd h
@@ -320,15 +321,15 @@ module _ {K R N : Type 0} (o : Kit K R) (answers : N → Answers) where
   module _ (ms : Members) (P : Path) where
     -- ---- what is counted for a neighbour after its part is built
 
-    none_at : (k : Name) → ((d : Data) → later_cost o ms d (keyword_named o.world k) ≡ no_cost) → (a : Option Data) → all_later o ms (map (λ d. (k, d)) (option_to_list a)) ≡ no_cost
+    none_at : (k : Name) → ((d : Data) → later_cost I ms d (keyword_named o.world k) ≡ no_cost) → (a : Option Data) → all_later I ms (map (λ d. (k, d)) (option_to_list a)) ≡ no_cost
     none_at k h None = refl
     none_at k h (Some d) = sum_last _ ∙ h d
 
     -- each matcher is asked for each name
-    part_asks : (x : Shape K R) (ns : List N) (d : Data) → IsShape o (codes "patternProperties") d x → StandAt o answers (reads_of x) ns d (P // codes "patternProperties")
+    part_asks : (x : Shape K R) (ns : List N) (d : Data) → IsShape o (codes "patternProperties") d x → StandAt I answers (reads_of x) ns d (P // codes "patternProperties")
         → length (known_of ms).declared * length (open_names o.world d) ≡ asks_by o.costs (known_of ms) x ns
     part_asks (shape.PatternProperties v) ns d s h = ap (λ n. length (known_of ms).declared * n)
-        (sym (open_cost o (patterns_of (zip v.items ns)) (members d) (entries_are_patterns _ (members d) _ (both_stand o answers v.items ns (members d) (P // codes "patternProperties") s.2 h))))
+        (sym (open_cost o (patterns_of (zip v.items ns)) (members d) (entries_are_patterns _ (members d) _ (both_stand I answers v.items ns (members d) (P // codes "patternProperties") s.2 h))))
     part_asks (shape.Leaf l) ns d s h = absurd (true≢false (sym (ap has_no_shape s.0)))
     part_asks shape.Unread ns d s h = absurd (true≢false (sym (ap has_no_shape s)))
     part_asks shape.Unpaired ns d s h = absurd (true≢false (sym s))
@@ -337,26 +338,26 @@ module _ {K R N : Type 0} (o : Kit K R) (answers : N → Answers) where
     part_asks shape.Else ns d s h = absurd (true≢false (ap (bytes_eq (codes "patternProperties")) s))
     part_asks x ns d s h = absurd (true≢false (ap (bytes_eq (codes "patternProperties")) s.0))
 
-    patterns_later : (q : Option (Part K R N)) (a : Option Data) → Fills (λ x d. PartStands o answers (known_of ms) x (codes "patternProperties", d) P) q a
-        → all_later o ms (map (λ d. (codes "patternProperties", d)) (option_to_list a)) ≡ asks (asks_of o.costs (known_of ms) q)
+    patterns_later : (q : Option (Part K R N)) (a : Option Data) → Fills (λ x d. PartStands I answers (known_of ms) x (codes "patternProperties", d) P) q a
+        → all_later I ms (map (λ d. (codes "patternProperties", d)) (option_to_list a)) ≡ asks (asks_of o.costs (known_of ms) q)
     patterns_later None None h = refl
     patterns_later (Some p) (Some d) h = sum_last _ ∙ ap asks (part_asks p.shape p.nodes.items d h.shape h.nodes)
     patterns_later _ _ h = absurd h
 
     -- for the first of two neighbours nothing, and for the second what its table asks
-    first_later : {a b : Name} (x : Shape K R) → takes_of x ≡ Some (a, b) → all_later o ms (rows_at a ms) ≡ no_cost
-    first_later shape.If e = subst (λ k. all_later o ms (rows_at k ms) ≡ no_cost) (first_name e) (none_at (codes "then") (λ d. refl) (lookup_name (codes "then") (listed ms)))
-    first_later shape.AdditionalProperties e = subst (λ k. all_later o ms (rows_at k ms) ≡ no_cost) (first_name e) (none_at (codes "properties") (λ d. refl) (lookup_name (codes "properties") (listed ms)))
-    first_later shape.NoOthers e = subst (λ k. all_later o ms (rows_at k ms) ≡ no_cost) (first_name e) (none_at (codes "properties") (λ d. refl) (lookup_name (codes "properties") (listed ms)))
+    first_later : {a b : Name} (x : Shape K R) → takes_of x ≡ Some (a, b) → all_later I ms (rows_at a ms) ≡ no_cost
+    first_later shape.If e = subst (λ k. all_later I ms (rows_at k ms) ≡ no_cost) (first_name e) (none_at (codes "then") (λ d. refl) (lookup_name (codes "then") (listed ms)))
+    first_later shape.AdditionalProperties e = subst (λ k. all_later I ms (rows_at k ms) ≡ no_cost) (first_name e) (none_at (codes "properties") (λ d. refl) (lookup_name (codes "properties") (listed ms)))
+    first_later shape.NoOthers e = subst (λ k. all_later I ms (rows_at k ms) ≡ no_cost) (first_name e) (none_at (codes "properties") (λ d. refl) (lookup_name (codes "properties") (listed ms)))
     first_later x e = absurd (true≢false (sym (ap is_some e)))
 
-    module _ {b : Name} {q : Option (Part K R N)} {m n : Counts} (h : IsNeighbour o answers ms q b P m n) where
-      at_patterns : codes "patternProperties" ≡ b → all_later o ms (rows_at b ms) ≡ asks (asks_of o.costs (known_of ms) q)
-      at_patterns e = subst (λ k. all_later o ms (rows_at k ms) ≡ asks (asks_of o.costs (known_of ms) q)) e
-          (patterns_later q (lookup_name (codes "patternProperties") (listed ms)) (subst (λ k. Fills (λ x d. PartStands o answers (known_of ms) x (k, d) P) q (lookup_name k (listed ms))) (sym e) h.stands))
+    module _ {b : Name} {q : Option (Part K R N)} {m n : Counts} (h : IsNeighbour I answers ms q b P m n) where
+      at_patterns : codes "patternProperties" ≡ b → all_later I ms (rows_at b ms) ≡ asks (asks_of o.costs (known_of ms) q)
+      at_patterns e = subst (λ k. all_later I ms (rows_at k ms) ≡ asks (asks_of o.costs (known_of ms) q)) e
+          (patterns_later q (lookup_name (codes "patternProperties") (listed ms)) (subst (λ k. Fills (λ x d. PartStands I answers (known_of ms) x (k, d) P) q (lookup_name k (listed ms))) (sym e) h.stands))
 
-      second_later : {a : Name} (x : Shape K R) → takes_of x ≡ Some (a, b) → all_later o ms (rows_at b ms) ≡ asks (asks_taken o.costs (known_of ms) x q)
-      second_later shape.If e = subst (λ k. all_later o ms (rows_at k ms) ≡ no_cost) (second_name e) (none_at (codes "else") (λ d. refl) (lookup_name (codes "else") (listed ms)))
+      second_later : {a : Name} (x : Shape K R) → takes_of x ≡ Some (a, b) → all_later I ms (rows_at b ms) ≡ asks (asks_taken o.costs (known_of ms) x q)
+      second_later shape.If e = subst (λ k. all_later I ms (rows_at k ms) ≡ no_cost) (second_name e) (none_at (codes "else") (λ d. refl) (lookup_name (codes "else") (listed ms)))
       second_later shape.AdditionalProperties e = at_patterns (second_name e)
       second_later shape.NoOthers e = at_patterns (second_name e)
       second_later x e = absurd (true≢false (sym (ap is_some e)))
@@ -364,54 +365,54 @@ module _ {K R N : Type 0} (o : Kit K R) (answers : N → Answers) where
     -- ---- what is taken stands there
 
     module _ {p q : Option (Part K R N)} {t : Taken R N} where
-      condition_stands : {a b : Name} {c m n : Counts} → ◌≡◌ {A = Option (Name × Name)} (Some (codes "then", codes "else")) (Some (a, b)) → IsNeighbour o answers ms p a P c m → IsNeighbour o answers ms q b P m n
-          → IsNode p t.cases.then_schema × IsNode q t.cases.else_schema → TakenStands o answers ms shape.If P t
+      condition_stands : {a b : Name} {c m n : Counts} → ◌≡◌ {A = Option (Name × Name)} (Some (codes "then", codes "else")) (Some (a, b)) → IsNeighbour I answers ms p a P c m → IsNeighbour I answers ms q b P m n
+          → IsNode p t.cases.then_schema × IsNode q t.cases.else_schema → TakenStands I answers ms shape.If P t
       condition_stands {c = c} {m} {n} e h k taken =
-          let first = subst (λ x. IsNeighbour o answers ms p x P c m) (sym (first_name e)) h in
-          let second = subst (λ x. IsNeighbour o answers ms q x P m n) (sym (second_name e)) k in
+          let first = subst (λ x. IsNeighbour I answers ms p x P c m) (sym (first_name e)) h in
+          let second = subst (λ x. IsNeighbour I answers ms q x P m n) (sym (second_name e)) k in
           record {
-            cases = λ is read. (node_fills o answers ms P (codes "then") refl refl read p t.cases.then_schema _ taken.0 first.stands, node_fills o answers ms P (codes "else") refl refl read q t.cases.else_schema _ taken.1 second.stands);
+            cases = λ is read. (node_fills I answers ms P (codes "then") refl refl read p t.cases.then_schema _ taken.0 first.stands, node_fills I answers ms P (codes "else") refl refl read q t.cases.else_schema _ taken.1 second.stands);
             beside = λ is. absurd (true≢false (sym is));
           }
 
-      others_stand : (x : Shape K R) {a b : Name} {c m n : Counts} → is_if_shape x ≡ false → ◌≡◌ {A = Option (Name × Name)} (Some (codes "properties", codes "patternProperties")) (Some (a, b)) → IsNeighbour o answers ms p a P c m
-          → IsNeighbour o answers ms q b P m n → IsDeclared p t.beside.properties × IsPatterns o.answers (known_of ms) q t.beside.patterns → TakenStands o answers ms x P t
+      others_stand : (x : Shape K R) {a b : Name} {c m n : Counts} → is_if_shape x ≡ false → ◌≡◌ {A = Option (Name × Name)} (Some (codes "properties", codes "patternProperties")) (Some (a, b)) → IsNeighbour I answers ms p a P c m
+          → IsNeighbour I answers ms q b P m n → IsDeclared p t.beside.properties × IsPatterns o.answers (known_of ms) q t.beside.patterns → TakenStands I answers ms x P t
       others_stand x {c = c} {m} {n} apart e h k taken =
-          let first = subst (λ y. IsNeighbour o answers ms p y P c m) (sym (first_name e)) h in
-          let second = subst (λ y. IsNeighbour o answers ms q y P m n) (sym (second_name e)) k in
+          let first = subst (λ y. IsNeighbour I answers ms p y P c m) (sym (first_name e)) h in
+          let second = subst (λ y. IsNeighbour I answers ms q y P m n) (sym (second_name e)) k in
           record {
             cases = λ is. absurd (true≢false (sym is ∙ apart));
-            beside = λ is. (declared_fills o answers ms P p t.beside.properties _ taken.0 first.stands, patterns_fill o answers ms P q t.beside.patterns _ taken.1 second.stands);
+            beside = λ is. (declared_fills I answers ms P p t.beside.properties _ taken.0 first.stands, patterns_fill I answers ms P q t.beside.patterns _ taken.1 second.stands);
           }
 
-      both_stand_taken : (x : Shape K R) {a b : Name} {c m n : Counts} → takes_of x ≡ Some (a, b) → IsNeighbour o answers ms p a P c m → IsNeighbour o answers ms q b P m n
-          → TakenBy o.answers (known_of ms) x p q t → TakenStands o answers ms x P t
+      both_stand_taken : (x : Shape K R) {a b : Name} {c m n : Counts} → takes_of x ≡ Some (a, b) → IsNeighbour I answers ms p a P c m → IsNeighbour I answers ms q b P m n
+          → TakenBy o.answers (known_of ms) x p q t → TakenStands I answers ms x P t
       both_stand_taken shape.If e h k taken = condition_stands e h k taken
       both_stand_taken shape.AdditionalProperties e h k taken = others_stand shape.AdditionalProperties refl e h k taken
       both_stand_taken shape.NoOthers e h k taken = others_stand shape.NoOthers refl e h k taken
       both_stand_taken x e h k taken = absurd (true≢false (sym (ap is_some e)))
 
-module _ {K R N : Type 0} {o : Kit K R} {answers : N → Answers} {ms : Members} {P : Path} where
-  pub takes_nothing : {x : Shape K R} {a : Counts} {t : Taken R N} → takes_of x ≡ None → IsTaken o answers ms x P a a t
+module _ {K R N : Type 0} {o : Kit K R} {I : StepsOf o} {answers : N → Answers} {ms : Members} {P : Path} where
+  pub takes_nothing : {x : Shape K R} {a : Counts} {t : Taken R N} → takes_of x ≡ None → IsTaken I answers ms x P a a t
   takes_nothing {x} {a} none = record {
     stands = record {
-      cases = λ is. absurd (true≢false (sym (ap is_some (if_takes o answers x is)) ∙ ap is_some none));
-      beside = λ is. absurd (true≢false (sym (ap is_some (restriction_takes o answers x is)) ∙ ap is_some none));
+      cases = λ is. absurd (true≢false (sym (ap is_some (if_takes I answers x is)) ∙ ap is_some none));
+      beside = λ is. absurd (true≢false (sym (ap is_some (restriction_takes I answers x is)) ∙ ap is_some none));
     };
-    clean = ap (λ t. all_malformed o ms P (rows_taken ms t)) none;
-    spends = subst (λ t. Spends a a (all_cost o ms (rows_taken ms t))) (sym none) (spends_nothing a);
+    clean = ap (λ t. all_malformed I ms P (rows_taken ms t)) none;
+    spends = subst (λ t. Spends a a (all_cost I ms (rows_taken ms t))) (sym none) (spends_nothing a);
   }
 
-  module _ (x : Shape K R) {a b : Name} (e : takes_of x ≡ Some (a, b)) {p q : Option (Part K R N)} {c m n z : Counts} (h : IsNeighbour o answers ms p a P c m) (k : IsNeighbour o answers ms q b P m n) where
-    pub both_taken : {t : Taken R N} {known : Known} → known ≡ known_of ms → TakenBy o.answers known x p q t → z ≡ count_asks (asks_taken o.costs known x q) n → IsTaken o answers ms x P c z t
+  module _ (x : Shape K R) {a b : Name} (e : takes_of x ≡ Some (a, b)) {p q : Option (Part K R N)} {c m n z : Counts} (h : IsNeighbour I answers ms p a P c m) (k : IsNeighbour I answers ms q b P m n) where
+    pub both_taken : {t : Taken R N} {known : Known} → known ≡ known_of ms → TakenBy o.answers known x p q t → z ≡ count_asks (asks_taken o.costs known x q) n → IsTaken I answers ms x P c z t
     both_taken {t} same taken asked = record {
-      stands = both_stand_taken o answers ms P x e h k (subst (λ w. TakenBy o.answers w x p q t) same taken);
-      clean = ap (λ t. all_malformed o ms P (rows_taken ms t)) e ∙ flat_map-append (wrong o ms P) (rows_at a ms) (rows_at b ms) ∙ (λ i. h.clean i ++ k.clean i);
-      spends = subst (λ t. Spends c z (all_cost o ms (rows_taken ms t))) (sym e) (both_spent o ms P (rows_at a ms) (rows_at b ms) c m z
-          (nothing_later h.spends (first_later o answers ms P x e))
-          (later_spent k.spends (second_later o answers ms P k x e) (spends_asks _ _ n z (ap (λ w. asks_taken o.costs w x q) same) asked)));
+      stands = both_stand_taken I answers ms P x e h k (subst (λ w. TakenBy o.answers w x p q t) same taken);
+      clean = ap (λ t. all_malformed I ms P (rows_taken ms t)) e ∙ flat_map-append (wrong I ms P) (rows_at a ms) (rows_at b ms) ∙ (λ i. h.clean i ++ k.clean i);
+      spends = subst (λ t. Spends c z (all_cost I ms (rows_taken ms t))) (sym e) (both_spent I ms P (rows_at a ms) (rows_at b ms) c m z
+          (nothing_later h.spends (first_later I answers ms P x e))
+          (later_spent k.spends (second_later I answers ms P k x e) (spends_asks _ _ n z (ap (λ w. asks_taken o.costs w x q) same) asked)));
     }
 
-    pub taking_memory : {known : Known} → known ≡ known_of ms → AsksAtMost (asks_taken o.costs known x q) n z → {w : AllocError} (r : BuildError) → r ≡ Memory w → RefusesTaken o ms (takes_of x) P c z r
-    taking_memory same asked r s = subst (λ t. RefusesTaken o ms t P c z r) (sym e) (refuses_memory (within_same (sym (total_cost-append (costs o ms P) (rows_at a ms) (rows_at b ms)))
-        (within_append (before_within h.spends) (later_within k.spends (second_later o answers ms P k x e) (within_asks _ _ n z (ap (λ w. asks_taken o.costs w x q) same) asked)))) r s)
+    pub taking_memory : {known : Known} → known ≡ known_of ms → AsksAtMost (asks_taken o.costs known x q) n z → {w : AllocError} (r : BuildError) → r ≡ Memory w → RefusesTaken I ms (takes_of x) P c z r
+    taking_memory same asked r s = subst (λ t. RefusesTaken I ms t P c z r) (sym e) (refuses_memory (within_same (sym (total_cost-append (costs I ms P) (rows_at a ms) (rows_at b ms)))
+        (within_append (before_within h.spends) (later_within k.spends (second_later I answers ms P k x e) (within_asks _ _ n z (ap (λ w. asks_taken o.costs w x q) same) asked)))) r s)

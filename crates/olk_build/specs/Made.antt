@@ -16,6 +16,7 @@ use Rattle.olk_tree.specs.{Answers.Answers, declared.node.KeywordOver.KeywordOve
 use Rattle.olk_build.specs.{Standing.StandAt, declared.part.Taken.Taken}
 use Rattle.olk_build.specs.declared.shape.Shape.TheVariants as shape
 use Rattle.olk_tree.specs.declared.node.KeywordOver.TheVariants as keyword
+use Rattle.olk_tree.specs.Steps.{StepsOf}
 
 -- the keyword of a shape
 abbrev pub which_of : {K R : Type 0} → Shape K R → Keyword
@@ -43,14 +44,14 @@ which_of shape.Unpaired = unread
 which_of (shape.Leaf l) = leaf
 which_of shape.Unread = unread
 
-module _ {K R N : Type 0} (o : Kit K R) (answers : N → Answers) where
+module _ {K R N : Type 0} {o : Kit K R} (I : StepsOf o) (answers : N → Answers) where
   -- a keyword that is made of a shape and nodes at L is of this kind and has the keys of each value whose part these are
   abbrev pub MakesDependencies : Shape K R → Path → List N → (Path → List Name → KeywordOver K R N → Type 0) → KeywordOver K R N → Type 0
-  MakesDependencies x L ns Is k = (m : Name × Data) → IsShape o m.0 m.1 x → StandAt o answers (reads_of x) ns m.1 L → Is L (map (λ e. e.0) (members m.1)) k
+  MakesDependencies x L ns Is k = (m : Name × Data) → IsShape o m.0 m.1 x → StandAt I answers (reads_of x) ns m.1 L → Is L (map (λ e. e.0) (members m.1)) k
 
   -- and the texts at each
   abbrev pub MakesPropertyDependencies : Shape K R → Path → List N → KeywordOver K R N → Type 0
-  MakesPropertyDependencies x L ns k = (m : Name × Data) → IsShape o m.0 m.1 x → StandAt o answers (reads_of x) ns m.1 L
+  MakesPropertyDependencies x L ns k = (m : Name × Data) → IsShape o m.0 m.1 x → StandAt I answers (reads_of x) ns m.1 L
       → IsPropertyDependencies L (map (λ e. e.0) (members m.1)) (map (λ e. map (λ c. c.0) (members e.1)) (members m.1)) k
 
   module _ (L : Path) (ns : List N) (t : Taken R N) (P : Path) (p : Planned) where

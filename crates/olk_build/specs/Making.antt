@@ -11,17 +11,18 @@ use Rattle.olk_meaning.specs.Conditions.{is_condition, known_of}
 use Rattle.olk_build.specs.Reading.{reads_of, IsShape, Fits}
 use Rattle.olk_build.specs.declared.shape.Shape.{Shape}
 use Rattle.olk_spec.specs.{Schemas.listed, Malformed.has_repeat}
-use Rattle.olk_tree.specs.{declared.node.KeywordOver.KeywordOver, Answers.Answers, Places.Stands}
+use Rattle.olk_tree.specs.{declared.node.KeywordOver.KeywordOver, Answers.Answers}
 use Rattle.olk_build.specs.{Chooser.IsChosen, declared.part.Cases.Cases, declared.part.Beside.Beside, declared.part.Taken.Taken}
+use Rattle.olk_tree.specs.Steps.{StandsBy, StepsOf}
 
-module _ {K R N : Type 0} (o : Kit K R) (answers : N → Answers) where
+module _ {K R N : Type 0} {o : Kit K R} (I : StepsOf o) (answers : N → Answers) where
   module _ (ms : Members) (ks : List (KeywordOver K R N)) where
     -- in the schema object with the members ms at P, the keywords mean what the rows mean together, show what the members es show, have their form, and are the validators of these members
     pub record KeywordsMean (rows es : List (Name × Data)) (P : Path) : Type 0 where
-      pub covers : Covers o answers ms ks rows P
-      pub shows : all_malformed o ms P (listed ms) ≡ [] → (u : Bool) (v : Data) (Q : Path) → show o answers ms ks u v Q ≡ flat_map (λ m. member_child o.world ms m (which o ms m) u v P Q) es
-      pub formed : all_formed o answers ms ks ≡ true
-      pub forms : all_malformed o ms P (listed ms) ≡ [] → stand o answers ms ks ≡ flat_map (λ m. member_standing o.world ms m (which o ms m) P) es
+      pub covers : Covers I answers ms ks rows P
+      pub shows : all_malformed I ms P (listed ms) ≡ [] → (u : Bool) (v : Data) (Q : Path) → show I answers ms ks u v Q ≡ flat_map (λ m. member_child I.steps ms m (which o ms m) u v P Q) es
+      pub formed : all_formed I answers ms ks ≡ true
+      pub forms : all_malformed I ms P (listed ms) ≡ [] → stand I answers ms ks ≡ flat_map (λ m. member_standing I.steps ms m (which o ms m) P) es
 
     -- they mean what the object means
     abbrev pub ObjectIsMade : Path → Type 0
@@ -29,37 +30,37 @@ module _ {K R N : Type 0} (o : Kit K R) (answers : N → Answers) where
 
     -- the same for one member and no neighbours
     pub record KeywordMeans (m : Name × Data) (P : Path) : Type 0 where
-      pub holds : Holds o answers ms ks m (which o ms m) P
-      pub shows : (u : Bool) → StandsAlone o.world u ms m (which o ms m) → (v : Data) (Q : Path) → show o answers ms ks u v Q ≡ member_child o.world ms m (which o ms m) u v P Q
-      pub formed : all_formed o answers ms ks ≡ true
-      pub forms : StandsByItself o.world ms (which o ms m) → stand o answers ms ks ≡ member_standing o.world ms m (which o ms m) P
+      pub holds : Holds I answers ms ks m (which o ms m) P
+      pub shows : (u : Bool) → StandsAlone I.steps u ms m (which o ms m) → (v : Data) (Q : Path) → show I answers ms ks u v Q ≡ member_child I.steps ms m (which o ms m) u v P Q
+      pub formed : all_formed I answers ms ks ≡ true
+      pub forms : StandsByItself I.steps ms (which o ms m) → stand I answers ms ks ≡ member_standing I.steps ms m (which o ms m) P
 
   -- keywords that are made of a shape and nodes at L mean the member whose part these are, in each object
   abbrev pub MakesMember : Shape K R → Path → List N → List (KeywordOver K R N) → Type 0
-  MakesMember x L ns ks = (ms : Members) (m : Name × Data) (P : Path) → L ≡ P // m.0 → IsShape o m.0 m.1 x → StandAt o answers (reads_of x) ns m.1 L → KeywordMeans ms ks m P
+  MakesMember x L ns ks = (ms : Members) (m : Name × Data) (P : Path) → L ≡ P // m.0 → IsShape o m.0 m.1 x → StandAt I answers (reads_of x) ns m.1 L → KeywordMeans ms ks m P
 
   -- and what it claims in each object at P that has this plan, where no other keyword takes what it holds
   abbrev pub MakesClaims : Shape K R → Path → List N → Path → Planned → List (KeywordOver K R N) → Type 0
-  MakesClaims x L ns P p ks = (ms : Members) (m : Name × Data) → L ≡ P // m.0 → IsShape o m.0 m.1 x → StandAt o answers (reads_of x) ns m.1 L
+  MakesClaims x L ns P p ks = (ms : Members) (m : Name × Data) → L ≡ P // m.0 → IsShape o m.0 m.1 x → StandAt I answers (reads_of x) ns m.1 L
       → has_repeat (map (λ m. m.0) (listed ms)) ≡ false → lookup_name m.0 (listed ms) ≡ Some m.1 → p ≡ plan_of ms → is_taken p m.0 ≡ false
       → KeywordsMean ms ks (claims (head p) (listed ms) m) (m ∷ []) P
 
   -- keywords that are made of the nodes of `if`, `then` and `else` mean all three, in each object where `if` is read
   abbrev pub MakesCondition : Path → N → Cases N → List (KeywordOver K R N) → Type 0
-  MakesCondition L n cs ks = (ms : Members) (d : Data) (P : Path) → L ≡ P // codes "if" → Stands o answers n d L → CasesStand o answers cs ms P
+  MakesCondition L n cs ks = (ms : Members) (d : Data) (P : Path) → L ≡ P // codes "if" → StandsBy I answers n d L → CasesStand I answers cs ms P
       → has_repeat (map (λ m. m.0) (listed ms)) ≡ false → lookup_name (codes "if") (listed ms) ≡ Some d → is_condition ms ≡ true
       → KeywordsMean ms ks (claims (head (plan_of ms)) (listed ms) (codes "if", d)) ((codes "if", d) ∷ []) P
 
   -- keywords that are made of the node of `additionalProperties` and of what stands beside it mean all that it takes over, in each object at P that has this plan and where it restricts other members
   abbrev pub MakesRestriction : Path → Option N → Beside R N → Path → Planned → List (KeywordOver K R N) → Type 0
-  MakesRestriction L rest b P p ks = (ms : Members) (d : Data) → L ≡ P // codes "additionalProperties" → RestStands o answers rest d L → BesideStands o answers (known_of ms) b ms P
+  MakesRestriction L rest b P p ks = (ms : Members) (d : Data) → L ≡ P // codes "additionalProperties" → RestStands I answers rest d L → BesideStands I answers (known_of ms) b ms P
       → has_repeat (map (λ m. m.0) (listed ms)) ≡ false → lookup_name (codes "additionalProperties") (listed ms) ≡ Some d → p ≡ plan_of ms
       → KeywordsMean ms ks (claims (head p) (listed ms) (codes "additionalProperties", d)) ((codes "additionalProperties", d) ∷ []) P
 
   -- keywords that are made of a part that stays mean what its member claims, in each object at P that has this plan; `if` and `additionalProperties` take what was taken for them
   abbrev pub MakesPart : Shape K R → Path → List N → Taken R N → Path → Planned → List (KeywordOver K R N) → Type 0
-  MakesPart x L ns t P p ks = (ms : Members) (m : Name × Data) → L ≡ P // m.0 → IsShape o m.0 m.1 x → Fits o (known_of ms) x → StandAt o answers (reads_of x) ns m.1 L
-      → (is_if_shape x ≡ true → CasesStand o answers t.cases ms P) → (is_restriction_shape x ≡ true → BesideStands o answers (known_of ms) t.beside ms P)
+  MakesPart x L ns t P p ks = (ms : Members) (m : Name × Data) → L ≡ P // m.0 → IsShape o m.0 m.1 x → Fits o (known_of ms) x → StandAt I answers (reads_of x) ns m.1 L
+      → (is_if_shape x ≡ true → CasesStand I answers t.cases ms P) → (is_restriction_shape x ≡ true → BesideStands I answers (known_of ms) t.beside ms P)
       → has_repeat (map (λ m. m.0) (listed ms)) ≡ false → lookup_name m.0 (listed ms) ≡ Some m.1 → p ≡ plan_of ms → is_taken p m.0 ≡ false
       → KeywordsMean ms ks (claims (head p) (listed ms) m) (m ∷ []) P
 

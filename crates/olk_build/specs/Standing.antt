@@ -17,11 +17,12 @@ use Rattle.olk_build.specs.declared.shape.ReadPlaces.TheVariants.{Nothing, Itsel
 use Rattle.olk_build.specs.Reading.{reads_of, IsShape, Fits}
 use Rattle.olk_spec.specs.{Tree.Tree, Malformed.items_of_array}
 use Rattle.olk_base.specs.{Kit.Kit, declared.pattern.CompiledPattern.CompiledPattern}
-use Rattle.olk_tree.specs.{Answers.Answers, Places.Stands, declared.node.KeywordOver.KeywordOver}
+use Rattle.olk_tree.specs.{Answers.Answers, declared.node.KeywordOver.KeywordOver}
 use Rattle.olk_build.specs.{declared.shape.ReadPlaces.ReadPlaces, Reading.IsPattern, declared.shape.Shape.Shape}
 use Rattle.olk_build.specs.{declared.part.Part.Part, declared.part.Cases.Cases, declared.part.Patterns.Patterns, declared.part.Beside.Beside}
 use Rattle.olk_build.specs.declared.part.DeclaredNodes.{DeclaredNodes}
 use Rattle.olk_build.specs.declared.shape.Shape.TheVariants as shape
+use Rattle.olk_tree.specs.Steps.{StandsBy, StepsOf}
 
 -- ---- what nodes stand for, and what the validators of a schema object mean together
 
@@ -30,14 +31,15 @@ module _ {K R : Type 0} (o : Kit K R) (ms : Members) where
   abbrev pub which : Name × Data → Keyword
   which m = keyword_named o.world m.0
 
+module _ {K R : Type 0} {o : Kit K R} (I : StepsOf o) (ms : Members) where
   abbrev pub all_malformed : Path → List (Name × Data) → List Fault
-  all_malformed P es = flat_map (λ m. member_malformations o.world ms m (which m) P) es
+  all_malformed P es = flat_map (λ m. member_malformations I.steps ms m (which o ms m) P) es
 
-module _ {K R N : Type 0} (o : Kit K R) (answers : N → Answers) where
+module _ {K R N : Type 0} {o : Kit K R} (I : StepsOf o) (answers : N → Answers) where
   -- ---- nodes for schemas under names, below a place
 
   abbrev pub StandEach : List N → List (Name × Data) → Path → Type 0
-  StandEach ns es P = AllZip (λ n e. Stands o answers n e.1 (P // e.0)) ns es
+  StandEach ns es P = AllZip (λ n e. StandsBy I answers n e.1 (P // e.0)) ns es
 
   -- nodes for the entries of each of these, one list behind the other
   abbrev pub StandInner : List N → List (Name × Data) → Path → Type 0
@@ -70,15 +72,15 @@ module _ {K R N : Type 0} (o : Kit K R) (answers : N → Answers) where
 
     -- it is what one member means; what is asked is bounded where `additionalProperties` doesn't take the keyword over
     pub record Holds (m : Name × Data) (w : Keyword) (P : Path) : Type 0 where
-      pub verdict : (u : Bool) (v : Data) → means v u ≡ member_accepts o.world ms m w u v
-      pub asks_within : (is_restricted ms && tells_members m.0) ≡ false → (u : Bool) (v : Data) → ask v u ≤ member_asks o.world ms m w u v
-      pub faults : (u : Bool) (v : Data) (Q : Path) → find u v Q ∼ member_report o.world ms m w u v P Q
+      pub verdict : (u : Bool) (v : Data) → means v u ≡ member_accepts I.steps ms m w u v
+      pub asks_within : (is_restricted ms && tells_members m.0) ≡ false → (u : Bool) (v : Data) → ask v u ≤ member_asks I.steps ms m w u v
+      pub faults : (u : Bool) (v : Data) (Q : Path) → find u v Q ∼ member_report I.steps ms m w u v P Q
 
     -- it is what some members mean together
     pub record Covers (es : List (Name × Data)) (P : Path) : Type 0 where
-      pub verdict : (u : Bool) (v : Data) → means v u ≡ list_all (λ m. member_accepts o.world ms m (which o ms m) u v) es
-      pub asks_within : (u : Bool) (v : Data) → ask v u ≤ sum_by (λ m. member_asks o.world ms m (which o ms m) u v) es
-      pub faults : (u : Bool) (v : Data) (Q : Path) → find u v Q ∼ flat_map (λ m. member_report o.world ms m (which o ms m) u v P Q) es
+      pub verdict : (u : Bool) (v : Data) → means v u ≡ list_all (λ m. member_accepts I.steps ms m (which o ms m) u v) es
+      pub asks_within : (u : Bool) (v : Data) → ask v u ≤ sum_by (λ m. member_asks I.steps ms m (which o ms m) u v) es
+      pub faults : (u : Bool) (v : Data) (Q : Path) → find u v Q ∼ flat_map (λ m. member_report I.steps ms m (which o ms m) u v P Q) es
 
 -- ---- what the nodes and the parts of a schema object stand for
 
@@ -108,21 +110,21 @@ Fills Stands None (Some d) = ⊥
 Fills Stands (Some x) None = ⊥
 Fills Stands (Some x) (Some d) = Stands x d
 
-module _ {K R N : Type 0} (o : Kit K R) (answers : N → Answers) where
+module _ {K R N : Type 0} {o : Kit K R} (I : StepsOf o) (answers : N → Answers) where
   -- nodes for the places that are read in a value at L
   abbrev pub StandAt : ReadPlaces → List N → Data → Path → Type 0
   StandAt Nothing ns d L = ns ≡ []
   StandAt Itself [] d L = ⊥
-  StandAt Itself (n ∷ []) d L = Stands o answers n d L
+  StandAt Itself (n ∷ []) d L = StandsBy I answers n d L
   StandAt Itself (n ∷ m ∷ ns) d L = ⊥
-  StandAt Entries ns d L = StandEach o answers ns (members d) L
-  StandAt SchemaEntries ns d L = StandEach o answers ns (filter_once (λ e. not (is_array e.1)) (members d)) L
-  StandAt InnerEntries ns d L = StandInner o answers ns (members d) L
-  StandAt Branches ns d L = StandEach o answers ns (numbered (items_of_array d)) L
+  StandAt Entries ns d L = StandEach I answers ns (members d) L
+  StandAt SchemaEntries ns d L = StandEach I answers ns (filter_once (λ e. not (is_array e.1)) (members d)) L
+  StandAt InnerEntries ns d L = StandInner I answers ns (members d) L
+  StandAt Branches ns d L = StandEach I answers ns (numbered (items_of_array d)) L
 
   -- patterns beside nodes: each entry stands for the pattern and the schema at its place
   abbrev pub EntriesStand : List (CompiledPattern R × N) → List (Name × Data) → Path → Type 0
-  EntriesStand es ds L = AllZip (λ e d. IsPattern o e.0 d.0 × Stands o answers e.1 d.1 (L // d.0)) es ds
+  EntriesStand es ds L = AllZip (λ e d. IsPattern o e.0 d.0 × StandsBy I answers e.1 d.1 (L // d.0)) es ds
 
   -- c is known of the neighbours in the schema object at P
   module _ (c : Known) where
@@ -148,16 +150,16 @@ module _ {K R N : Type 0} (o : Kit K R) (answers : N → Answers) where
   pub record DeclaredStand (x : DeclaredNodes N) (L : Path) (d : Data) : Type 0 where
     pub kind : is_object d ≡ true
     pub names : x.names ≡ map (λ e. e.0) (members d)
-    pub nodes : StandEach o answers x.nodes.items (members d) L
+    pub nodes : StandEach I answers x.nodes.items (members d) L
 
   -- the node of `additionalProperties` at L, and none where that is false
   abbrev pub RestStands : Option N → Data → Path → Type 0
   RestStands None d L = is_truth false d ≡ true
-  RestStands (Some n) d L = (is_object d ≡ true) × Stands o answers n d L
+  RestStands (Some n) d L = (is_object d ≡ true) × StandsBy I answers n d L
 
   -- in the schema object with the members ms at P, for what stands at `then` and at `else`
   abbrev pub CasesStand : Cases N → Members → Path → Type 0
-  CasesStand cs ms P = Fills (λ n d. Stands o answers n d (P // codes "then")) cs.then_schema (lookup_name (codes "then") (listed ms)) × Fills (λ n d. Stands o answers n d (P // codes "else")) cs.else_schema (lookup_name (codes "else") (listed ms))
+  CasesStand cs ms P = Fills (λ n d. StandsBy I answers n d (P // codes "then")) cs.then_schema (lookup_name (codes "then") (listed ms)) × Fills (λ n d. StandsBy I answers n d (P // codes "else")) cs.else_schema (lookup_name (codes "else") (listed ms))
 
   -- and for what stands at `properties` and at `patternProperties`
   abbrev pub BesideStands : Known → Beside R N → Members → Path → Type 0

@@ -19,6 +19,7 @@ use Rattle.olk_tree.specs.{Answers.Answers, declared.node.KeywordOver.KeywordOve
 use Rattle.olk_build.specs.{Making.IsMadeOf, declared.part.Part.Part, declared.part.DeclaredNodes.DeclaredNodes, declared.part.Patterns.Patterns}
 use Rattle.olk_build.specs.declared.part.Taken.{Taken}
 use Rattle.olk_build.specs.declared.shape.Shape.TheVariants as shape
+use Rattle.olk_tree.specs.Steps.{StepsOf}
 
 -- the two neighbours that the keyword of the name k takes: `if` takes `then` and `else`, and `additionalProperties` the keywords that tell members by their names
 abbrev pub takes : Planned → Name → Option (Name × Name)
@@ -93,38 +94,38 @@ module _ {K R N : Type 0} (costs : R → Bool) (c : Known) where
 
 -- ---- neighbours, in the schema object with the members ms at P
 
-module _ {K R : Type 0} (o : Kit K R) (ms : Members) where
+module _ {K R : Type 0} {o : Kit K R} (I : StepsOf o) (ms : Members) where
   abbrev pub RefusesNeighbour : Name → Path → Counts → Counts → BuildError → Type 0
-  RefusesNeighbour k P old new e = Refuses (all_malformed o ms P (rows_at k ms)) (all_cost o ms (rows_at k ms)) old new e
+  RefusesNeighbour k P old new e = Refuses (all_malformed I ms P (rows_at k ms)) (all_cost I ms (rows_at k ms)) old new e
 
   abbrev pub RefusesTaken : Option (Name × Name) → Path → Counts → Counts → BuildError → Type 0
-  RefusesTaken t P old new e = Refuses (all_malformed o ms P (rows_taken ms t)) (all_cost o ms (rows_taken ms t)) old new e
+  RefusesTaken t P old new e = Refuses (all_malformed I ms P (rows_taken ms t)) (all_cost I ms (rows_taken ms t)) old new e
 
-module _ {K R N : Type 0} (o : Kit K R) (answers : N → Answers) (ms : Members) where
+module _ {K R N : Type 0} {o : Kit K R} (I : StepsOf o) (answers : N → Answers) (ms : Members) where
   -- a part stands for the member of the name k, and there is none where there is no such member
   abbrev pub PartFills : Option (Part K R N) → Name → Path → Type 0
-  PartFills p k P = Fills (λ x d. PartStands o answers (known_of ms) x (k, d) P) p (lookup_name k (listed ms))
+  PartFills p k P = Fills (λ x d. PartStands I answers (known_of ms) x (k, d) P) p (lookup_name k (listed ms))
 
   pub record IsNeighbour (p : Option (Part K R N)) (k : Name) (P : Path) (old new : Counts) : Type 0 where
     pub stands : PartFills p k P
-    pub clean : all_malformed o ms P (rows_at k ms) ≡ []
-    pub spends : SpendsBefore o ms (rows_at k ms) old new
+    pub clean : all_malformed I ms P (rows_at k ms) ≡ []
+    pub spends : SpendsBefore I ms (rows_at k ms) old new
 
   -- what the keyword of this shape takes stands for the members that are there
   pub record TakenStands (x : Shape K R) (P : Path) (t : Taken R N) : Type 0 where
-    pub cases : is_if_shape x ≡ true → is_condition ms ≡ true → CasesStand o answers t.cases ms P
-    pub beside : is_restriction_shape x ≡ true → BesideStands o answers (known_of ms) t.beside ms P
+    pub cases : is_if_shape x ≡ true → is_condition ms ≡ true → CasesStand I answers t.cases ms P
+    pub beside : is_restriction_shape x ≡ true → BesideStands I answers (known_of ms) t.beside ms P
 
   pub record IsTaken (x : Shape K R) (P : Path) (old new : Counts) (t : Taken R N) : Type 0 where
     pub stands : TakenStands x P t
-    pub clean : all_malformed o ms P (rows_taken ms (takes_of x)) ≡ []
-    pub spends : Spends old new (all_cost o ms (rows_taken ms (takes_of x)))
+    pub clean : all_malformed I ms P (rows_taken ms (takes_of x)) ≡ []
+    pub spends : Spends old new (all_cost I ms (rows_taken ms (takes_of x)))
 
-module _ {K R N : Type 0} (o : Kit K R) (answers : N → Answers) where
+module _ {K R N : Type 0} {o : Kit K R} (I : StepsOf o) (answers : N → Answers) where
   -- what is made of a shape and nodes at L is made of the part's member, in each object at P that has this plan and where what was taken stands for the neighbours
   abbrev pub MakesTaking : Shape K R → Path → List N → Taken R N → Path → Planned → Option (KeywordOver K R N) → Type 0
-  MakesTaking x L ns t P q r = (ms : Members) (m : Name × Data) → L ≡ P // m.0 → IsShape o m.0 m.1 x → Fits o (known_of ms) x → StandAt o answers (reads_of x) ns m.1 L → TakenStands o answers ms x P t
-      → has_repeat (map (λ m. m.0) (listed ms)) ≡ false → IsMember ms m → q ≡ plan_of ms → is_taken q m.0 ≡ false → IsMadeOf o answers ms m P r
+  MakesTaking x L ns t P q r = (ms : Members) (m : Name × Data) → L ≡ P // m.0 → IsShape o m.0 m.1 x → Fits o (known_of ms) x → StandAt I answers (reads_of x) ns m.1 L → TakenStands I answers ms x P t
+      → has_repeat (map (λ m. m.0) (listed ms)) ≡ false → IsMember ms m → q ≡ plan_of ms → is_taken q m.0 ≡ false → IsMadeOf I answers ms m P r
 
   -- it stands behind the keywords before it
   pub record AppendsTaking (x : Shape K R) (L : Path) (ns : List N) (t : Taken R N) (P : Path) (q : Planned) (old new : List (KeywordOver K R N)) : Type 0 where
@@ -140,14 +141,14 @@ module _ {K R N : Type 0} (o : Kit K R) (answers : N → Answers) where
 
 -- ---- the member m of the schema object with the members ms at P, with the members that it takes
 
-module _ {K R : Type 0} (o : Kit K R) (ms : Members) (m : Name × Data) (P : Path) (old new : Counts) where
+module _ {K R : Type 0} {o : Kit K R} (I : StepsOf o) (ms : Members) (m : Name × Data) (P : Path) (old new : Counts) where
   pub record MemberIsBuilt {N : Type 0} (answers : N → Answers) (r : Option (KeywordOver K R N)) : Type 0 where
-    pub made : IsMadeOf o answers ms m P r
-    pub clean : all_malformed o ms P (rows_read ms m) ≡ []
-    pub spends : Spends old new (all_cost o ms (rows_read ms m))
+    pub made : IsMadeOf I answers ms m P r
+    pub clean : all_malformed I ms P (rows_read ms m) ≡ []
+    pub spends : Spends old new (all_cost I ms (rows_read ms m))
 
   abbrev pub RefusesMember : BuildError → Type 0
-  RefusesMember e = Refuses (all_malformed o ms P (rows_read ms m)) (all_cost o ms (rows_read ms m)) old new e
+  RefusesMember e = Refuses (all_malformed I ms P (rows_read ms m)) (all_cost I ms (rows_read ms m)) old new e
 
   -- its keyword, or why there is none, if any of these is given
   abbrev pub GivesMember : {N : Type 0} → (N → Answers) → Option (Result (KeywordOver K R N) BuildError) → Type 0

@@ -11,6 +11,7 @@ ghost use Rattle.std.specs.Option.{IfNone};
 ghost use Rattle.olk_spec.specs.Names.{lookup_name, Name, Path};
 ghost use Rattle.olk_reports.specs.Paths.{one_below};
 ghost use Rattle.olk_base.specs.Kit.{kit};
+ghost use Rattle.olk_tree.specs.Steps.{StepsOf, layer};
 ghost use Rattle.olk_meaning.specs.Plans.{plan_of, planned};
 ghost use Rattle.olk_build.specs.Forms.{IsAdditionalProperties, IsMapOf, IsRestriction, IsFormOfAdditionalProperties};
 ghost use Rattle.olk_build.specs.Building.{IsMember};
@@ -79,7 +80,7 @@ pub fn compile<'a, L: MakeLeaf, M: MakeRegex, N: BuiltNode<L::Leaf, M::Engine>>(
     parent: &'a Map<String, Value>,
     schema: &'a Value,
 ) -> Option<Result<KeywordOver<L::Leaf, M::Engine, N>, BuildError<'a>>>
-    ensures gives { GivesMember (kit L.Leaf.Leaf M.Engine.RegexEngine)
+    ensures gives { GivesMember (layer L.Leaf.Leaf M.Engine.RegexEngine)
         (members_view parent.now.entries) (codes "additionalProperties", view schema.now)
         ctx.old.place ctx.old.meter.now ctx.new.meter.now N.answers result }
     ensures form { Gives (members_view parent.now.entries)
@@ -284,8 +285,9 @@ pub(crate) fn make<K: Leaf, R: RegexEngine, N: BuiltNode<K, R>>(
         (option_map (λ m. length m.names) beside.properties)
         (option_map (λ x. length x.patterns.items) beside.patterns)
         (planned plan.entry).fused_one) }
-    ensures makes { IfOk result (λ k. MakesRestriction (kit K.Leaf R.RegexEngine)
-        N.answers location rest beside place.now (planned plan.entry) (k ∷ [])) }
+    ensures makes { IfOk result (λ k. (I : StepsOf (kit K.Leaf R.RegexEngine))
+        → MakesRestriction I N.answers location rest beside place.now (planned plan.entry) (k ∷
+        [])) }
 {
     let restriction = form(alloc, plan, place, location, rest, beside)?;
     Ok(KeywordOver::AdditionalProperties(restriction))

@@ -7,6 +7,7 @@ ghost use Rattle.olk_spec.specs.Costs.{cost};
 ghost use Rattle.olk_reports.specs.Paths.{one_below};
 ghost use Rattle.olk_base.specs.Kit.{kit, world};
 ghost use Rattle.olk_tree.specs.Places.{Stands};
+ghost use Rattle.olk_tree.specs.Steps.{layer};
 ghost use Rattle.olk_build.specs.Building.{IsMember, IsBuilt, ObjectIsBuilt, AreBuilt, InnerAreBuilt, is_read, entries_read, RefusesSchema, RefusesEach, RefusesInner, RefusesObject, RefusesPart, IsPart, PlacesAreBuilt, RefusesPlaces};
 ghost use Rattle.olk_meaning.specs.Conditions.{known, known_of};
 ghost use Rattle.olk_build.specs.Refusing.{TellsOneOf, Spends, SpendsWithin};
@@ -47,9 +48,9 @@ fn compile_schema<'a, L: MakeLeaf, M: MakeRegex, N: BuiltNode<L::Leaf, M::Engine
     location: Location,
     schema: &'a Value,
 ) -> Result<N, Stop<'a>>
-    ensures built { IfOk result (λ n. IsBuilt (kit L.Leaf.Leaf M.Engine.RegexEngine) N.answers n
+    ensures built { IfOk result (λ n. IsBuilt (layer L.Leaf.Leaf M.Engine.RegexEngine) N.answers n
         (view schema.now) location meter.old meter.new) }
-    ensures refused { IfErr result (RefusesSchema (kit L.Leaf.Leaf M.Engine.RegexEngine)
+    ensures refused { IfErr result (RefusesSchema (layer L.Leaf.Leaf M.Engine.RegexEngine)
         (view schema.now) location meter.old meter.new) }
 {
     meter.tick_compiled();
@@ -75,9 +76,9 @@ fn compile_object<'a, L: MakeLeaf, M: MakeRegex, N: BuiltNode<L::Leaf, M::Engine
     place: &Location,
     members: &'a Map<String, Value>,
 ) -> Result<Vec<KeywordOver<L::Leaf, M::Engine, N>>, Stop<'a>>
-    ensures built { IfOk result (λ ks. ObjectIsBuilt (kit L.Leaf.Leaf M.Engine.RegexEngine)
+    ensures built { IfOk result (λ ks. ObjectIsBuilt (layer L.Leaf.Leaf M.Engine.RegexEngine)
         (members_view members.now.entries) N.answers ks.items place.now meter.old meter.new) }
-    ensures refused { IfErr result (RefusesObject (kit L.Leaf.Leaf M.Engine.RegexEngine)
+    ensures refused { IfErr result (RefusesObject (layer L.Leaf.Leaf M.Engine.RegexEngine)
         (members_view members.now.entries) place.now meter.old meter.new) }
 {
     let plan = Plan::of(members);
@@ -110,9 +111,9 @@ fn compile_taken<'a, L: MakeLeaf, M: MakeRegex, N: BuiltNode<L::Leaf, M::Engine>
     members: &'a Map<String, Value>,
     shape: &Shape<L::Leaf, M::Engine>,
 ) -> Result<Taken<M::Engine, N>, Stop<'a>>
-    ensures built { IfOk result (IsTaken (kit L.Leaf.Leaf M.Engine.RegexEngine) N.answers
+    ensures built { IfOk result (IsTaken (layer L.Leaf.Leaf M.Engine.RegexEngine) N.answers
         (members_view members.now.entries) shape.now place.now meter.old meter.new) }
-    ensures refused { IfErr result (RefusesTaken (kit L.Leaf.Leaf M.Engine.RegexEngine)
+    ensures refused { IfErr result (RefusesTaken (layer L.Leaf.Leaf M.Engine.RegexEngine)
         (members_view members.now.entries) (takes_of shape.now)
         place.now meter.old meter.new) }
 {
@@ -137,9 +138,9 @@ fn compile_neighbour<'a, L: MakeLeaf, M: MakeRegex, N: BuiltNode<L::Leaf, M::Eng
     members: &'a Map<String, Value>,
     name: &'static str,
 ) -> Result<Option<Part<L::Leaf, M::Engine, N>>, Stop<'a>>
-    ensures built { IfOk result (λ p. IsNeighbour (kit L.Leaf.Leaf M.Engine.RegexEngine) N.answers
+    ensures built { IfOk result (λ p. IsNeighbour (layer L.Leaf.Leaf M.Engine.RegexEngine) N.answers
         (members_view members.now.entries) p name.now place.now meter.old meter.new) }
-    ensures refused { IfErr result (RefusesNeighbour (kit L.Leaf.Leaf M.Engine.RegexEngine)
+    ensures refused { IfErr result (RefusesNeighbour (layer L.Leaf.Leaf M.Engine.RegexEngine)
         (members_view members.now.entries) name.now place.now meter.old meter.new) }
 {
     let neighbours = Neighbours::of(members);
@@ -164,9 +165,9 @@ fn compile_part<'a, L: MakeLeaf, M: MakeRegex, N: BuiltNode<L::Leaf, M::Engine>>
     name: &'a str,
     value: &'a Value,
 ) -> Result<Part<L::Leaf, M::Engine, N>, Stop<'a>>
-    ensures built { IfOk result (λ p. IsPart (kit L.Leaf.Leaf M.Engine.RegexEngine) N.answers p
+    ensures built { IfOk result (λ p. IsPart (layer L.Leaf.Leaf M.Engine.RegexEngine) N.answers p
         (known neighbours.entry) name.now (view value.now) location meter.old meter.new) }
-    ensures refused { IfErr result (RefusesPart (kit L.Leaf.Leaf M.Engine.RegexEngine)
+    ensures refused { IfErr result (RefusesPart (layer L.Leaf.Leaf M.Engine.RegexEngine)
         (known neighbours.entry) name.now (view value.now) location meter.old meter.new) }
 {
     let shape = read_keyword(alloc, makers, meter, neighbours, &location, name, value)?;
@@ -188,9 +189,9 @@ fn compile_places<'a, L: MakeLeaf, M: MakeRegex, N: BuiltNode<L::Leaf, M::Engine
     reads: ReadPlaces,
     value: &'a Value,
 ) -> Result<Vec<N>, Stop<'a>>
-    ensures built { IfOk result (λ ns. PlacesAreBuilt (kit L.Leaf.Leaf M.Engine.RegexEngine)
+    ensures built { IfOk result (λ ns. PlacesAreBuilt (layer L.Leaf.Leaf M.Engine.RegexEngine)
         N.answers reads ns.items (view value.now) location.now meter.old meter.new) }
-    ensures refused { IfErr result (RefusesPlaces (kit L.Leaf.Leaf M.Engine.RegexEngine)
+    ensures refused { IfErr result (RefusesPlaces (layer L.Leaf.Leaf M.Engine.RegexEngine)
         reads (view value.now) location.now meter.old meter.new) }
 {
     match reads {
@@ -245,10 +246,10 @@ fn compile_entries<'a, L: MakeLeaf, M: MakeRegex, N: BuiltNode<L::Leaf, M::Engin
     passes_arrays: bool,
     map: &'a Map<String, Value>,
 ) -> Result<Vec<N>, Stop<'a>>
-    ensures built { IfOk result (λ ns. AreBuilt (kit L.Leaf.Leaf M.Engine.RegexEngine)
+    ensures built { IfOk result (λ ns. AreBuilt (layer L.Leaf.Leaf M.Engine.RegexEngine)
         N.answers ns.items (entries_read passes_arrays (listed (members_view map.now.entries)))
         place.now meter.old meter.new) }
-    ensures refused { IfErr result (RefusesEach (kit L.Leaf.Leaf M.Engine.RegexEngine)
+    ensures refused { IfErr result (RefusesEach (layer L.Leaf.Leaf M.Engine.RegexEngine)
         (entries_read passes_arrays (listed (members_view map.now.entries)))
         place.now meter.old meter.new) }
 {
@@ -272,9 +273,9 @@ fn compile_inner_entries<'a, L: MakeLeaf, M: MakeRegex, N: BuiltNode<L::Leaf, M:
     place: &Location,
     map: &'a Map<String, Value>,
 ) -> Result<Vec<N>, Stop<'a>>
-    ensures built { IfOk result (λ ns. InnerAreBuilt (kit L.Leaf.Leaf M.Engine.RegexEngine)
+    ensures built { IfOk result (λ ns. InnerAreBuilt (layer L.Leaf.Leaf M.Engine.RegexEngine)
         N.answers ns.items (listed (members_view map.now.entries)) place.now meter.old meter.new) }
-    ensures refused { IfErr result (RefusesInner (kit L.Leaf.Leaf M.Engine.RegexEngine)
+    ensures refused { IfErr result (RefusesInner (layer L.Leaf.Leaf M.Engine.RegexEngine)
         (listed (members_view map.now.entries)) place.now meter.old meter.new) }
 {
     let mut nodes = Vec::new(alloc);
@@ -296,10 +297,10 @@ fn compile_branches<'a, L: MakeLeaf, M: MakeRegex, N: BuiltNode<L::Leaf, M::Engi
     place: &Location,
     items: &'a Vec<Value>,
 ) -> Result<Vec<N>, Stop<'a>>
-    ensures built { IfOk result (λ ns. AreBuilt (kit L.Leaf.Leaf M.Engine.RegexEngine)
+    ensures built { IfOk result (λ ns. AreBuilt (layer L.Leaf.Leaf M.Engine.RegexEngine)
         N.answers ns.items
         (numbered (items_list (items_view items.now.items))) place.now meter.old meter.new) }
-    ensures refused { IfErr result (RefusesEach (kit L.Leaf.Leaf M.Engine.RegexEngine)
+    ensures refused { IfErr result (RefusesEach (layer L.Leaf.Leaf M.Engine.RegexEngine)
         (numbered (items_list (items_view items.now.items))) place.now meter.old meter.new) }
 {
     let mut nodes = Vec::with_capacity(alloc, items.len())?;
@@ -321,11 +322,11 @@ fn compile_member<'a, L: MakeLeaf, M: MakeRegex, N: BuiltNode<L::Leaf, M::Engine
     value: &'a Value,
 ) -> Result<Option<KeywordOver<L::Leaf, M::Engine, N>>, BuildError<'a>>
     ensures built { IsMember (members_view parent.now.entries) (name.now, view value.now)
-        → IfOk result (MemberIsBuilt (kit L.Leaf.Leaf M.Engine.RegexEngine)
+        → IfOk result (MemberIsBuilt (layer L.Leaf.Leaf M.Engine.RegexEngine)
         (members_view parent.now.entries) (name.now, view value.now) ctx.old.place
         ctx.old.meter.now ctx.new.meter.now N.answers) }
     ensures refused { IsMember (members_view parent.now.entries) (name.now, view value.now)
-        → IfErr result (RefusesMember (kit L.Leaf.Leaf M.Engine.RegexEngine)
+        → IfErr result (RefusesMember (layer L.Leaf.Leaf M.Engine.RegexEngine)
         (members_view parent.now.entries) (name.now, view value.now) ctx.old.place
         ctx.old.meter.now ctx.new.meter.now) }
     ensures place { ctx.new.place ≡ ctx.old.place }
@@ -375,7 +376,7 @@ pub fn compile_keyword<'a, L: MakeLeaf, M: MakeRegex, N: BuiltNode<L::Leaf, M::E
     name: &'a str,
     value: &'a Value,
 ) -> Option<Result<KeywordOver<L::Leaf, M::Engine, N>, BuildError<'a>>>
-    ensures gives { GivesMember (kit L.Leaf.Leaf M.Engine.RegexEngine)
+    ensures gives { GivesMember (layer L.Leaf.Leaf M.Engine.RegexEngine)
         (members_view parent.now.entries) (name.now, view value.now) ctx.old.place
         ctx.old.meter.now ctx.new.meter.now N.answers result }
     ensures form { Gives (members_view parent.now.entries) (name.now, view value.now) result
@@ -404,11 +405,11 @@ pub fn compile_declared<'a, L: MakeLeaf, M: MakeRegex, N: BuiltNode<L::Leaf, M::
     name: &str,
     entries: &'a Map<String, Value>,
 ) -> Result<Vec<N>, BuildError<'a>>
-    ensures built { IfOk result (λ ns. AreBuilt (kit L.Leaf.Leaf M.Engine.RegexEngine)
+    ensures built { IfOk result (λ ns. AreBuilt (layer L.Leaf.Leaf M.Engine.RegexEngine)
         N.answers ns.items
         (listed (members_view entries.now.entries)) (one_below ctx.old.place name.now)
         ctx.old.meter.now ctx.new.meter.now) }
-    ensures refused { IfErr result (RefusesEach (kit L.Leaf.Leaf M.Engine.RegexEngine)
+    ensures refused { IfErr result (RefusesEach (layer L.Leaf.Leaf M.Engine.RegexEngine)
         (listed (members_view entries.now.entries)) (one_below ctx.old.place name.now)
         ctx.old.meter.now ctx.new.meter.now) }
     ensures place { ctx.new.place ≡ ctx.old.place }

@@ -8,6 +8,7 @@ ghost use Rattle.olk_build.specs.Refusing.{TellsOneOf};
 ghost use Rattle.olk_build.specs.Reading.{list_of, names_in, names_in_list, name_list_faults, list_faults};
 ghost use Rattle.olk_reports.specs.Paths.{one_below};
 ghost use Rattle.olk_base.specs.Kit.{kit};
+ghost use Rattle.olk_tree.specs.Steps.{StepsOf, layer};
 ghost use Rattle.olk_build.specs.Forms.{IsDependencies, IsDependentRequired, IsDependentSchemas, IsListAt, AreListsAt, AreInOrder};
 ghost use Rattle.olk_build.specs.Building.{IsMember};
 ghost use Rattle.olk_build.specs.Taking.{GivesMember, Gives};
@@ -181,7 +182,7 @@ pub fn compile<'a, L: MakeLeaf, M: MakeRegex, N: BuiltNode<L::Leaf, M::Engine>>(
     parent: &'a Map<String, Value>,
     schema: &'a Value,
 ) -> Option<Result<KeywordOver<L::Leaf, M::Engine, N>, BuildError<'a>>>
-    ensures gives { GivesMember (kit L.Leaf.Leaf M.Engine.RegexEngine)
+    ensures gives { GivesMember (layer L.Leaf.Leaf M.Engine.RegexEngine)
         (members_view parent.now.entries) (codes "dependencies", view schema.now)
         ctx.old.place ctx.old.meter.now ctx.new.meter.now N.answers result }
     ensures form { Gives (members_view parent.now.entries)
@@ -212,7 +213,7 @@ pub fn compile_dependent_required<'a, L: MakeLeaf, M: MakeRegex, N: BuiltNode<L:
     parent: &'a Map<String, Value>,
     schema: &'a Value,
 ) -> Option<Result<KeywordOver<L::Leaf, M::Engine, N>, BuildError<'a>>>
-    ensures gives { GivesMember (kit L.Leaf.Leaf M.Engine.RegexEngine)
+    ensures gives { GivesMember (layer L.Leaf.Leaf M.Engine.RegexEngine)
         (members_view parent.now.entries) (codes "dependentRequired", view schema.now)
         ctx.old.place ctx.old.meter.now ctx.new.meter.now N.answers result }
     ensures form { Gives (members_view parent.now.entries)
@@ -243,7 +244,7 @@ pub fn compile_dependent_schemas<'a, L: MakeLeaf, M: MakeRegex, N: BuiltNode<L::
     parent: &'a Map<String, Value>,
     schema: &'a Value,
 ) -> Option<Result<KeywordOver<L::Leaf, M::Engine, N>, BuildError<'a>>>
-    ensures gives { GivesMember (kit L.Leaf.Leaf M.Engine.RegexEngine)
+    ensures gives { GivesMember (layer L.Leaf.Leaf M.Engine.RegexEngine)
         (members_view parent.now.entries) (codes "dependentSchemas", view schema.now)
         ctx.old.place ctx.old.meter.now ctx.new.meter.now N.answers result }
     ensures form { Gives (members_view parent.now.entries)
@@ -330,9 +331,11 @@ pub(crate) fn make_required<K: Leaf, R: RegexEngine, N: BuiltNode<K, R>>(
     keys: SortedNames,
     lists: Vec<Vec<String>>,
 ) -> Result<KeywordOver<K, R, N>, AllocError>
-    ensures form { IfOk result (MakesDependencies (kit K.Leaf R.RegexEngine) N.answers
-        (shape.DependentRequired keys lists) location [] IsDependentRequired) }
-    ensures makes { IfOk result (λ k. MakesMember (kit K.Leaf R.RegexEngine) N.answers
+    ensures form { IfOk result (λ r. (I : StepsOf (kit K.Leaf R.RegexEngine))
+        → MakesDependencies I N.answers
+        (shape.DependentRequired keys lists) location [] IsDependentRequired r) }
+    ensures makes { IfOk result (λ k. (I : StepsOf (kit K.Leaf R.RegexEngine))
+        → MakesMember I N.answers
         (shape.DependentRequired keys lists) location [] (k ∷ [])) }
 {
     let nodes = nodes_of_lists(alloc, &location, lists)?;
@@ -348,9 +351,11 @@ pub(crate) fn make_schemas<K: Leaf, R: RegexEngine, N: BuiltNode<K, R>>(
     keys: SortedNames,
     nodes: Vec<N>,
 ) -> KeywordOver<K, R, N>
-    ensures form { MakesDependencies (kit K.Leaf R.RegexEngine) N.answers
+    ensures form { (I : StepsOf (kit K.Leaf R.RegexEngine))
+        → MakesDependencies I N.answers
         (shape.DependentSchemas keys) location nodes.items IsDependentSchemas result }
-    ensures makes { MakesMember (kit K.Leaf R.RegexEngine) N.answers
+    ensures makes { (I : StepsOf (kit K.Leaf R.RegexEngine))
+        → MakesMember I N.answers
         (shape.DependentSchemas keys) location nodes.items (result ∷ []) }
 {
     KeywordOver::DependentSchemas(DependentSchemas {
@@ -372,9 +377,11 @@ pub(crate) fn make<K: Leaf, R: RegexEngine, N: BuiltNode<K, R>>(
     lists: Vec<Option<Vec<String>>>,
     schemas: Vec<N>,
 ) -> Result<KeywordOver<K, R, N>, AllocError>
-    ensures form { IfOk result (MakesDependencies (kit K.Leaf R.RegexEngine) N.answers
-        (shape.Dependencies keys lists) location schemas.items IsDependencies) }
-    ensures makes { IfOk result (λ k. MakesMember (kit K.Leaf R.RegexEngine) N.answers
+    ensures form { IfOk result (λ r. (I : StepsOf (kit K.Leaf R.RegexEngine))
+        → MakesDependencies I N.answers
+        (shape.Dependencies keys lists) location schemas.items IsDependencies r) }
+    ensures makes { IfOk result (λ k. (I : StepsOf (kit K.Leaf R.RegexEngine))
+        → MakesMember I N.answers
         (shape.Dependencies keys lists) location schemas.items (k ∷ [])) }
 {
     let nodes = nodes_in_order(alloc, &location, lists, schemas)?;

@@ -8,6 +8,7 @@ ghost use Rattle.olk_spec.specs.Names.{lookup_name};
 ghost use Rattle.olk_spec.specs.Schemas.{listed};
 ghost use Rattle.olk_reports.specs.Paths.{one_below};
 ghost use Rattle.olk_base.specs.Kit.{kit};
+ghost use Rattle.olk_tree.specs.Steps.{StepsOf, layer};
 ghost use Rattle.olk_build.specs.Forms.{IsIf, IsFormOfIf};
 ghost use Rattle.olk_build.specs.Building.{IsMember};
 ghost use Rattle.olk_build.specs.Taking.{GivesMember, Gives};
@@ -55,7 +56,7 @@ pub fn compile<'a, L: MakeLeaf, M: MakeRegex, N: BuiltNode<L::Leaf, M::Engine>>(
     parent: &'a Map<String, Value>,
     schema: &'a Value,
 ) -> Option<Result<KeywordOver<L::Leaf, M::Engine, N>, BuildError<'a>>>
-    ensures gives { GivesMember (kit L.Leaf.Leaf M.Engine.RegexEngine)
+    ensures gives { GivesMember (layer L.Leaf.Leaf M.Engine.RegexEngine)
         (members_view parent.now.entries) (codes "if", view schema.now)
         ctx.old.place ctx.old.meter.now ctx.new.meter.now N.answers result }
     ensures form { Gives (members_view parent.now.entries)
@@ -140,7 +141,8 @@ pub(crate) fn make<K: Leaf, R: RegexEngine, N: BuiltNode<K, R>>(
     ensures no_else { IfOk result (λ o. IfNone o (cases.else_schema ≡ None)) }
     ensures form { IfOk result (λ o. IfSome o (IsIf location
         (is_some cases.then_schema) (is_some cases.else_schema))) }
-    ensures makes { IfOk result (λ o. MakesCondition (kit K.Leaf R.RegexEngine) N.answers location
+    ensures makes { IfOk result (λ o. (I : StepsOf (kit K.Leaf R.RegexEngine))
+        → MakesCondition I N.answers location
         schema cases (option_to_list o)) }
 {
     let keyword = form(alloc, location, schema, cases)?;

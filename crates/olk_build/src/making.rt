@@ -1,6 +1,7 @@
 //! Making the validator of a part of a schema object.
 ghost use Rattle.std.specs.Prelude.{option_to_list, IfOk};
 ghost use Rattle.olk_base.specs.Kit.{kit};
+ghost use Rattle.olk_tree.specs.Steps.{StepsOf};
 ghost use Rattle.olk_meaning.specs.Plans.{planned};
 ghost use Rattle.olk_build.specs.Making.{MakesPart};
 ghost use Rattle.olk_build.specs.Made.{IsMade};
@@ -32,11 +33,13 @@ pub(crate) fn make_keyword<K: Leaf, R: RegexEngine, N: BuiltNode<K, R>>(
     taken: &mut Taken<R, N>,
     part: Part<K, R, N>,
 ) -> Result<Option<KeywordOver<K, R, N>>, AllocError>
-    ensures makes { IfOk result (λ o. MakesPart (kit K.Leaf R.RegexEngine) N.answers part.shape
+    ensures makes { IfOk result (λ o. (I : StepsOf (kit K.Leaf R.RegexEngine))
+        → MakesPart I N.answers part.shape
         part.location part.nodes.items taken.old place.now (planned plan.entry)
         (option_to_list o)) }
-    ensures form { IfOk result (IsMade (kit K.Leaf R.RegexEngine) N.answers part.shape
-        part.location part.nodes.items taken.old place.now (planned plan.entry)) }
+    ensures form { IfOk result (λ r. (I : StepsOf (kit K.Leaf R.RegexEngine))
+        → IsMade I N.answers part.shape
+        part.location part.nodes.items taken.old place.now (planned plan.entry) r) }
 {
     let Part {
         location,

@@ -3,6 +3,7 @@ ghost use Rattle.std.specs.Prelude.{◌≡◌, codes, is_none, false, [], option
 ghost use Rattle.serde_json.specs.View.{view, members_view};
 ghost use Rattle.olk_reports.specs.Paths.{one_below};
 ghost use Rattle.olk_base.specs.Kit.{kit};
+ghost use Rattle.olk_tree.specs.Steps.{StepsOf, layer};
 ghost use Rattle.olk_build.specs.Forms.{IsNot};
 ghost use Rattle.olk_build.specs.Building.{IsMember};
 ghost use Rattle.olk_build.specs.Taking.{GivesMember, Gives};
@@ -33,7 +34,7 @@ pub fn compile<'a, L: MakeLeaf, M: MakeRegex, N: BuiltNode<L::Leaf, M::Engine>>(
     parent: &'a Map<String, Value>,
     schema: &'a Value,
 ) -> Option<Result<KeywordOver<L::Leaf, M::Engine, N>, BuildError<'a>>>
-    ensures gives { GivesMember (kit L.Leaf.Leaf M.Engine.RegexEngine)
+    ensures gives { GivesMember (layer L.Leaf.Leaf M.Engine.RegexEngine)
         (members_view parent.now.entries) (codes "not", view schema.now)
         ctx.old.place ctx.old.meter.now ctx.new.meter.now N.answers result }
     ensures form { Gives (members_view parent.now.entries)
@@ -56,7 +57,8 @@ pub(crate) fn make<K: Leaf, R: RegexEngine, N: BuiltNode<K, R>>(
 ) -> Option<KeywordOver<K, R, N>>
     ensures none { IfNone result (nodes.items ≡ []) }
     ensures form { IfSome result (IsNot location (view original)) }
-    ensures makes { MakesMember (kit K.Leaf R.RegexEngine) N.answers (shape.Not original) location
+    ensures makes { (I : StepsOf (kit K.Leaf R.RegexEngine))
+        → MakesMember I N.answers (shape.Not original) location
         nodes.items (option_to_list result) }
 {
     let Some(node) = nodes.pop() else {

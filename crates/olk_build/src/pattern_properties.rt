@@ -6,6 +6,7 @@ ghost use Rattle.olk_spec.specs.Faults.{fault, Regex};
 ghost use Rattle.olk_spec.specs.Schemas.{listed, members};
 ghost use Rattle.olk_reports.specs.Paths.{one_below};
 ghost use Rattle.olk_base.specs.Kit.{kit, world};
+ghost use Rattle.olk_tree.specs.Steps.{StepsOf, layer};
 ghost use Rattle.olk_meaning.specs.PatternProperties.{pattern_faults, matcher_made};
 ghost use Rattle.olk_build.specs.Refusing.{TellsOneOf, Spends, Refuses};
 ghost use Rattle.olk_build.specs.Reading.{IsPattern, PatternsAreRead, RefusesPatterns, IsRead, RefusesKeyword};
@@ -143,7 +144,7 @@ pub fn compile<'a, L: MakeLeaf, M: MakeRegex, N: BuiltNode<L::Leaf, M::Engine>>(
     parent: &'a Map<String, Value>,
     schema: &'a Value,
 ) -> Option<Result<KeywordOver<L::Leaf, M::Engine, N>, BuildError<'a>>>
-    ensures gives { GivesMember (kit L.Leaf.Leaf M.Engine.RegexEngine)
+    ensures gives { GivesMember (layer L.Leaf.Leaf M.Engine.RegexEngine)
         (members_view parent.now.entries) (codes "patternProperties", view schema.now)
         ctx.old.place ctx.old.meter.now ctx.new.meter.now N.answers result }
     ensures form { Gives (members_view parent.now.entries)
@@ -179,12 +180,12 @@ pub fn compile_patterns<'a, L: MakeLeaf, M: MakeRegex, N: BuiltNode<L::Leaf, M::
     ctx: &mut Context<'_, L, M>,
     patterns: &'a Map<String, Value>,
 ) -> Result<Vec<(CompiledPattern<M::Engine>, N)>, BuildError<'a>>
-    ensures built { IfOk result (λ v. PatternsAreBuilt (kit L.Leaf.Leaf M.Engine.RegexEngine)
+    ensures built { IfOk result (λ v. PatternsAreBuilt (layer L.Leaf.Leaf M.Engine.RegexEngine)
         N.answers v.items (listed (members_view patterns.now.entries))
         (one_below ctx.old.place (codes "patternProperties"))
         ctx.old.meter.now ctx.new.meter.now) }
     ensures refused { IfErr result (RefusesPatternEntries
-        (kit L.Leaf.Leaf M.Engine.RegexEngine) (listed (members_view patterns.now.entries))
+        (layer L.Leaf.Leaf M.Engine.RegexEngine) (listed (members_view patterns.now.entries))
         (one_below ctx.old.place (codes "patternProperties"))
         ctx.old.meter.now ctx.new.meter.now) }
     ensures place { ctx.new.place ≡ ctx.old.place }
@@ -250,8 +251,9 @@ pub(crate) fn make<K: Leaf, R: RegexEngine, N: BuiltNode<K, R>>(
 ) -> Result<KeywordOver<K, R, N>, AllocError>
     ensures form { IfOk result (IsPatternProperties location
         (length (zip patterns.items nodes.items))) }
-    ensures makes { IfOk result (λ k. MakesMember (kit K.Leaf R.RegexEngine)
-        N.answers (shape.PatternProperties patterns) location nodes.items (k ∷ [])) }
+    ensures makes { IfOk result (λ k. (I : StepsOf (kit K.Leaf R.RegexEngine))
+        → MakesMember I N.answers (shape.PatternProperties patterns) location nodes.items (k ∷
+        [])) }
 {
     let entries = with_nodes(alloc, patterns, nodes)?;
     form(alloc, location, entries)

@@ -12,6 +12,7 @@ ghost use Rattle.olk_build.specs.Building.{IsMember, AreBuilt, RefusesEach};
 ghost use Rattle.olk_build.specs.Taking.{GivesMember, Gives};
 ghost use Rattle.olk_spec.specs.Names.{Path};
 ghost use Rattle.olk_tree.specs.Ascending.{Ascend};
+ghost use Rattle.olk_tree.specs.Steps.{StepsOf, layer};
 ghost use Rattle.olk_build.specs.Making.{MakesClaims};
 ghost use Rattle.olk_build.specs.declared.shape.Shape.TheVariants as shape;
 
@@ -47,7 +48,7 @@ pub fn compile<'a, L: MakeLeaf, M: MakeRegex, N: BuiltNode<L::Leaf, M::Engine>>(
     parent: &'a Map<String, Value>,
     schema: &'a Value,
 ) -> Option<Result<KeywordOver<L::Leaf, M::Engine, N>, BuildError<'a>>>
-    ensures gives { GivesMember (kit L.Leaf.Leaf M.Engine.RegexEngine)
+    ensures gives { GivesMember (layer L.Leaf.Leaf M.Engine.RegexEngine)
         (members_view parent.now.entries) (codes "properties", view schema.now)
         ctx.old.place ctx.old.meter.now ctx.new.meter.now N.answers result }
     ensures form { Gives (members_view parent.now.entries)
@@ -86,10 +87,10 @@ pub fn compile_small_map<'a, L: MakeLeaf, M: MakeRegex, N: BuiltNode<L::Leaf, M:
 ) -> Result<SmallMap<N>, BuildError<'a>>
     ensures names { IfOk result (λ m. m.names
         ≡ map (λ e. e.0) (listed (members_view properties.now.entries))) }
-    ensures built { IfOk result (λ m. AreBuilt (kit L.Leaf.Leaf M.Engine.RegexEngine) N.answers
+    ensures built { IfOk result (λ m. AreBuilt (layer L.Leaf.Leaf M.Engine.RegexEngine) N.answers
         m.nodes.items (listed (members_view properties.now.entries))
         (one_below ctx.old.place (codes "properties")) ctx.old.meter.now ctx.new.meter.now) }
-    ensures refused { IfErr result (RefusesEach (kit L.Leaf.Leaf M.Engine.RegexEngine)
+    ensures refused { IfErr result (RefusesEach (layer L.Leaf.Leaf M.Engine.RegexEngine)
         (listed (members_view properties.now.entries))
         (one_below ctx.old.place (codes "properties")) ctx.old.meter.now ctx.new.meter.now) }
     ensures place { ctx.new.place ≡ ctx.old.place }
@@ -115,10 +116,10 @@ pub fn compile_big_map<'a, L: MakeLeaf, M: MakeRegex, N: BuiltNode<L::Leaf, M::E
 ) -> Result<BigMap<N>, BuildError<'a>>
     ensures names { IfOk result (λ m. m.names
         ≡ map (λ e. e.0) (listed (members_view properties.now.entries))) }
-    ensures built { IfOk result (λ m. AreBuilt (kit L.Leaf.Leaf M.Engine.RegexEngine) N.answers
+    ensures built { IfOk result (λ m. AreBuilt (layer L.Leaf.Leaf M.Engine.RegexEngine) N.answers
         m.nodes.items (listed (members_view properties.now.entries))
         (one_below ctx.old.place (codes "properties")) ctx.old.meter.now ctx.new.meter.now) }
-    ensures refused { IfErr result (RefusesEach (kit L.Leaf.Leaf M.Engine.RegexEngine)
+    ensures refused { IfErr result (RefusesEach (layer L.Leaf.Leaf M.Engine.RegexEngine)
         (listed (members_view properties.now.entries))
         (one_below ctx.old.place (codes "properties")) ctx.old.meter.now ctx.new.meter.now) }
     ensures place { ctx.new.place ≡ ctx.old.place }
@@ -211,7 +212,8 @@ pub(crate) fn make<K: Leaf, R: RegexEngine, N: BuiltNode<K, R>>(
 ) -> Result<KeywordOver<K, R, N>, AllocError>
     ensures form { IfOk result (IsProperties place.now location (length names)
         (planned plan.entry).fused_pair) }
-    ensures makes { IfOk result (λ k. MakesClaims (kit K.Leaf R.RegexEngine) N.answers
+    ensures makes { IfOk result (λ k. (I : StepsOf (kit K.Leaf R.RegexEngine))
+        → MakesClaims I N.answers
         (shape.Properties names) location nodes.items place.now (planned plan.entry) (k ∷ [])) }
 {
     form(alloc, plan, place, location, names, nodes)

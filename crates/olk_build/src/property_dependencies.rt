@@ -8,6 +8,7 @@ ghost use Rattle.olk_build.specs.Refusing.{TellsOneOf};
 ghost use Rattle.olk_build.specs.Reading.{names_of, no_object_faults};
 ghost use Rattle.olk_reports.specs.Paths.{one_below};
 ghost use Rattle.olk_base.specs.Kit.{kit};
+ghost use Rattle.olk_tree.specs.Steps.{StepsOf, layer};
 ghost use Rattle.olk_build.specs.Forms.{IsPropertyDependencies, AreCut};
 ghost use Rattle.olk_build.specs.Building.{IsMember};
 ghost use Rattle.olk_build.specs.Taking.{GivesMember, Gives};
@@ -89,7 +90,7 @@ pub fn compile<'a, L: MakeLeaf, M: MakeRegex, N: BuiltNode<L::Leaf, M::Engine>>(
     parent: &'a Map<String, Value>,
     schema: &'a Value,
 ) -> Option<Result<KeywordOver<L::Leaf, M::Engine, N>, BuildError<'a>>>
-    ensures gives { GivesMember (kit L.Leaf.Leaf M.Engine.RegexEngine)
+    ensures gives { GivesMember (layer L.Leaf.Leaf M.Engine.RegexEngine)
         (members_view parent.now.entries) (codes "propertyDependencies", view schema.now)
         ctx.old.place ctx.old.meter.now ctx.new.meter.now N.answers result }
     ensures form { Gives (members_view parent.now.entries)
@@ -158,9 +159,11 @@ pub(crate) fn make<K: Leaf, R: RegexEngine, N: BuiltNode<K, R>>(
     texts: Vec<SortedNames>,
     nodes: Vec<N>,
 ) -> Result<KeywordOver<K, R, N>, AllocError>
-    ensures form { IfOk result (MakesPropertyDependencies (kit K.Leaf R.RegexEngine) N.answers
-        (shape.PropertyDependencies keys texts) location nodes.items) }
-    ensures makes { IfOk result (λ k. MakesMember (kit K.Leaf R.RegexEngine) N.answers
+    ensures form { IfOk result (λ r. (I : StepsOf (kit K.Leaf R.RegexEngine))
+        → MakesPropertyDependencies I N.answers
+        (shape.PropertyDependencies keys texts) location nodes.items r) }
+    ensures makes { IfOk result (λ k. (I : StepsOf (kit K.Leaf R.RegexEngine))
+        → MakesMember I N.answers
         (shape.PropertyDependencies keys texts) location nodes.items (k ∷ [])) }
 {
     let maps = cut(alloc, texts, nodes)?;

@@ -6,6 +6,7 @@ ghost use Rattle.olk_build.specs.declared.shape.Shape.TheVariants as shape;
 ghost use Rattle.std.specs.Option.{IfNone, IfSome};
 ghost use Rattle.olk_reports.specs.Paths.{one_below};
 ghost use Rattle.olk_base.specs.Kit.{kit};
+ghost use Rattle.olk_tree.specs.Steps.{StepsOf, layer};
 ghost use Rattle.olk_build.specs.Forms.{IsPropertyNames, IsPropertyNamesFalse};
 ghost use Rattle.olk_build.specs.Building.{IsMember};
 ghost use Rattle.olk_build.specs.Taking.{GivesMember, Gives};
@@ -52,7 +53,7 @@ pub fn compile<'a, L: MakeLeaf, M: MakeRegex, N: BuiltNode<L::Leaf, M::Engine>>(
     parent: &'a Map<String, Value>,
     schema: &'a Value,
 ) -> Option<Result<KeywordOver<L::Leaf, M::Engine, N>, BuildError<'a>>>
-    ensures gives { GivesMember (kit L.Leaf.Leaf M.Engine.RegexEngine)
+    ensures gives { GivesMember (layer L.Leaf.Leaf M.Engine.RegexEngine)
         (members_view parent.now.entries) (codes "propertyNames", view schema.now)
         ctx.old.place ctx.old.meter.now ctx.new.meter.now N.answers result }
     ensures form { is_object (view schema.now) ≡ true
@@ -91,7 +92,8 @@ pub(crate) fn make<K: Leaf, R: RegexEngine, N: BuiltNode<K, R>>(
 ) -> Option<KeywordOver<K, R, N>>
     ensures none { IfNone result (nodes.items ≡ []) }
     ensures form { IfSome result (IsPropertyNames location) }
-    ensures makes { MakesMember (kit K.Leaf R.RegexEngine) N.answers shape.PropertyNames location
+    ensures makes { (I : StepsOf (kit K.Leaf R.RegexEngine))
+        → MakesMember I N.answers shape.PropertyNames location
         nodes.items (option_to_list result) }
 {
     let Some(node) = nodes.pop() else {
@@ -105,7 +107,8 @@ pub(crate) fn make_false<K: Leaf, R: RegexEngine, N: BuiltNode<K, R>>(
     location: Location,
 ) -> KeywordOver<K, R, N>
     ensures form { IsPropertyNamesFalse location result }
-    ensures makes { MakesMember (kit K.Leaf R.RegexEngine) N.answers shape.NoNames location []
+    ensures makes { (I : StepsOf (kit K.Leaf R.RegexEngine))
+        → MakesMember I N.answers shape.NoNames location []
         (result ∷ []) }
 {
     KeywordOver::PropertyNamesFalse(PropertyNamesFalse { location })

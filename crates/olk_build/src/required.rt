@@ -4,6 +4,7 @@ ghost use Rattle.std.specs.Option.{IfNone, IfSome};
 ghost use Rattle.serde_json.specs.View.{members_view, view};
 ghost use Rattle.olk_reports.specs.Paths.{one_below};
 ghost use Rattle.olk_base.specs.Kit.{kit};
+ghost use Rattle.olk_tree.specs.Steps.{StepsOf, layer};
 ghost use Rattle.olk_build.specs.Forms.{IsRequired, IsRequiredOver};
 ghost use Rattle.olk_meaning.specs.Plans.{plan_of, planned};
 ghost use Rattle.olk_build.specs.Building.{IsMember};
@@ -38,7 +39,7 @@ pub fn compile<'a, L: MakeLeaf, M: MakeRegex, N: BuiltNode<L::Leaf, M::Engine>>(
     parent: &'a Map<String, Value>,
     schema: &'a Value,
 ) -> Option<Result<KeywordOver<L::Leaf, M::Engine, N>, BuildError<'a>>>
-    ensures gives { GivesMember (kit L.Leaf.Leaf M.Engine.RegexEngine)
+    ensures gives { GivesMember (layer L.Leaf.Leaf M.Engine.RegexEngine)
         (members_view parent.now.entries) (codes "required", view schema.now)
         ctx.old.place ctx.old.meter.now ctx.new.meter.now N.answers result }
     ensures form { Gives (members_view parent.now.entries)
@@ -75,8 +76,8 @@ pub(crate) fn make<K: Leaf, R: RegexEngine, N: BuiltNode<K, R>>(
     ensures form { IfSome result (λ k. ((is_some (planned plan.entry).fused_pair
         || is_some (planned plan.entry).fused_one) ≡ false)
         × IsRequiredOver required location k) }
-    ensures makes { (P : Path) → MakesClaims (kit K.Leaf R.RegexEngine)
-        N.answers (shape.Required required)
+    ensures makes { (P : Path) → (I : StepsOf (kit K.Leaf R.RegexEngine))
+        → MakesClaims I N.answers (shape.Required required)
         location nodes.items P (planned plan.entry) (option_to_list result) }
 {
     if plan.fuses() {

@@ -4,6 +4,7 @@ ghost use Rattle.olk_base.specs.Kit.{kit};
 ghost use Rattle.olk_meaning.specs.Conditions.{known};
 ghost use Rattle.olk_meaning.specs.Plans.{planned};
 ghost use Rattle.olk_tree.specs.Tables.{patterns_of, IsTableOf, how_many_cost, count_asks, AsksAtMost};
+ghost use Rattle.olk_tree.specs.Steps.{StepsOf};
 ghost use Rattle.olk_build.specs.Standing.{is_taken};
 ghost use Rattle.olk_build.specs.Taking.{takes_of, IsNode, IsDeclared, IsPatterns, asks_of, asks_taken, TakenBy, MakesTaking, AppendsTaking, AppendsAlone};
 
@@ -196,8 +197,9 @@ pub fn make_taking<K: Leaf, R: RegexEngine, N: BuiltNode<K, R>>(
     part: Part<K, R, N>,
     mut taken: Taken<R, N>,
 ) -> Result<Option<KeywordOver<K, R, N>>, AllocError>
-    ensures { IfOk result (MakesTaking (kit K.Leaf R.RegexEngine) N.answers part.shape
-        part.location part.nodes.items taken place.now (planned plan.entry)) }
+    ensures { IfOk result (λ r. (I : StepsOf (kit K.Leaf R.RegexEngine))
+        → MakesTaking I N.answers part.shape
+        part.location part.nodes.items taken place.now (planned plan.entry) r) }
 {
     let keyword = make_keyword(alloc, plan, place, &mut taken, part)?;
     Ok(keyword)
@@ -214,7 +216,8 @@ pub fn append_taking<K: Leaf, R: RegexEngine, N: BuiltNode<K, R>>(
     taken: Taken<R, N>,
     keywords: &mut Vec<KeywordOver<K, R, N>>,
 ) -> Result<(), AllocError>
-    ensures { OnOk result (AppendsTaking (kit K.Leaf R.RegexEngine) N.answers part.shape
+    ensures { OnOk result ((I : StepsOf (kit K.Leaf R.RegexEngine))
+        → AppendsTaking I N.answers part.shape
         part.location part.nodes.items taken place.now (planned plan.entry)
         keywords.old.items keywords.new.items) }
 {
@@ -241,7 +244,8 @@ fn append_other<K: Leaf, R: RegexEngine, N: BuiltNode<K, R>>(
     part: Part<K, R, N>,
     keywords: &mut Vec<KeywordOver<K, R, N>>,
 ) -> Result<(), AllocError>
-    ensures { OnOk result (AppendsAlone (kit K.Leaf R.RegexEngine) N.answers part.shape
+    ensures { OnOk result ((I : StepsOf (kit K.Leaf R.RegexEngine))
+        → AppendsAlone I N.answers part.shape
         part.location part.nodes.items place.now (planned plan.entry)
         keywords.old.items keywords.new.items) }
 {
@@ -262,7 +266,8 @@ pub fn append_alone<K: Leaf, R: RegexEngine, N: BuiltNode<K, R>>(
     part: Part<K, R, N>,
     keywords: &mut Vec<KeywordOver<K, R, N>>,
 ) -> Result<(), AllocError>
-    ensures { OnOk result (AppendsAlone (kit K.Leaf R.RegexEngine) N.answers part.shape
+    ensures { OnOk result ((I : StepsOf (kit K.Leaf R.RegexEngine))
+        → AppendsAlone I N.answers part.shape
         part.location part.nodes.items place.now (planned plan.entry)
         keywords.old.items keywords.new.items) }
 {

@@ -17,6 +17,7 @@ use Rattle.olk_meaning.proofs.AdditionalProperties.{additional_malformations}
 use Rattle.olk_meaning.proofs.Conditions.{restricted_read, present}
 use Rattle.std.proofs.{lemmas.List.length-map, lemmas.Map.Text.is_eq-slice_cmp, lemmas.Bool.Decides.nat_tests}
 use Rattle.olk_spec.specs.{World.World, Vocabulary.keyword_named, Faults.MultipleTypes, declared.TheConstants.HASHMAP_THRESHOLD}
+use Rattle.olk_meaning.specs.Steps.{Steps}
 use Rattle.olk_meaning.specs.{Members.member_malformations, AdditionalProperties.is_rule}
 use Rattle.olk_meaning.proofs.Facts as fact
 
@@ -83,21 +84,21 @@ module _ {X : Type 0} (step : Schema X → X) where
 
 -- ---- an object in which nothing is malformed
 
-module _ (W : World) (ms : Members) (P : Path) where
-  clean_among : (es : List (Name × Data)) → flat_map (λ m. member_malformations W ms m (keyword_named W m.0) P) es ≡ [] → (k : Name) (d : Data)
-      → lookup_name k es ≡ Some d → member_malformations W ms (k, d) (keyword_named W k) P ≡ []
+module _ {W : World} (I : Steps W) (ms : Members) (P : Path) where
+  clean_among : (es : List (Name × Data)) → flat_map (λ m. member_malformations I ms m (keyword_named W m.0) P) es ≡ [] → (k : Name) (d : Data)
+      → lookup_name k es ≡ Some d → member_malformations I ms (k, d) (keyword_named W k) P ≡ []
   clean_among [] e k d f = absurd (true≢false (sym (ap is_some f)))
   clean_among (m ∷ es) e k d f =
       let h = nothing_in _ _ e in
       by _ (is_eq-slice_cmp k m.0) f h.0 (clean_among es h.1 k d)
     where
-      by : (o : Ordering) → is_eq o ≡ bytes_eq k m.0 → first_if_equal o m.1 (lookup_name k es) ≡ Some d → member_malformations W ms m (keyword_named W m.0) P ≡ []
-          → (lookup_name k es ≡ Some d → member_malformations W ms (k, d) (keyword_named W k) P ≡ []) → member_malformations W ms (k, d) (keyword_named W k) P ≡ []
+      by : (o : Ordering) → is_eq o ≡ bytes_eq k m.0 → first_if_equal o m.1 (lookup_name k es) ≡ Some d → member_malformations I ms m (keyword_named W m.0) P ≡ []
+          → (lookup_name k es ≡ Some d → member_malformations I ms (k, d) (keyword_named W k) P ≡ []) → member_malformations I ms (k, d) (keyword_named W k) P ≡ []
       by Less q g h rest = rest g
       by Greater q g h rest = rest g
-      by Equal q g h rest = let same = same_name k m.0 (sym q) in (λ i. member_malformations W ms (same i, unwrap_or (sym g i) d) (keyword_named W (same i)) P) ∙ h
+      by Equal q g h rest = let same = same_name k m.0 (sym q) in (λ i. member_malformations I ms (same i, unwrap_or (sym g i) d) (keyword_named W (same i)) P) ∙ h
 
-module _ (W : World) (ms : Members) (P : Path) (clean : flat_map (λ m. member_malformations W ms m (keyword_named W m.0) P) (listed ms) ≡ []) where
+module _ {W : World} (I : Steps W) (ms : Members) (P : Path) (clean : flat_map (λ m. member_malformations I ms m (keyword_named W m.0) P) (listed ms) ≡ []) where
   abbrev at_name : Name → Option Data
   at_name k = lookup_name k (listed ms)
 
@@ -106,7 +107,7 @@ module _ (W : World) (ms : Members) (P : Path) (clean : flat_map (λ m. member_m
     where
       of : (d : Data) (b : Bool) → is_object d ≡ b → at_name (codes "properties") ≡ Some d → is_object d ≡ true
       of d true e q = e
-      of d false e q = absurd (true≢false (ap is_empty (sym (clean_among W ms P (listed ms) clean (codes "properties") d q) ∙ fact.properties_kind W ms P d e)))
+      of d false e q = absurd (true≢false (ap is_empty (sym (clean_among I ms P (listed ms) clean (codes "properties") d q) ∙ fact.properties_kind I ms P d e)))
 
       by : (o : Option Data) → at_name (codes "properties") ≡ o → IsObject o
       by None q = tt
@@ -118,7 +119,7 @@ module _ (W : World) (ms : Members) (P : Path) (clean : flat_map (λ m. member_m
     where
       refused : (d : Data) → at_name (codes "additionalProperties") ≡ Some d → is_rule d ≡ false → unless_kind (is_rule d) MultipleTypes d (P // codes "additionalProperties") ≡ []
       refused d q e = (nothing_in _ _
-          (sym (additional_malformations W ms d P) ∙ clean_among W ms P (listed ms) clean (codes "additionalProperties") d q)).0
+          (sym (additional_malformations I ms d P) ∙ clean_among I ms P (listed ms) clean (codes "additionalProperties") d q)).0
 
       of : (d : Data) (b : Bool) → at_name (codes "additionalProperties") ≡ Some d → is_rule d ≡ b → b ≡ true
       of d true q e = refl
@@ -143,7 +144,7 @@ module _ (W : World) (ms : Members) (P : Path) (clean : flat_map (λ m. member_m
     where
       by : (o : Option Data) → at_name (codes "required") ≡ o → ListsTexts (P // codes "required") o
       by None q = tt
-      by (Some d) q = sym (fact.required_malformations W ms d P) ∙ clean_among W ms P (listed ms) clean (codes "required") d q
+      by (Some d) q = sym (fact.required_malformations I ms d P) ∙ clean_among I ms P (listed ms) clean (codes "required") d q
 
   module _ {X : Type 0} (step : Schema X → X) where
     patterned : has_patterns (read_members step ms) ≡ is_some (at_name (codes "patternProperties"))
@@ -223,6 +224,6 @@ module _ {X : Type 0} (step : Schema X → X) (ms : Members) where
       by _ _ _ r k = refl
 
 -- so in an object in which nothing is malformed
-pub clean_one_fused : (W : World) (ms : Members) (P : Path) → flat_map (λ m. member_malformations W ms m (keyword_named W m.0) P) (listed ms) ≡ []
+pub clean_one_fused : {W : World} (I : Steps W) (ms : Members) (P : Path) → flat_map (λ m. member_malformations I ms m (keyword_named W m.0) P) (listed ms) ≡ []
     → {X : Type 0} (step : Schema X → X) → fuses_one (read_members step ms) ≡ is_some (fused_one ms)
-clean_one_fused W ms P clean step = one_fused step ms (P // codes "required") (texts_listed W ms P clean)
+clean_one_fused I ms P clean step = one_fused step ms (P // codes "required") (texts_listed I ms P clean)

@@ -10,17 +10,17 @@ use Rattle.olk_spec.specs.Vocabulary.{if_keyword, keyword_named}
 use Rattle.olk_spec.specs.Schemas.{Sub, Schema, Keywords, read, read_members, listed, wholes_at, is_object, is_truth, is_present, members, entries_at}
 use Rattle.olk_spec.specs.Malformed.{read_places, places_where, itself}
 use Rattle.olk_spec.specs.Meanings.{Meaning, restricts, is_conditional, if_accepts, if_refuses, Asked, asked, is_declared, matching, additional}
-use Rattle.olk_spec.specs.Meaning.{accepts, asks, report, tree, meaning, meaning_step}
 use Rattle.olk_spec.specs.Tree.{Tree, plain}
 use Rattle.olk_spec.proofs.Walks.{same_name}
 use Rattle.olk_spec.proofs.Reading.{place, lookup_listed, whole_read, is_present_read, wholes_there, wholes_absent, wholes_at_read, entry, entries_at_read}
 use Rattle.olk_meaning.specs.Members.{member_accepts, member_asks, member_report, member_child, member_standing}
 use Rattle.olk_meaning.specs.Conditions.{is_condition, is_conditional_name, is_restriction, is_restricted, Known, IsKnown}
-use Rattle.olk_meaning.specs.Chosen.{Placed, if_form, standing_step}
+use Rattle.olk_meaning.specs.Chosen.{Placed, if_form}
 use Rattle.olk_meaning.proofs.Facts.{accepts_it, asks_it, finds_it, nothing_first, nothing_last}
 use Rattle.olk_spec.proofs.Maps.{map-map, filter_once-map, is_empty-map}
 use Rattle.olk_meaning.specs.AdditionalProperties.{entries_in, declared_beside, patterns_beside, has_beside, is_declared_in, matching_at, is_other, other_members}
 use Rattle.olk_spec.specs.{World.World, Trees.case_trees, Reports.has_neighbour}
+use Rattle.olk_meaning.specs.Steps.{Steps, accepts, asks, report, tree, meaning}
 use Rattle.olk_meaning.proofs.{Claims.absent_if, Listed.filter_once-same}
 
 -- ---- the three names
@@ -74,15 +74,15 @@ module _ {X : Type 0} (step : Schema X → X) (ms : Members) where
         k e (known e).1
 
 -- what is shown where the test holds, of the schema that stands there
-module _ (W : World) (u : Bool) (v : Data) where
+module _ {W : World} (I : Steps W) (u : Bool) (v : Data) where
   abbrev pub case_shown : Bool → Path → Path → Option Data → List Tree
   case_shown b L Q None = []
-  case_shown b L Q (Some d) = put_if b (tree W u d v L Q) []
+  case_shown b L Q (Some d) = put_if b (tree I u d v L Q) []
 
-module _ (W : World) (ms : Members) (u : Bool) (v : Data) where
+module _ {W : World} (I : Steps W) (ms : Members) (u : Bool) (v : Data) where
   -- a schema, with its parts' meanings, to its own
   abbrev to_meaning : Schema Meaning → Meaning
-  to_meaning = meaning_step W u
+  to_meaning = I.means u
 
   abbrev neighbours : Keywords Meaning
   neighbours = read_members to_meaning ms
@@ -90,7 +90,7 @@ module _ (W : World) (ms : Members) (u : Bool) (v : Data) where
   -- ---- where `if` is not read
 
   module _ (d : Data) (alone : is_condition ms ≡ false) where
-    pub if_shows_alone : (P Q : Path) → member_child W ms (codes "if", d) if_keyword u v P Q ≡ []
+    pub if_shows_alone : (P Q : Path) → member_child I ms (codes "if", d) if_keyword u v P Q ≡ []
     if_shows_alone P Q = ap (λ b. put_if b (plain (P // codes "if") Q (put_if ((read to_meaning d).whole.answer.accepts v)
         ((read to_meaning d).whole.answer.tree v (P // codes "if") Q) [] ++ case_trees W u neighbours v P Q (codes "if") (read to_meaning d)
         ((read to_meaning d).whole.answer.accepts v) (codes "then") ++ case_trees W u neighbours v P Q (codes "if") (read to_meaning d)
@@ -100,25 +100,25 @@ module _ (W : World) (ms : Members) (u : Bool) (v : Data) where
 
   -- the member at k, which is e, asks it of the whole value where c holds
   pub record AskedWhere (c : Bool) (k : Name) (e : Data) : Type 0 where
-    pub verdict : member_accepts W ms (k, e) (keyword_named W k) u v ≡ cond c (accepts W u e v) true
-    pub asked : member_asks W ms (k, e) (keyword_named W k) u v ≡ cond c (asks W u e v) 0
-    pub faults : (P Q : Path) → member_report W ms (k, e) (keyword_named W k) u v P Q ≡ cond c (report W u e v (P // k) Q) []
+    pub verdict : member_accepts I ms (k, e) (keyword_named W k) u v ≡ cond c (accepts I u e v) true
+    pub asked : member_asks I ms (k, e) (keyword_named W k) u v ≡ cond c (asks I u e v) 0
+    pub faults : (P Q : Path) → member_report I ms (k, e) (keyword_named W k) u v P Q ≡ cond c (report I u e v (P // k) Q) []
 
   module _ (e : Data) where
     abbrev asked_where : Bool → Name → List Asked
     asked_where b k = put_if b (asked (read to_meaning e).whole v (k ∷ []) []) []
 
-    accepted_where : (b : Bool) (k : Name) → (list_all accepts_it (asked_where b k) && true) ≡ cond b (accepts W u e v) true
+    accepted_where : (b : Bool) (k : Name) → (list_all accepts_it (asked_where b k) && true) ≡ cond b (accepts I u e v) true
     unfolding meaning
     accepted_where true k = and-true _ ∙ and-true _
     accepted_where false k = refl
 
-    asks_where : (b : Bool) (k : Name) → sum_by asks_it (asked_where b k) + 0 ≡ cond b (asks W u e v) 0
+    asks_where : (b : Bool) (k : Name) → sum_by asks_it (asked_where b k) + 0 ≡ cond b (asks I u e v) 0
     unfolding meaning
     asks_where true k = nothing_last _ ∙ sum_by-cons asks_it (asked (read to_meaning e).whole v (k ∷ []) []) [] ∙ nothing_last _
     asks_where false k = refl
 
-    found_where : (b : Bool) (k : Name) (P Q : Path) → flat_map (finds_it P Q) (asked_where b k) ++ [] ≡ cond b (report W u e v (P // k) Q) []
+    found_where : (b : Bool) (k : Name) (P Q : Path) → flat_map (finds_it P Q) (asked_where b k) ++ [] ≡ cond b (report I u e v (P // k) Q) []
     unfolding meaning
     found_where true k P Q = append-nil _ ∙ append-nil _
     found_where false k P Q = refl
@@ -147,32 +147,32 @@ module _ (W : World) (ms : Members) (u : Bool) (v : Data) where
     at_if : wholes_at neighbours (codes "if") ≡ place to_meaning d ∷ []
     at_if = wholes_there to_meaning ms (codes "if") d (sym (lookup_listed (codes "if") ms) ∙ there)
 
-    pub if_holds : if_accepts neighbours v ≡ accepts W u d v
+    pub if_holds : if_accepts neighbours v ≡ accepts I u d v
     unfolding meaning
     if_holds = ap (list_any _) at_if ∙ or-false _
 
-    pub if_fails : if_refuses neighbours v ≡ not (accepts W u d v)
+    pub if_fails : if_refuses neighbours v ≡ not (accepts I u d v)
     unfolding meaning
     if_fails = ap (list_any _) at_if ∙ or-false _
 
     module _ (read_here : is_condition ms ≡ true) where
-      pub if_asks_beside : member_asks W ms (codes "if", d) if_keyword u v ≡ asks W u d v
+      pub if_asks_beside : member_asks I ms (codes "if", d) if_keyword u v ≡ asks I u d v
       unfolding meaning
       if_asks_beside = nothing_first _ ∙ ap (λ b. cond b ((read to_meaning d).whole.answer.asks v) 0) (condition_read to_meaning ms ∙ read_here)
 
   -- what stands at a name, shown where the test holds
-  case_read : (d : Data) (b : Bool) (k : Name) (P Q : Path) → case_trees W u neighbours v P Q (codes "if") (read to_meaning d) b k ≡ case_shown W u v b (P // k) Q (lookup_name k (listed ms))
+  case_read : (d : Data) (b : Bool) (k : Name) (P Q : Path) → case_trees W u neighbours v P Q (codes "if") (read to_meaning d) b k ≡ case_shown I u v b (P // k) Q (lookup_name k (listed ms))
   unfolding meaning
   case_read d b k P Q = ap (flat_map (λ s. put_if b _ [])) (wholes_at_read to_meaning ms k ∙ ap (λ o. map (place to_meaning) (option_to_list o))
       (sym (lookup_listed k ms))) ∙ by (lookup_name k (listed ms))
     where
-      by : (o : Option Data) → flat_map (λ s. put_if b (s.answer.tree v (P // k) Q) []) (map (place to_meaning) (option_to_list o)) ≡ case_shown W u v b (P // k) Q o
+      by : (o : Option Data) → flat_map (λ s. put_if b (s.answer.tree v (P // k) Q) []) (map (place to_meaning) (option_to_list o)) ≡ case_shown I u v b (P // k) Q o
       by None = refl
       by (Some d) = append-nil _
 
-  pub if_shows_beside : (d : Data) → is_condition ms ≡ true → (P Q : Path) → member_child W ms (codes "if", d) if_keyword u v P Q
-      ≡ plain (P // codes "if") Q (put_if (accepts W u d v) (tree W u d v (P // codes "if") Q) [] ++ case_shown W u v (accepts W u d v) (P // codes "then") Q
-      (lookup_name (codes "then") (listed ms)) ++ case_shown W u v (not (accepts W u d v)) (P // codes "else") Q (lookup_name (codes "else") (listed ms))) ∷ []
+  pub if_shows_beside : (d : Data) → is_condition ms ≡ true → (P Q : Path) → member_child I ms (codes "if", d) if_keyword u v P Q
+      ≡ plain (P // codes "if") Q (put_if (accepts I u d v) (tree I u d v (P // codes "if") Q) [] ++ case_shown I u v (accepts I u d v) (P // codes "then") Q
+      (lookup_name (codes "then") (listed ms)) ++ case_shown I u v (not (accepts I u d v)) (P // codes "else") Q (lookup_name (codes "else") (listed ms))) ∷ []
   unfolding meaning
   if_shows_beside d e P Q = λ i. put_if ((condition_read to_meaning ms ∙ e) i)
       (plain (P // codes "if") Q (put_if ((whole_read to_meaning d i).answer.accepts v) ((whole_read to_meaning d i).answer.tree v (P // codes "if") Q) []
@@ -182,28 +182,28 @@ module _ (W : World) (ms : Members) (u : Bool) (v : Data) where
 -- ---- one of the three where none is read
 
 -- it accepts everything, finds nothing, shows nothing and has no validator
-pub record MeansNothing (W : World) (ms : Members) (m : Name × Data) : Type 0 where
-  pub verdict : (u : Bool) (v : Data) → member_accepts W ms m (keyword_named W m.0) u v ≡ true
-  pub report : (u : Bool) (v : Data) (P Q : Path) → member_report W ms m (keyword_named W m.0) u v P Q ≡ []
-  pub child : (u : Bool) (v : Data) (P Q : Path) → member_child W ms m (keyword_named W m.0) u v P Q ≡ []
-  pub stands : (P : Path) → member_standing W ms m (keyword_named W m.0) P ≡ []
+pub record MeansNothing {W : World} (I : Steps W) (ms : Members) (m : Name × Data) : Type 0 where
+  pub verdict : (u : Bool) (v : Data) → member_accepts I ms m (keyword_named W m.0) u v ≡ true
+  pub report : (u : Bool) (v : Data) (P Q : Path) → member_report I ms m (keyword_named W m.0) u v P Q ≡ []
+  pub child : (u : Bool) (v : Data) (P Q : Path) → member_child I ms m (keyword_named W m.0) u v P Q ≡ []
+  pub stands : (P : Path) → member_standing I ms m (keyword_named W m.0) P ≡ []
 
-pub unpaired_means_nothing : (W : World) (ms : Members) (m : Name × Data) → is_conditional_name m.0 ≡ true → is_condition ms ≡ false
-    → is_some (lookup_name m.0 (listed ms)) ≡ true → MeansNothing W ms m
-unpaired_means_nothing W ms m e unread there = of_conditional (λ n. is_some (lookup_name n (listed ms)) ≡ true → MeansNothing W ms (n, m.1))
+pub unpaired_means_nothing : {W : World} (I : Steps W) (ms : Members) (m : Name × Data) → is_conditional_name m.0 ≡ true → is_condition ms ≡ false
+    → is_some (lookup_name m.0 (listed ms)) ≡ true → MeansNothing I ms m
+unpaired_means_nothing I ms m e unread there = of_conditional (λ n. is_some (lookup_name n (listed ms)) ≡ true → MeansNothing I ms (n, m.1))
     (λ here. record {
       verdict = λ u v. refl;
       report = λ u v P Q. refl;
-      child = λ u v P Q. if_shows_alone W ms u v m.1 unread P Q;
-      stands = λ P. ap (λ b. cond b (if_standing P) []) (condition_read (standing_step W) ms ∙ unread);
+      child = λ u v P Q. if_shows_alone I ms u v m.1 unread P Q;
+      stands = λ P. ap (λ b. cond b (if_standing P) []) (condition_read I.stands ms ∙ unread);
     }) (λ here. let none = absent (codes "if") (if_beside_then ms here) in record {
-      verdict = λ u v. (then_where W ms u v m.1 false (ap (list_any _) (no_if W ms u v none))).verdict;
-      report = λ u v. (then_where W ms u v m.1 false (ap (list_any _) (no_if W ms u v none))).faults;
+      verdict = λ u v. (then_where I ms u v m.1 false (ap (list_any _) (no_if I ms u v none))).verdict;
+      report = λ u v. (then_where I ms u v m.1 false (ap (list_any _) (no_if I ms u v none))).faults;
       child = λ u v P Q. refl;
       stands = λ P. refl;
     }) (λ here. let none = absent (codes "if") (if_beside_else ms here) in record {
-      verdict = λ u v. (else_where W ms u v m.1 false (ap (list_any _) (no_if W ms u v none))).verdict;
-      report = λ u v. (else_where W ms u v m.1 false (ap (list_any _) (no_if W ms u v none))).faults;
+      verdict = λ u v. (else_where I ms u v m.1 false (ap (list_any _) (no_if I ms u v none))).verdict;
+      report = λ u v. (else_where I ms u v m.1 false (ap (list_any _) (no_if I ms u v none))).faults;
       child = λ u v P Q. refl;
       stands = λ P. refl;
     })
@@ -214,9 +214,9 @@ unpaired_means_nothing W ms m e unread there = of_conditional (λ n. is_some (lo
 
     -- what would stand for `if`
     if_standing : Path → List Placed
-    if_standing P = let S = read_members (standing_step W) ms in
+    if_standing P = let S = read_members I.stands ms in
         (P // codes "if", if_form (is_present S (codes "then")) (is_present S (codes "else")))
-        ∷ ((read (standing_step W) m.1).whole.answer (P // codes "if") ++ flat_map (λ s. s.answer (P // codes "then")) (wholes_at S (codes "then")) ++ flat_map (λ s. s.answer (P // codes "else")) (wholes_at S (codes "else")))
+        ∷ ((read I.stands m.1).whole.answer (P // codes "if") ++ flat_map (λ s. s.answer (P // codes "then")) (wholes_at S (codes "then")) ++ flat_map (λ s. s.answer (P // codes "else")) (wholes_at S (codes "else")))
 
 -- ---- what stands beside `additionalProperties` as it is read, over the raw data of the members
 

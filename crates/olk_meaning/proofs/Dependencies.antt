@@ -8,7 +8,6 @@ use Rattle.olk_spec.specs.Vocabulary.{dependent_required, dependent_schemas, dep
 use Rattle.olk_spec.specs.Faults.{Fault, ◌∼◌, like_empty, like_through}
 use Rattle.olk_spec.specs.Schemas.{Schema, Keywords, read, read_members, members, has, texts, is_array}
 use Rattle.olk_spec.specs.Meanings.{applied, asked}
-use Rattle.olk_spec.specs.Meaning.{accepts, asks, report, meaning, meaning_step}
 use Rattle.olk_spec.specs.Accepts.{missing, due}
 use Rattle.olk_spec.specs.Tree.{plain, erring}
 use Rattle.olk_spec.specs.Malformed.{each, own_refusals, read_places, unless_object, not_a_text, name_list_refusals}
@@ -22,6 +21,7 @@ use Rattle.olk_meaning.proofs.Facts.{accepts_it, asks_it, finds_it, sum_by-map, 
 use Rattle.olk_meaning.proofs.Rows.{Rows}
 use Rattle.std.proofs.{lemmas.List.Folds.list_all-map, lemmas.List.Sums.sum_by-cons}
 use Rattle.olk_spec.specs.{World.World, Reports.required_faults}
+use Rattle.olk_meaning.specs.Steps.{Steps, accepts, asks, report, meaning}
 
 -- ---- those of a list, in two parts
 
@@ -111,20 +111,20 @@ module _ {X : Type 0} (step : Schema X → X) (d v : Data) where
   lists_read : due (read step d) v ≡ map (λ e. (e.0, texts e.1)) (filter_once (λ e. has e.0 v && is_array e.1) (members d))
   lists_read = due_read ∙ ap (map {A = Name × Data} (λ e. (e.0, texts e.1))) (filter_once-filter_once _ _ (members d))
 
-module _ (W : World) (ms : Members) (d : Data) where
-  pub dependent_required_told : are_lists d ≡ true → IsTold W ms (codes "dependentRequired", d) dependent_required (entries_told list_answers (due_entries d))
+module _ {W : World} (I : Steps W) (ms : Members) (d : Data) where
+  pub dependent_required_told : are_lists d ≡ true → IsTold I ms (codes "dependentRequired", d) dependent_required (entries_told list_answers (due_entries d))
   dependent_required_told lists = record {
-    verdict = λ u v. ap (list_all (λ e. is_empty (missing e.1 v))) (due_lists (meaning_step W u) d v lists) ∙ list_all-map (λ e. is_empty (missing e.1 v)) (λ e. (e.0, texts e.1)) (due_entries d v);
+    verdict = λ u v. ap (list_all (λ e. is_empty (missing e.1 v))) (due_lists (I.means u) d v lists) ∙ list_all-map (λ e. is_empty (missing e.1 v)) (λ e. (e.0, texts e.1)) (due_entries d v);
     asked = λ free u v. nothing_first 0 ∙ sym (sum_of_none (due_entries d v));
-    faults = λ u v P Q. ∼_same (sym (ap (flat_map _) (due_lists (meaning_step W u) d v lists) ∙ flat_map-map _ _ (λ e. (e.0, texts e.1)) (λ e. refl) (due_entries d v)));
+    faults = λ u v P Q. ∼_same (sym (ap (flat_map _) (due_lists (I.means u) d v lists) ∙ flat_map-map _ _ (λ e. (e.0, texts e.1)) (λ e. refl) (due_entries d v)));
     shown = λ u alone v P Q. ap (λ ts. plain (P // codes "dependentRequired") Q ts ∷ [])
-        (ap (map (λ e. erring _ Q _)) (due_lists (meaning_step W u) d v lists)
+        (ap (map (λ e. erring _ Q _)) (due_lists (I.means u) d v lists)
         ∙ map-map (λ e. erring _ Q _) (λ e. erring _ Q _) (λ e. (e.0, texts e.1)) (λ e. refl) (due_entries d v));
   }
 
-  pub dependent_schemas_told : IsTold W ms (codes "dependentSchemas", d) dependent_schemas (entries_told (schema_answers W) (due_entries d))
-  dependent_schemas_told = told_by_entries W ms (codes "dependentSchemas", d) dependent_schemas (λ e. e.1) (λ e. e.0 ∷ []) (due_entries d) (λ u v. record {
-    asked = asked_entries (meaning_step W u) (codes "dependentSchemas") v (due_entries d v) (entries_due (meaning_step W u) d v);
+  pub dependent_schemas_told : IsTold I ms (codes "dependentSchemas", d) dependent_schemas (entries_told (schema_answers I) (due_entries d))
+  dependent_schemas_told = told_by_entries I ms (codes "dependentSchemas", d) dependent_schemas (λ e. e.1) (λ e. e.0 ∷ []) (due_entries d) (λ u v. record {
+    asked = asked_entries (I.means u) (codes "dependentSchemas") v (due_entries d v) (entries_due (I.means u) d v);
     wants = refl;
     asks = refl;
     finds = λ P Q. refl;
@@ -140,28 +140,28 @@ module _ (W : World) (ms : Members) (d : Data) where
   lists_due v = filter_once (λ e. has e.0 v && is_array e.1) (members d)
 
   module _ (u : Bool) (v : Data) where
-    asked_due : applied W u (read_members (meaning_step W u) ms) (codes "dependencies") (read (meaning_step W u) d) v dependencies ≡ map
-        (λ e. asked (place (meaning_step W u) e.1) v (codes "dependencies" ∷ e.0 ∷ []) []) (schemas_due v)
-    asked_due = asked_entries (meaning_step W u) (codes "dependencies") v (schemas_due v) (schemas_read (meaning_step W u) d v)
+    asked_due : applied W u (read_members (I.means u) ms) (codes "dependencies") (read (I.means u) d) v dependencies ≡ map
+        (λ e. asked (place (I.means u) e.1) v (codes "dependencies" ∷ e.0 ∷ []) []) (schemas_due v)
+    asked_due = asked_entries (I.means u) (codes "dependencies") v (schemas_due v) (schemas_read (I.means u) d v)
 
-  pub dependencies_told : IsTold W ms (codes "dependencies", d) dependencies (entries_told (dependency_answers W) (due_entries d))
+  pub dependencies_told : IsTold I ms (codes "dependencies", d) dependencies (entries_told (dependency_answers I) (due_entries d))
   unfolding meaning
   dependencies_told = record {
-    verdict = λ u v. (λ i. list_all accepts_it (asked_due u v i) && list_all (λ e. is_empty (missing e.1 v)) (lists_read (meaning_step W u) d v i))
-        ∙ (λ i. list_all-map accepts_it (λ e. asked (place (meaning_step W u) e.1) v (codes "dependencies" ∷ e.0 ∷ []) []) (schemas_due v) i
+    verdict = λ u v. (λ i. list_all accepts_it (asked_due u v i) && list_all (λ e. is_empty (missing e.1 v)) (lists_read (I.means u) d v i))
+        ∙ (λ i. list_all-map accepts_it (λ e. asked (place (I.means u) e.1) v (codes "dependencies" ∷ e.0 ∷ []) []) (schemas_due v) i
         && list_all-map (λ (e : Name × List Name). is_empty (missing e.1 v)) (λ e. (e.0, texts e.1)) (lists_due v) i)
-        ∙ all_parted (λ e. has e.0 v) (λ e. is_array e.1) (λ e. accepts W u e.1 v) (λ e. is_empty _) (λ e. (dependency_answers W).verdict u e v) (λ e. refl) (members d);
+        ∙ all_parted (λ e. has e.0 v) (λ e. is_array e.1) (λ e. accepts I u e.1 v) (λ e. is_empty _) (λ e. (dependency_answers I).verdict u e v) (λ e. refl) (members d);
     asked = λ free u v. nothing_last _ ∙ ap (sum_by asks_it) (asked_due u v) ∙ sum_by-map asks_it _ (schemas_due v)
-        ∙ sum_parted (λ e. has e.0 v) (λ e. is_array e.1) (λ e. asks W u e.1 v) (λ e. (dependency_answers W).asked u e v) (λ e. refl) (members d);
-    faults = λ u v P Q. ∼_sym (subst (λ fs. fs ∼ flat_map (λ e. (dependency_answers W).faults u e v (P // codes "dependencies") Q) (due_entries d v))
-        (sym ((λ i. flat_map (finds_it P Q) (asked_due u v i) ++ flat_map (λ e. required_faults e.1 v (P // codes "dependencies") Q) (lists_read (meaning_step W u) d v i))
-        ∙ (λ i. flat_map-map (finds_it P Q) (λ e. report W u e.1 v (P // codes "dependencies" // e.0) Q)
-        (λ e. asked (place (meaning_step W u) e.1) v (codes "dependencies" ∷ e.0 ∷ []) []) (λ e. refl) (schemas_due v) i
+        ∙ sum_parted (λ e. has e.0 v) (λ e. is_array e.1) (λ e. asks I u e.1 v) (λ e. (dependency_answers I).asked u e v) (λ e. refl) (members d);
+    faults = λ u v P Q. ∼_sym (subst (λ fs. fs ∼ flat_map (λ e. (dependency_answers I).faults u e v (P // codes "dependencies") Q) (due_entries d v))
+        (sym ((λ i. flat_map (finds_it P Q) (asked_due u v i) ++ flat_map (λ e. required_faults e.1 v (P // codes "dependencies") Q) (lists_read (I.means u) d v i))
+        ∙ (λ i. flat_map-map (finds_it P Q) (λ e. report I u e.1 v (P // codes "dependencies" // e.0) Q)
+        (λ e. asked (place (I.means u) e.1) v (codes "dependencies" ∷ e.0 ∷ []) []) (λ e. refl) (schemas_due v) i
         ++ flat_map-map (λ (e : Name × List Name). required_faults e.1 v (P // codes "dependencies") Q) (λ e. required_faults (texts e.1) v (P // codes "dependencies") Q)
         (λ e. (e.0, texts e.1)) (λ e. refl) (lists_due v) i))) (found_parted _ _ _ _ _ (λ e. refl) (members d)));
     shown = λ u alone v P Q. ap (λ ts. plain (P // codes "dependencies") Q ts ∷ [])
-        (ap (map (λ e. cond (is_array e.1.schema) _ _)) (entries_due (meaning_step W u) d v)
-        ∙ map-map (λ e. cond (is_array e.1.schema) _ _) (λ e. (dependency_answers W).shown u e v _ Q) (entry (meaning_step W u)) (λ e. refl) (due_entries d v));
+        (ap (map (λ e. cond (is_array e.1.schema) _ _)) (entries_due (I.means u) d v)
+        ∙ map-map (λ e. cond (is_array e.1.schema) _ _) (λ e. (dependency_answers I).shown u e v _ Q) (entry (I.means u)) (λ e. refl) (due_entries d v));
   }
 
 -- ---- what is wrong with them, and the places that they read

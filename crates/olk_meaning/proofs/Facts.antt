@@ -1,5 +1,5 @@
 -- What a keyword asks of subschemas, and what an object and a keyword answer of the raw data.
-use Rattle.olk_spec.specs.Costs.{Cost, total_cost, ◌⊕◌, cost, cost_step, one_place}
+use Rattle.olk_spec.specs.Costs.{Cost, total_cost, ◌⊕◌, cost_step, one_place}
 use Rattle.olk_spec.proofs.CostSums.{total_cost-append, total_cost-map}
 use Rattle.std.proofs.Common.{◌≡◌, ℕ, ◌+◌, Bool, true, false, cond, not, ◌||◌, List, [], ◌∷◌, ◌++◌, map, sum_by, option_to_list, Option, Some, None, bytes_eq, codes, decimal, ◌&&◌, refl, sym, ◌∙◌, ap}
 use Rattle.std.proofs.Common.{arith, append-nil, subst₂, Ordering, Less, Equal, Greater, true≢false}
@@ -12,11 +12,13 @@ use Rattle.olk_spec.proofs.Order.{∼_inside_out, ∼_same}
 use Rattle.olk_spec.proofs.Walks.{Distinct, at_lookup, bytes_eq-sym, list_all-inside_out, list_all-filter_once, list_all-flat_map}
 use Rattle.serde_json.specs.Data.{Data, object, Members, string, boolean}
 use Rattle.olk_spec.specs.World.{World}
-use Rattle.olk_spec.specs.Vocabulary.{properties, required, Keyword, pattern_properties, any_of, one_of, not_keyword, if_keyword, keyword_named}
-use Rattle.olk_spec.specs.Schemas.{Schema, read, read_members, numbered, at, members, texts, branches, is_object, keywords, Keywords, Part, listed}
-use Rattle.olk_spec.specs.Malformed.{items_of_array, unless_array, not_a_text, each, malformations_step, malformations_at, keyword_malformations}
+use Rattle.olk_spec.specs.Vocabulary.{properties, required, Keyword, keyword_named}
+use Rattle.olk_spec.specs.Schemas.{Schema, read, read_members, answer_for, numbered, at, members, texts, branches, is_object, Keywords, Part, listed}
+use Rattle.olk_spec.specs.Malformed.{items_of_array, unless_array, not_a_text, each, malformations_step, keyword_malformations}
 use Rattle.olk_spec.specs.Meanings.{Asked, asked, applied, Meaning, Subschema, asked_whole}
-use Rattle.olk_spec.specs.Meaning.{accepts, asks, report, meaning, meaning_step, tree}
+use Rattle.olk_spec.specs.Meaning.{meaning_step}
+use Rattle.olk_meaning.specs.Steps.{Steps, accepts, asks, report, tree, meaning, malformations_at, cost}
+use Rattle.olk_meaning.proofs.Layer.{nothing_summed, layer_steps}
 use Rattle.olk_spec.specs.Accepts.{missing, keyword_accepts, wanted}
 use Rattle.olk_spec.specs.Reports.{required_faults, keyword_report, own}
 use Rattle.olk_spec.proofs.Reading.{entry, place, entries_read, items_read, branches_read, schema_of_read, members_read}
@@ -25,13 +27,10 @@ use Rattle.olk_spec.proofs.Maps.{flat_map-map, map-map}
 use Rattle.olk_spec.specs.Tree.{Tree, plain}
 use Rattle.olk_meaning.proofs.Rows.{Rows}
 use Rattle.olk_spec.specs.Asks.{own_asks, keyword_asks}
-use Rattle.olk_spec.proofs.Each.{Each, Each-implies, Each-any}
-use Rattle.olk_spec.proofs.Applied.{GoodAsked, applied_good}
-use Rattle.olk_spec.proofs.Induction.{good_answer, GoodSchema, GoodPart}
+use Rattle.olk_spec.proofs.Each.{Each-any}
 use Rattle.olk_spec.specs.Trees.{keyword_child, asked_trees}
 use Rattle.olk_meaning.specs.Told.{IsTold, entries_told, placed_answers}
 use Rattle.std.proofs.{Math.Bool.and-true, lemmas.List.map-append, lemmas.List.Folds.list_all-map, lemmas.Grind.flat_map-append}
-use Rattle.olk_spec.proofs.Passing.{no_members}
 
 -- ---- sums
 
@@ -216,17 +215,17 @@ nothing_last n = omega arith
 
 -- ---- the places that a keyword reads
 
-module _ (W : World) (k : Name) where
-  pub each_malformations : (P : Path) (es : Rows) → flat_map (λ r. r.0.answer (down P r.1)) (each k (map (entry (malformations_step W)) es)) ≡ flat_map
-      (λ e. malformations_at W e.1 (P // k // e.0)) es
+module _ {W : World} (I : Steps W) (k : Name) where
+  pub each_malformations : (P : Path) (es : Rows) → flat_map (λ r. r.0.answer (down P r.1)) (each k (map (entry I.refuses) es)) ≡ flat_map
+      (λ e. malformations_at I e.1 (P // k // e.0)) es
   unfolding malformations_at
   each_malformations P [] = refl
-  each_malformations P (e ∷ es) = ap (λ l. malformations_at W e.1 (P // k // e.0) ++ l) (each_malformations P es)
+  each_malformations P (e ∷ es) = ap (λ l. malformations_at I e.1 (P // k // e.0) ++ l) (each_malformations P es)
 
-  pub each_costs : (es : Rows) → total_cost (λ r. r.0.answer) (each k (map (entry (cost_step W)) es)) ≡ total_cost (λ e. cost W e.1) es
+  pub each_costs : (es : Rows) → total_cost (λ r. r.0.answer) (each k (map (entry I.costs) es)) ≡ total_cost (λ e. cost I e.1) es
   unfolding cost
   each_costs [] = refl
-  each_costs (e ∷ es) = ap (λ c. cost W e.1 ⊕ c) (each_costs es)
+  each_costs (e ∷ es) = ap (λ c. cost I e.1 ⊕ c) (each_costs es)
 
 -- ---- what a keyword asks of subschemas, list by list
 
@@ -247,138 +246,96 @@ module _ {X Z : Type 0} (a : X → Z → Asked) (ws : X → List Z) where
     pub each_shows : (es : List X) → map (shows_it P Q) (asked_each es) ≡ flat_map (λ e. map (λ z. shows_it P Q (a e z)) (ws e)) es
     each_shows es = map-flat_map _ (shows_it P Q) es ∙ (λ i. flat_map (λ e. map-map (shows_it P Q) _ (a e) (λ z. refl) (ws e) i) es)
 
-module _ (W : World) (ms : Members) where
+module _ {W : World} (I : Steps W) (ms : Members) where
   -- ---- properties
 
   module _ (d : Data) (u : Bool) (v : Data) where
     abbrev declared_asks : Name × Data → Data → Asked
-    declared_asks e x = asked (place (meaning_step W u) e.1) x (codes "properties" ∷ e.0 ∷ []) (e.0 ∷ [])
+    declared_asks e x = asked (place (I.means u) e.1) x (codes "properties" ∷ e.0 ∷ []) (e.0 ∷ [])
 
-    asked_declared : applied W u (read_members (meaning_step W u) ms) (codes "properties") (read (meaning_step W u) d) v properties ≡ asked_each declared_asks (λ e. at e.0 v) (members d)
-    asked_declared = ap (flat_map _) (entries_read (meaning_step W u) d) ∙ flat_map-map _ _ (entry (meaning_step W u)) (λ e. refl) (members d)
+    asked_declared : applied W u (read_members (I.means u) ms) (codes "properties") (read (I.means u) d) v properties ≡ asked_each declared_asks (λ e. at e.0 v) (members d)
+    asked_declared = ap (flat_map _) (entries_read (I.means u) d) ∙ flat_map-map _ _ (entry (I.means u)) (λ e. refl) (members d)
 
-    pub declared_accept : member_accepts W ms (codes "properties", d) properties u v ≡ list_all (λ e. list_all (accepts W u e.1) (at e.0 v)) (members d)
+    pub declared_accept : member_accepts I ms (codes "properties", d) properties u v ≡ list_all (λ e. list_all (accepts I u e.1) (at e.0 v)) (members d)
     unfolding meaning
     declared_accept = and-true _ ∙ ap (list_all accepts_it) asked_declared ∙ each_accepts _ _ (members d)
 
-    pub declared_ask : member_asks W ms (codes "properties", d) properties u v ≡ sum_by (λ e. sum_by (asks W u e.1) (at e.0 v)) (members d)
+    pub declared_ask : member_asks I ms (codes "properties", d) properties u v ≡ sum_by (λ e. sum_by (asks I u e.1) (at e.0 v)) (members d)
     unfolding meaning
     declared_ask = nothing_last _ ∙ ap (sum_by asks_it) asked_declared ∙ each_asks _ _ (members d)
 
-    pub declared_find : (P Q : Path) → member_report W ms (codes "properties", d) properties u v P Q ≡ flat_map
-        (λ e. flat_map (λ x. report W u e.1 x (P // codes "properties" // e.0) (Q // e.0)) (at e.0 v)) (members d)
+    pub declared_find : (P Q : Path) → member_report I ms (codes "properties", d) properties u v P Q ≡ flat_map
+        (λ e. flat_map (λ x. report I u e.1 x (P // codes "properties" // e.0) (Q // e.0)) (at e.0 v)) (members d)
     unfolding meaning
     declared_find P Q = append-nil _ ∙ ap (flat_map (finds_it P Q)) asked_declared ∙ each_finds _ _ P Q (members d)
 
   -- ---- required
 
   module _ (d : Data) where
-    pub required_malformations : (P : Path) → member_malformations W ms (codes "required", d) required P ≡ unless_array d (P // codes "required") ++ not_a_text d (P // codes "required")
-    required_malformations P = append-nil _ ∙ ap (λ s. unless_array s (P // codes "required") ++ not_a_text s (P // codes "required")) (schema_of_read (malformations_step W) d)
+    pub required_malformations : (P : Path) → member_malformations I ms (codes "required", d) required P ≡ unless_array d (P // codes "required") ++ not_a_text d (P // codes "required")
+    required_malformations P = append-nil _ ∙ ap (λ s. unless_array s (P // codes "required") ++ not_a_text s (P // codes "required")) (schema_of_read I.refuses d)
 
     module _ (u : Bool) (v : Data) where
-      pub required_accepts : member_accepts W ms (codes "required", d) required u v ≡ is_empty (missing (texts d) v)
-      required_accepts = ap (λ s. is_empty (missing (texts s) v)) (schema_of_read (meaning_step W u) d)
+      pub required_accepts : member_accepts I ms (codes "required", d) required u v ≡ is_empty (missing (texts d) v)
+      required_accepts = ap (λ s. is_empty (missing (texts s) v)) (schema_of_read (I.means u) d)
 
-      pub required_asks : member_asks W ms (codes "required", d) required u v ≡ 0
+      pub required_asks : member_asks I ms (codes "required", d) required u v ≡ 0
       required_asks = nothing_first 0
 
-      pub required_report : (P Q : Path) → member_report W ms (codes "required", d) required u v P Q ≡ required_faults (texts d) v (P // codes "required") Q
-      required_report P Q = ap (λ s. required_faults (texts s) v (P // codes "required") Q) (schema_of_read (meaning_step W u) d)
+      pub required_report : (P Q : Path) → member_report I ms (codes "required", d) required u v P Q ≡ required_faults (texts d) v (P // codes "required") Q
+      required_report P Q = ap (λ s. required_faults (texts s) v (P // codes "required") Q) (schema_of_read (I.means u) d)
 
   -- ---- values of the wrong kind
 
   module _ (P : Path) where
-    pub properties_kind : (d : Data) → is_object d ≡ false → member_malformations W ms (codes "properties", d) properties P ≡ fault (SingleType object_type) d [] (P // codes "properties") ∷ []
+    pub properties_kind : (d : Data) → is_object d ≡ false → member_malformations I ms (codes "properties", d) properties P ≡ fault (SingleType object_type) d [] (P // codes "properties") ∷ []
     properties_kind (object fs) e = absurd (true≢false e)
     properties_kind _ e = refl
 
--- ---- no matcher is asked about a value that is no object, such as a name
+-- ---- what is no object means what it does for the layer, and no matcher is asked about a name
 
-nothing_summed : {A : Type 0} (f : A → ℕ) (xs : List A) → Each (λ x. f x ≡ 0) xs → sum_by f xs ≡ 0
-nothing_summed f [] h = refl
-nothing_summed f (x ∷ xs) h = sum_by-cons f x xs ∙ (λ i. h.0 i + nothing_summed f xs h.1 i)
-
-abbrev IsNoObject : Data → Type 0
-IsNoObject v = is_object v ≡ false
-
--- it asks nothing about such values
-abbrev AsksNothing : Data → Meaning → Type 0
-AsksNothing d m = (v : Data) → IsNoObject v → m.asks v ≡ 0
-
-module _ (W : World) (u : Bool) (v : Data) (none : IsNoObject v) where
-  module _ (S : Keywords Meaning) (k : Name) (p : Part Meaning) (good : GoodPart AsksNothing p) where
-    applied_nothing : (w : Keyword) → sum_by asks_it (applied W u S k p v w) ≡ 0
-    applied_nothing w = nothing_summed asks_it (applied W u S k p v w) (Each-implies (GoodAsked AsksNothing IsNoObject) _ (λ a g. g.0 a.value g.1) _
-        (applied_good AsksNothing IsNoObject W u S k p good v none (fines (members v) (no_members v none)) w))
-      where
-        fines : (xs : Rows) → xs ≡ [] → Each (λ m. IsNoObject m.1) xs
-        fines [] e = tt
-        fines (x ∷ xs) e = absurd (grind (arith, e))
-
-    items_nothing : sum_by (λ s. s.answer.asks v) p.items ≡ 0
-    items_nothing = nothing_summed _ p.items (Each-implies _ _ (λ s g. g v none) p.items good.3)
-
-    where_nothing : (b : Bool) → cond b (p.whole.answer.asks v) 0 ≡ 0
-    where_nothing true = good.0 v none
-    where_nothing false = refl
-
-    own_nothing : (w : Keyword) → own_asks W u S k p v w ≡ 0
-    own_nothing pattern_properties = ap (sum_by _) (no_members v none)
-    own_nothing any_of = items_nothing
-    own_nothing one_of = items_nothing
-    own_nothing not_keyword = good.0 v none
-    own_nothing if_keyword = where_nothing _
-    own_nothing _ = refl
-
-  keywords_nothing : (T S : Keywords Meaning) → Each (λ m. GoodPart AsksNothing m.1) S → Each (λ m. keyword_asks W u T m.0 m.1 v (keyword_named W m.0) ≡ 0) S
-  keywords_nothing T S = Each-implies _ _
-      (λ m g. (λ i. applied_nothing T m.0 m.1 g (keyword_named W m.0) i + own_nothing T m.0 m.1 g (keyword_named W m.0) i)) S
-
-module _ (W : World) (u : Bool) where
-  step_asks_nothing : (S : Schema Meaning) → GoodSchema AsksNothing S → (v : Data) → IsNoObject v → (meaning_step W u S).asks v ≡ 0
-  step_asks_nothing (keywords S) g v none = nothing_summed _ S (keywords_nothing W u v none S S g)
-  step_asks_nothing _ g v none = refl
-
-  pub asks_nothing : (d v : Data) → is_object v ≡ false → asks W u d v ≡ 0
+module _ {W : World} (I : Steps W) (u : Bool) where
+  pub accepts_no_object : (d v : Data) → is_object d ≡ false → accepts I u d v ≡ (answer_for (meaning_step W u) d).accepts v
   unfolding meaning
-  asks_nothing = good_answer AsksNothing (meaning_step W u) (λ d. step_asks_nothing _)
+  accepts_no_object d v e = ap (λ m. m.accepts v) (I.of_no_object u d e)
 
-  pub name_asks_nothing : (d : Data) (n : Name) → asks W u d (string n) ≡ 0
-  name_asks_nothing d n = asks_nothing d _ refl
+  pub asks_no_object : (d v : Data) → is_object d ≡ false → asks I u d v ≡ (answer_for (meaning_step W u) d).asks v
+  unfolding meaning
+  asks_no_object d v e = ap (λ m. m.asks v) (I.of_no_object u d e)
 
-  pub names_ask_nothing : (d : Data) (es : Rows) → sum_by (λ m. asks W u d (string m.0)) es ≡ 0
-  names_ask_nothing d es = nothing_summed _ es (Each-any _ (λ m. name_asks_nothing d m.0) es)
+  pub names_ask_nothing : (d : Data) (es : Rows) → sum_by (λ m. asks I u d (string m.0)) es ≡ 0
+  unfolding meaning
+  names_ask_nothing d es = nothing_summed _ es (Each-any _ (λ m. I.of_a_name u d m.0) es)
 
 -- ---- what an object means, member by member
 
 module _ (W : World) (ms : Members) where
-  pub object_accepts : (u : Bool) (v : Data) → accepts W u (object ms) v ≡ list_all (λ m. member_accepts W ms m (keyword_named W m.0) u v) (listed ms)
+  pub object_accepts : (u : Bool) (v : Data) → accepts (layer_steps W) u (object ms) v ≡ list_all (λ m. member_accepts (layer_steps W) ms m (keyword_named W m.0) u v) (listed ms)
   unfolding meaning
   object_accepts u v = ap (list_all (λ m. keyword_accepts W u (read_members (meaning_step W u) ms) m.0 m.1 v (keyword_named W m.0))) (members_read (meaning_step W u) ms) ∙ list_all-map _ _ (listed ms)
 
-  pub object_asks : (u : Bool) (v : Data) → asks W u (object ms) v ≡ sum_by (λ m. member_asks W ms m (keyword_named W m.0) u v) (listed ms)
+  pub object_asks : (u : Bool) (v : Data) → asks (layer_steps W) u (object ms) v ≡ sum_by (λ m. member_asks (layer_steps W) ms m (keyword_named W m.0) u v) (listed ms)
   unfolding meaning
   object_asks u v = ap (sum_by (λ m. keyword_asks W u (read_members (meaning_step W u) ms) m.0 m.1 v (keyword_named W m.0))) (members_read (meaning_step W u) ms) ∙ sum_by-map _ _ (listed ms)
 
-  pub object_report : (u : Bool) (v : Data) (P Q : Path) → report W u (object ms) v P Q ≡ flat_map (λ m. member_report W ms m (keyword_named W m.0) u v P Q) (listed ms)
+  pub object_report : (u : Bool) (v : Data) (P Q : Path) → report (layer_steps W) u (object ms) v P Q ≡ flat_map (λ m. member_report (layer_steps W) ms m (keyword_named W m.0) u v P Q) (listed ms)
   unfolding meaning
   object_report u v P Q =
       ap (flat_map (λ m. keyword_report W u (read_members (meaning_step W u) ms) m.0 m.1 v P Q (keyword_named W m.0))) (members_read (meaning_step W u) ms) ∙ flat_map-map _ _ _ (λ m. refl) (listed ms)
 
-  pub object_tree : (u : Bool) (v : Data) (P Q : Path) → tree W u (object ms) v P Q ≡ plain P Q (flat_map (λ m. member_child W ms m (keyword_named W m.0) u v P Q) (listed ms))
+  pub object_tree : (u : Bool) (v : Data) (P Q : Path) → tree (layer_steps W) u (object ms) v P Q ≡ plain P Q (flat_map (λ m. member_child (layer_steps W) ms m (keyword_named W m.0) u v P Q) (listed ms))
   unfolding meaning
   object_tree u v P Q =
       ap (λ ps. plain P Q (flat_map (λ m. keyword_child W u (read_members (meaning_step W u) ms) v P Q m.0 m.1 (keyword_named W m.0)) ps)) (members_read (meaning_step W u) ms)
       ∙ ap (plain P Q) (flat_map-map _ _ _ (λ m. refl) (listed ms))
 
-  pub object_malformed : (P : Path) → malformations_at W (object ms) P ≡ flat_map (λ m. member_malformations W ms m (keyword_named W m.0) P) (listed ms)
+  pub object_malformed : (P : Path) → malformations_at (layer_steps W) (object ms) P ≡ flat_map (λ m. member_malformations (layer_steps W) ms m (keyword_named W m.0) P) (listed ms)
   unfolding malformations_at
   object_malformed P =
       ap (flat_map (λ m. keyword_malformations W (read_members (malformations_step W) ms) m.0 m.1 P (keyword_named W m.0))) (members_read (malformations_step W) ms)
       ∙ flat_map-map _ _ _ (λ m. refl) (listed ms)
 
-  pub object_cost : cost W (object ms) ≡ one_place ⊕ total_cost (λ m. member_cost W ms m (keyword_named W m.0)) (listed ms)
+  pub object_cost : cost (layer_steps W) (object ms) ≡ one_place ⊕ total_cost (λ m. member_cost (layer_steps W) ms m (keyword_named W m.0)) (listed ms)
   unfolding cost
   object_cost = ap (λ c. one_place ⊕ c) (ap (total_cost _) (members_read (cost_step W) ms) ∙ total_cost-map _ _ _ (λ m. refl) (listed ms))
 
@@ -399,13 +356,13 @@ no_schema_is (boolean b) e = absurd (let n : false ≡ true = e in cc)
 no_schema_is (object ms) e = absurd (let n : false ≡ true = e in cc)
 no_schema_is _ e = tt
 
-pub no_schema_malformed : (W : World) (d : Data) (P : Path) → IsNoSchema d → malformations_at W d P ≡ fault MultipleTypes d [] P ∷ []
+pub no_schema_malformed : (W : World) (d : Data) (P : Path) → IsNoSchema d → malformations_at (layer_steps W) d P ≡ fault MultipleTypes d [] P ∷ []
 unfolding malformations_at
 no_schema_malformed W (boolean b) P h = absurd h
 no_schema_malformed W (object ms) P h = absurd h
 no_schema_malformed W _ P h = refl
 
-pub no_schema_cost : (W : World) (d : Data) → IsNoSchema d → cost W d ≡ one_place
+pub no_schema_cost : (W : World) (d : Data) → IsNoSchema d → cost (layer_steps W) d ≡ one_place
 unfolding cost
 no_schema_cost W (boolean b) h = absurd h
 no_schema_cost W (object ms) h = absurd h
@@ -413,17 +370,17 @@ no_schema_cost W _ h = refl
 
 -- ---- keywords that ask some entries of the whole value, and nothing else
 
-module _ (W : World) (ms : Members) (m : Name × Data) (w : Keyword) {X : Type 0} (schema : X → Data) (under : X → List Name) (es : Data → List X) where
+module _ {W : World} (I : Steps W) (ms : Members) (m : Name × Data) (w : Keyword) {X : Type 0} (schema : X → Data) (under : X → List Name) (es : Data → List X) where
   module _ (u : Bool) (v : Data) where
     -- the keywords of the object, and the value of this one
     abbrev beside : Keywords Meaning
-    beside = read_members (meaning_step W u) ms
+    beside = read_members (I.means u) ms
 
     abbrev here : Part Meaning
-    here = read (meaning_step W u) m.1
+    here = read (I.means u) m.1
 
     abbrev asked_entry : X → Asked
-    asked_entry e = asked (place (meaning_step W u) (schema e)) v (m.0 ∷ under e) []
+    asked_entry e = asked (place (I.means u) (schema e)) v (m.0 ∷ under e) []
 
     -- it asks these entries, and nothing beside them
     pub record AsksOnly : Type 0 where
@@ -433,7 +390,7 @@ module _ (W : World) (ms : Members) (m : Name × Data) (w : Keyword) {X : Type 0
       pub finds : (P Q : Path) → own W u beside m.0 here v P Q w ≡ []
       pub shows : (P Q : Path) → keyword_child W u beside v P Q m.0 here w ≡ plain (P // m.0) Q (asked_trees W u beside v P Q m.0 here w) ∷ []
 
-  pub told_by_entries : ((u : Bool) (v : Data) → AsksOnly u v) → IsTold W ms m w (entries_told (placed_answers W schema under) es)
+  pub told_by_entries : ((u : Bool) (v : Data) → AsksOnly u v) → IsTold I ms m w (entries_told (placed_answers I schema under) es)
   unfolding meaning
   told_by_entries h = record {
     verdict = λ u v. (λ i. list_all accepts_it ((h u v).asked i) && (h u v).wants i) ∙ and-true _ ∙ list_all-map accepts_it (asked_entry u v) (es v);

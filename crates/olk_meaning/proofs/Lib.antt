@@ -1,4 +1,5 @@
 pub mod Rows
+pub mod Layer
 pub mod Fused
 pub mod Listed
 pub mod Claims
@@ -12,4 +13,5 @@ pub mod Conditions
 pub mod AdditionalProperties
 pub mod Clean
 pub mod Restriction
+pub mod Refusals
 pub mod Standing

@@ -7,10 +7,9 @@ use Rattle.olk_spec.specs.World.{World, is_unfinished}
 use Rattle.olk_spec.specs.Faults.{Fault, Regex}
 use Rattle.olk_spec.specs.Schemas.{Sub, Schema, read, read_members, members, is_object, entries_at}
 use Rattle.olk_spec.specs.Meanings.{Meaning, Asked, asked, applied, restricts, matches, is_open, is_declared}
-use Rattle.olk_spec.specs.Meaning.{accepts, asks, report, tree, meaning, meaning_step}
 use Rattle.olk_spec.specs.Asks.{open_patterns, asks_at}
 use Rattle.olk_spec.specs.Malformed.{refusal, unless_object, own_refusals}
-use Rattle.olk_spec.specs.Costs.{Cost, cost_step, own_cost, no_cost, ◌⊕◌, total_cost}
+use Rattle.olk_spec.specs.Costs.{Cost, own_cost, no_cost, ◌⊕◌, total_cost}
 use Rattle.olk_spec.proofs.Maps.{map-map, flat_map-map}
 use Rattle.olk_spec.proofs.Reading.{entry, place, entries_read, schema_of_read}
 use Rattle.olk_meaning.specs.Members.{member_accepts, member_asks, member_report, member_child}
@@ -24,16 +23,17 @@ use Rattle.olk_meaning.proofs.Rows.{Rows}
 use Rattle.std.proofs.{lemmas.List.length-map, lemmas.List.Sums.sum_by-cons, Math.Bool.and-true}
 use Rattle.olk_spec.specs.{Vocabulary.pattern_properties, Tree.result}
 use Rattle.olk_spec.proofs.{CostSums.sum_last, Order.∼_same}
+use Rattle.olk_meaning.specs.Steps.{Steps, accepts, asks, report, tree, meaning}
 
 -- ---- the members that are asked about
 
-module _ (W : World) (u : Bool) (ms : Members) (d : Data) (v : Data) where
+module _ {W : World} (I : Steps W) (u : Bool) (ms : Members) (d : Data) (v : Data) where
   abbrev asked_of : Name × Data → Name × Data → Asked
-  asked_of e x = asked (place (meaning_step W u) e.1) x.1 (codes "patternProperties" ∷ e.0 ∷ []) (x.0 ∷ [])
+  asked_of e x = asked (place (I.means u) e.1) x.1 (codes "patternProperties" ∷ e.0 ∷ []) (x.0 ∷ [])
 
-  asked_matching : applied W u (read_members (meaning_step W u) ms) (codes "patternProperties") (read (meaning_step W u) d) v pattern_properties ≡ asked_each asked_of
+  asked_matching : applied W u (read_members (I.means u) ms) (codes "patternProperties") (read (I.means u) d) v pattern_properties ≡ asked_each asked_of
       (λ e. matched_members W u e.0 v) (members d)
-  asked_matching = ap (flat_map _) (entries_read (meaning_step W u) d) ∙ flat_map-map _ _ (entry (meaning_step W u)) (λ e. refl) (members d)
+  asked_matching = ap (flat_map _) (entries_read (I.means u) d) ∙ flat_map-map _ _ (entry (I.means u)) (λ e. refl) (members d)
 
 -- ---- how many matchers are asked
 
@@ -57,20 +57,20 @@ module _ (W : World) where
 
 -- ---- what it means
 
-module _ (W : World) (ms : Members) (d : Data) (u : Bool) (v : Data) where
+module _ {W : World} (I : Steps W) (ms : Members) (d : Data) (u : Bool) (v : Data) where
   -- a schema, with its parts' meanings, to its own
   abbrev to_meaning : Schema Meaning → Meaning
-  to_meaning = meaning_step W u
+  to_meaning = I.means u
 
-  pub pattern_properties_accepts : member_accepts W ms (codes "patternProperties", d) pattern_properties u v ≡ list_all
-      (λ e. list_all (λ x. accepts W u e.1 x.1) (matched_members W u e.0 v)) (members d)
+  pub pattern_properties_accepts : member_accepts I ms (codes "patternProperties", d) pattern_properties u v ≡ list_all
+      (λ e. list_all (λ x. accepts I u e.1 x.1) (matched_members W u e.0 v)) (members d)
   unfolding meaning
-  pattern_properties_accepts = and-true _ ∙ ap (list_all accepts_it) (asked_matching W u ms d v) ∙ each_accepts _ _ (members d)
+  pattern_properties_accepts = and-true _ ∙ ap (list_all accepts_it) (asked_matching I u ms d v) ∙ each_accepts _ _ (members d)
 
-  pub pattern_properties_report : (P Q : Path) → member_report W ms (codes "patternProperties", d) pattern_properties u v P Q ≡ flat_map
-      (λ e. flat_map (λ x. report W u e.1 x.1 (P // codes "patternProperties" // e.0) (Q // x.0)) (matched_members W u e.0 v)) (members d)
+  pub pattern_properties_report : (P Q : Path) → member_report I ms (codes "patternProperties", d) pattern_properties u v P Q ≡ flat_map
+      (λ e. flat_map (λ x. report I u e.1 x.1 (P // codes "patternProperties" // e.0) (Q // x.0)) (matched_members W u e.0 v)) (members d)
   unfolding meaning
-  pattern_properties_report P Q = append-nil _ ∙ ap (flat_map (finds_it P Q)) (asked_matching W u ms d v) ∙ each_finds _ _ P Q (members d)
+  pattern_properties_report P Q = append-nil _ ∙ ap (flat_map (finds_it P Q)) (asked_matching I u ms d v) ∙ each_finds _ _ P Q (members d)
 
   -- ---- where it has a validator of its own
 
@@ -81,23 +81,23 @@ module _ (W : World) (ms : Members) (d : Data) (u : Bool) (v : Data) where
         ∙ ap (λ n. sum_by (λ (m : Name × Data). n) (members v)) (ap length (open_read W to_meaning d) ∙ open_counted W (members d))
         ∙ sym (sums_exchanged (λ (e x : Name × Data). pattern_asks W e.0) (members d) (members v))
 
-    asked_together : (e : Name × Data) → sum_by (λ x. pattern_asks W e.0 + cond (matches W u e.0 x.0) (asks W u e.1 x.1) 0) (members v) ≡ sum_by
-        (λ x. pattern_asks W e.0) (members v) + sum_by (λ x. asks W u e.1 x.1) (matched_members W u e.0 v)
-    asked_together e = sum_of_both (λ x. pattern_asks W e.0) (λ x. cond (matches W u e.0 x.0) (asks W u e.1 x.1) 0) (members v)
+    asked_together : (e : Name × Data) → sum_by (λ x. pattern_asks W e.0 + cond (matches W u e.0 x.0) (asks I u e.1 x.1) 0) (members v) ≡ sum_by
+        (λ x. pattern_asks W e.0) (members v) + sum_by (λ x. asks I u e.1 x.1) (matched_members W u e.0 v)
+    asked_together e = sum_of_both (λ x. pattern_asks W e.0) (λ x. cond (matches W u e.0 x.0) (asks I u e.1 x.1) 0) (members v)
         ∙ ap (λ n. sum_by (λ x. pattern_asks W e.0) (members v) + n) (sum_of_those _ _ (members v))
 
     -- each matcher is asked each member's name, and where the pattern matches, its schema is asked
-    pub pattern_properties_asks : member_asks W ms (codes "patternProperties", d) pattern_properties u v ≡ sum_by
-        (λ e. sum_by (λ x. pattern_asks W e.0 + cond (matches W u e.0 x.0) (asks W u e.1 x.1) 0) (members v)) (members d)
+    pub pattern_properties_asks : member_asks I ms (codes "patternProperties", d) pattern_properties u v ≡ sum_by
+        (λ e. sum_by (λ x. pattern_asks W e.0 + cond (matches W u e.0 x.0) (asks I u e.1 x.1) 0) (members v)) (members d)
     unfolding meaning
-    pattern_properties_asks = (λ i. sum_by asks_it (asked_matching W u ms d v i) + own_asked i)
+    pattern_properties_asks = (λ i. sum_by asks_it (asked_matching I u ms d v i) + own_asked i)
         ∙ ap (λ n. n + sum_by (λ e. sum_by (λ x. pattern_asks W e.0) (members v)) (members d)) (each_asks _ _ (members d))
-        ∙ other_way (sum_by (λ e. sum_by (λ x. asks W u e.1 x.1) (matched_members W u e.0 v)) (members d)) (sum_by (λ e. sum_by (λ x. pattern_asks W e.0) (members v)) (members d))
-        ∙ sym (sum_of_both (λ e. sum_by (λ x. pattern_asks W e.0) (members v)) (λ e. sum_by (λ x. asks W u e.1 x.1) (matched_members W u e.0 v)) (members d))
+        ∙ other_way (sum_by (λ e. sum_by (λ x. asks I u e.1 x.1) (matched_members W u e.0 v)) (members d)) (sum_by (λ e. sum_by (λ x. pattern_asks W e.0) (members v)) (members d))
+        ∙ sym (sum_of_both (λ e. sum_by (λ x. pattern_asks W e.0) (members v)) (λ e. sum_by (λ x. asks I u e.1 x.1) (matched_members W u e.0 v)) (members d))
         ∙ (λ i. sum_by (λ e. sym (asked_together e) i) (members d))
 
     -- a child for each match, and a name for each match, pattern by pattern
-    pattern_properties_child : (P Q : Path) → member_child W ms (codes "patternProperties", d) pattern_properties u v P Q ≡ (patterns_told W (members d)).shown u v (P // codes "patternProperties") Q ∷ []
+    pattern_properties_child : (P Q : Path) → member_child I ms (codes "patternProperties", d) pattern_properties u v P Q ≡ (patterns_told I (members d)).shown u v (P // codes "patternProperties") Q ∷ []
     unfolding meaning
     pattern_properties_child P Q = λ i. put_if (not (free i)) (result (P // codes "patternProperties") Q (cond (and-true (is_object v) i) (Some (names i)) None) false [] (trees i)) []
       where
@@ -106,8 +106,8 @@ module _ (W : World) (ms : Members) (d : Data) (u : Bool) (v : Data) where
         names = ap (flat_map _) (entries_read to_meaning d) ∙ flat_map-map _ _ (entry to_meaning) (λ e. refl) (members d)
 
         trees : map (shows_it P Q) (applied W u (read_members to_meaning ms) (codes "patternProperties") (read to_meaning d) v pattern_properties) ≡ flat_map
-            (λ e. map (λ x. tree W u e.1 x.1 (P // codes "patternProperties" // e.0) (Q // x.0)) (matched_members W u e.0 v)) (members d)
-        trees = ap (map (shows_it P Q)) (asked_matching W u ms d v) ∙ each_shows _ _ P Q (members d)
+            (λ e. map (λ x. tree I u e.1 x.1 (P // codes "patternProperties" // e.0) (Q // x.0)) (matched_members W u e.0 v)) (members d)
+        trees = ap (map (shows_it P Q)) (asked_matching I u ms d v) ∙ each_shows _ _ P Q (members d)
 
   -- ---- where `additionalProperties` stands for it
 
@@ -119,20 +119,20 @@ module _ (W : World) (ms : Members) (d : Data) (u : Bool) (v : Data) where
         (length (open_read W to_meaning d i))) (members v)
 
     -- member by member the schemas of the patterns that match, and the matchers that are asked of its name
-    pub pattern_properties_asks_beside : member_asks W ms (codes "patternProperties", d) pattern_properties u v ≡ sum_by
-        (λ x. matching_asks W u (declared_beside ms) (members d) x + patterns_asked W (declared_beside ms) (members d) x.0) (members v)
+    pub pattern_properties_asks_beside : member_asks I ms (codes "patternProperties", d) pattern_properties u v ≡ sum_by
+        (λ x. matching_asks I u (declared_beside ms) (members d) x + patterns_asked W (declared_beside ms) (members d) x.0) (members v)
     unfolding meaning
-    pattern_properties_asks_beside = (λ i. sum_by asks_it (asked_matching W u ms d v i) + table_asked i)
+    pattern_properties_asks_beside = (λ i. sum_by asks_it (asked_matching I u ms d v i) + table_asked i)
         ∙ ap (λ n. n + sum_by (λ x. patterns_asked W (declared_beside ms) (members d) x.0) (members v)) (each_asks _ _ (members d)
-        ∙ sum_by-exchanged (λ e x. matches W u e.0 x.0) (λ e x. asks W u e.1 x.1) (members d) (members v))
-        ∙ sym (sum_of_both (matching_asks W u (declared_beside ms) _) (λ x. patterns_asked W _ _ x.0) (members v))
+        ∙ sum_by-exchanged (λ e x. matches W u e.0 x.0) (λ e x. asks I u e.1 x.1) (members d) (members v))
+        ∙ sym (sum_of_both (matching_asks I u (declared_beside ms) _) (λ x. patterns_asked W _ _ x.0) (members v))
 
-pub pattern_properties_told : (W : World) (ms : Members) (d : Data) → IsTold W ms (codes "patternProperties", d) pattern_properties (patterns_told W (members d))
-pattern_properties_told W ms d = record {
-  verdict = pattern_properties_accepts W ms d;
-  asked = λ free u v. pattern_properties_asks W ms d u v (restricted_read (meaning_step W u) ms ∙ sym (and-true (is_restricted ms)) ∙ free);
-  faults = λ u v P Q. ∼_same (sym (pattern_properties_report W ms d u v P Q));
-  shown = λ u free v. pattern_properties_child W ms d u v free;
+pub pattern_properties_told : {W : World} (I : Steps W) (ms : Members) (d : Data) → IsTold I ms (codes "patternProperties", d) pattern_properties (patterns_told I (members d))
+pattern_properties_told I ms d = record {
+  verdict = pattern_properties_accepts I ms d;
+  asked = λ free u v. pattern_properties_asks I ms d u v (restricted_read (I.means u) ms ∙ sym (and-true (is_restricted ms)) ∙ free);
+  faults = λ u v P Q. ∼_same (sym (pattern_properties_report I ms d u v P Q));
+  shown = λ u free v. pattern_properties_child I ms d u v free;
 }
 
 -- ---- what is wrong with it, and the places that it reads
@@ -145,46 +145,46 @@ module _ {X : Type 0} (step : Schema X → X) (d : Data) (k : Name) where
   pub pattern_properties_refusals : (W : World) (L : Path) → own_refusals W k (read step d) L pattern_properties ≡ unless_object d L ++ unbuilt W d L
   pattern_properties_refusals W L = λ i. unless_object (schema_of_read step d i) L ++ map (λ t. refusal Regex (string t) (L // t)) (filter_once (λ t. not (W.builds t)) (open_read W step d i))
 
-module _ (W : World) (ms : Members) (d : Data) where
+module _ {W : World} (I : Steps W) (ms : Members) (d : Data) where
   -- a matcher for each pattern that has no test, and what is asked for a table
   abbrev pub tables_asked : Cost
   tables_asked =
       record no_cost {
-        table_asks = cond (restricts (read_members (cost_step W) ms))
-            (length (entries_at (read_members (cost_step W) ms) (codes "properties")) * length (open_patterns W (read (cost_step W) d))) 0;
+        table_asks = cond (restricts (read_members I.costs ms))
+            (length (entries_at (read_members I.costs ms) (codes "properties")) * length (open_patterns W (read I.costs d))) 0;
       }
 
-  pub pattern_properties_own_cost : own_cost W (read_members (cost_step W) ms) (read (cost_step W) d) pattern_properties ≡ matchers_made W d ⊕ tables_asked
+  pub pattern_properties_own_cost : own_cost W (read_members I.costs ms) (read I.costs d) pattern_properties ≡ matchers_made W d ⊕ tables_asked
   pattern_properties_own_cost = λ i. record no_cost { pattern_places = made i; table_asks = asked i }
     where
-      made : length (open_patterns W (read (cost_step W) d)) ≡ length (open_names W d) + 0
-      made = ap length (open_read W (cost_step W) d) ∙ omega arith
+      made : length (open_patterns W (read I.costs d)) ≡ length (open_names W d) + 0
+      made = ap length (open_read W I.costs d) ∙ omega arith
 
       asked : tables_asked.table_asks ≡ 0 + tables_asked.table_asks
       asked = omega arith
 
-  pub pattern_properties_free_cost : restricts (read_members (cost_step W) ms) ≡ false → own_cost W (read_members (cost_step W) ms) (read (cost_step W) d) pattern_properties ≡ matchers_made W d
+  pub pattern_properties_free_cost : restricts (read_members I.costs ms) ≡ false → own_cost W (read_members I.costs ms) (read I.costs d) pattern_properties ≡ matchers_made W d
   pattern_properties_free_cost free = pattern_properties_own_cost ∙ ap (λ b. matchers_made W d ⊕ record no_cost {
     table_asks = cond b
-        (length (entries_at (read_members (cost_step W) ms) (codes "properties")) * length (open_patterns W (read (cost_step W) d))) 0;
+        (length (entries_at (read_members I.costs ms) (codes "properties")) * length (open_patterns W (read I.costs d))) 0;
   }) free ∙ sum_last _
 
   -- each of its matchers is asked for each declared name
-  pub pattern_properties_table_cost : restricts (read_members (cost_step W) ms) ≡ true → own_cost W (read_members (cost_step W) ms) (read (cost_step W) d) pattern_properties
+  pub pattern_properties_table_cost : restricts (read_members I.costs ms) ≡ true → own_cost W (read_members I.costs ms) (read I.costs d) pattern_properties
       ≡ matchers_made W d ⊕ record no_cost { table_asks = length (declared_beside ms) * length (open_names W d) }
   pattern_properties_table_cost restricted = pattern_properties_own_cost ∙ ap (λ n. matchers_made W d ⊕ record no_cost { table_asks = n })
-      ((λ i. cond (restricted i) (length (entries_beside (cost_step W) ms (codes "properties") i) * length (open_read W (cost_step W) d i)) 0)
-      ∙ ap (λ n. n * length (open_names W d)) (length-map (declared_beside ms) (entry (cost_step W))))
+      ((λ i. cond (restricted i) (length (entries_beside I.costs ms (codes "properties") i) * length (open_read W I.costs d i)) 0)
+      ∙ ap (λ n. n * length (open_names W d)) (length-map (declared_beside ms) (entry I.costs)))
 
   -- of each name that is known to be declared
-  pub pattern_properties_known_cost : own_cost W (read_members (cost_step W) ms) (read (cost_step W) d) pattern_properties ≡ matchers_made W d ⊕ names_asked W (known_of ms).declared d
+  pub pattern_properties_known_cost : own_cost W (read_members I.costs ms) (read I.costs d) pattern_properties ≡ matchers_made W d ⊕ names_asked W (known_of ms).declared d
   pattern_properties_known_cost = by (is_restricted ms) refl
     where
-      by : (b : Bool) → is_restricted ms ≡ b → own_cost W (read_members (cost_step W) ms) (read (cost_step W) d) pattern_properties ≡ matchers_made W d ⊕ names_asked W
+      by : (b : Bool) → is_restricted ms ≡ b → own_cost W (read_members I.costs ms) (read I.costs d) pattern_properties ≡ matchers_made W d ⊕ names_asked W
           (cond b (declared_beside ms) []) d
-      by true e = pattern_properties_table_cost (restricted_read (cost_step W) ms ∙ e)
+      by true e = pattern_properties_table_cost (restricted_read I.costs ms ∙ e)
       by false e =
-          pattern_properties_free_cost (restricted_read (cost_step W) ms ∙ e) ∙ sym (sum_last _) ∙ ap (λ n. matchers_made W d ⊕ record no_cost { table_asks = n }) of_no_names
+          pattern_properties_free_cost (restricted_read I.costs ms ∙ e) ∙ sym (sum_last _) ∙ ap (λ n. matchers_made W d ⊕ record no_cost { table_asks = n }) of_no_names
         where
           of_no_names : 0 ≡ 0 * length (open_names W d)
           of_no_names = omega arith

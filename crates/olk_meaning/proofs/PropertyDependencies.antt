@@ -7,13 +7,13 @@ use Rattle.olk_spec.specs.Names.{Name, Path, ◌//◌, down, lookup_name}
 use Rattle.olk_spec.specs.{Vocabulary.property_dependencies, World.World}
 use Rattle.olk_spec.specs.Schemas.{Schema, Keywords, read, read_members, members, Sub, at, as_text}
 use Rattle.olk_spec.specs.Meanings.{applied, asked, Meaning, Asked}
-use Rattle.olk_spec.specs.Meaning.{meaning_step}
-use Rattle.olk_spec.specs.Malformed.{own_refusals, read_places, unless_object, malformations_step, malformations_at}
+use Rattle.olk_spec.specs.Malformed.{own_refusals, read_places, unless_object}
 use Rattle.olk_spec.proofs.Maps.{flat_map-map, map-map}
 use Rattle.olk_spec.proofs.Reading.{entry, place, entries_read, schema_of_read, inner_entry, inner_read}
 use Rattle.olk_meaning.specs.Told.{IsTold, entries_told}
-use Rattle.olk_spec.specs.Costs.{Cost, cost, cost_step, total_cost}
+use Rattle.olk_spec.specs.Costs.{Cost, total_cost}
 use Rattle.olk_spec.proofs.CostSums.{total_cost-map}
+use Rattle.olk_meaning.specs.Steps.{Steps, malformations_at, cost}
 use Rattle.olk_meaning.specs.PropertyDependencies.{chosen, choices, choice_answers}
 use Rattle.std.proofs.lemmas.List.{map-append}
 
@@ -43,9 +43,9 @@ module _ (step : Schema Meaning → Meaning) (k : Name) (v : Data) where
       (λ e. asked_by e ∙ sym (map-map asked_choice (asked_of e.0) (λ c. (e.0, c.0, c.1)) (λ c. refl) (chosen v e))) (members d)
       ∙ sym (map-flat_map (λ e. map (λ c. (e.0, c.0, c.1)) (chosen v e)) asked_choice (members d))
 
-pub property_dependencies_told : (W : World) (ms : Members) (d : Data) → IsTold W ms (codes "propertyDependencies", d) property_dependencies (entries_told (choice_answers W) (choices (members d)))
-property_dependencies_told W ms d = told_by_entries W ms (codes "propertyDependencies", d) property_dependencies (λ c. c.2) (λ c. c.0 ∷ c.1 ∷ []) (choices (members d)) (λ u v. record {
-  asked = chosen_asked (meaning_step W u) (codes "propertyDependencies") v W u (read_members (meaning_step W u) ms) d;
+pub property_dependencies_told : {W : World} (I : Steps W) (ms : Members) (d : Data) → IsTold I ms (codes "propertyDependencies", d) property_dependencies (entries_told (choice_answers I) (choices (members d)))
+property_dependencies_told {W} I ms d = told_by_entries I ms (codes "propertyDependencies", d) property_dependencies (λ c. c.2) (λ c. c.0 ∷ c.1 ∷ []) (choices (members d)) (λ u v. record {
+  asked = chosen_asked (I.means u) (codes "propertyDependencies") v W u (read_members (I.means u) ms) d;
   wants = refl;
   asks = refl;
   finds = λ P Q. refl;
@@ -67,16 +67,16 @@ module _ {X : Type 0} (step : Schema X → X) (d : Data) (k : Name) where
   pub property_dependencies_places : (S : Keywords X) → read_places k S (read step d) property_dependencies ≡ inner_places
   property_dependencies_places S = ap (flat_map _) (inner_read step d) ∙ flat_map-map _ _ (inner_entry step) (λ e. map-map _ _ _ (λ c. refl) _) (members d)
 
-module _ (W : World) (d : Data) (k : Name) where
-  pub inner_malformations : (P : Path) → flat_map (λ r. r.0.answer (down P r.1)) (inner_places (malformations_step W) d k) ≡ flat_map
-      (λ e. flat_map (λ c. malformations_at W c.1 (P // k // e.0 // c.0)) (members e.1)) (members d)
+module _ {W : World} (I : Steps W) (d : Data) (k : Name) where
+  pub inner_malformations : (P : Path) → flat_map (λ r. r.0.answer (down P r.1)) (inner_places I.refuses d k) ≡ flat_map
+      (λ e. flat_map (λ c. malformations_at I c.1 (P // k // e.0 // c.0)) (members e.1)) (members d)
   unfolding malformations_at
   inner_malformations P = flat_map-flat_map _ _ (members d)
-      ∙ (λ i. flat_map (λ e. flat_map-map (λ (r : Sub _ × List Name). r.0.answer (down P r.1)) (λ c. malformations_at W c.1 _)
-      (λ c. (place (malformations_step W) c.1, k ∷ e.0 ∷ c.0 ∷ [])) (λ c. refl) (members e.1) i) (members d))
+      ∙ (λ i. flat_map (λ e. flat_map-map (λ (r : Sub _ × List Name). r.0.answer (down P r.1)) (λ c. malformations_at I c.1 _)
+      (λ c. (place I.refuses c.1, k ∷ e.0 ∷ c.0 ∷ [])) (λ c. refl) (members e.1) i) (members d))
 
-  pub inner_costs : total_cost (λ r. r.0.answer) (inner_places (cost_step W) d k) ≡ total_cost (λ e. total_cost (λ c. cost W c.1) (members e.1)) (members d)
+  pub inner_costs : total_cost (λ r. r.0.answer) (inner_places I.costs d k) ≡ total_cost (λ e. total_cost (λ c. cost I c.1) (members e.1)) (members d)
   unfolding cost
   inner_costs = total_cost-flat_map _ (λ r. r.0.answer) (members d)
-      ∙ (λ i. total_cost (λ e. total_cost-map (λ (r : Sub Cost × List Name). r.0.answer) (λ c. cost W c.1) (λ c. (place (cost_step W) c.1, k ∷ e.0 ∷ c.0 ∷ []))
+      ∙ (λ i. total_cost (λ e. total_cost-map (λ (r : Sub Cost × List Name). r.0.answer) (λ c. cost I c.1) (λ c. (place I.costs c.1, k ∷ e.0 ∷ c.0 ∷ []))
       (λ c. refl) (members e.1) i) (members d))

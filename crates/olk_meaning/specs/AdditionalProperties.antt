@@ -6,7 +6,7 @@ use Rattle.olk_spec.specs.Names.{Name, Text, Path, ◌//◌, lookup_name, filter
 use Rattle.olk_spec.specs.World.{World, is_unfinished}
 use Rattle.olk_spec.specs.Schemas.{listed, members, is_object, is_truth}
 use Rattle.olk_spec.specs.Meanings.{matches, is_open}
-use Rattle.olk_spec.specs.Meaning.{accepts, asks, report, tree}
+use Rattle.olk_meaning.specs.Steps.{Steps, accepts, asks, report, tree}
 use Rattle.olk_spec.specs.Reports.{unexpected_faults, required_faults}
 use Rattle.olk_spec.specs.Tree.{Tree, node, no_tree, result, erring, described}
 use Rattle.olk_meaning.specs.Fused.{fused_one}
@@ -83,52 +83,9 @@ module _ (W : World) (u : Bool) (fs es : List (Name × Data)) where
   abbrev pub other_members : Data → List (Name × Data)
   other_members v = filter_once (λ x. is_other x.0) (members v)
 
-  -- ---- a member is accepted by its declared schema, by those of its patterns, and where there is neither by the rest
-
-  abbrev pub declared_accepts : Name × Data → Bool
-  declared_accepts x = list_all (λ s. accepts W u s x.1) (declared_at fs x.0)
-
-  abbrev pub matching_accept : Name × Data → Bool
-  matching_accept x = list_all (λ e. accepts W u e.1 x.1) (matching_at W u es x.0)
-
-  abbrev pub rest_accepts : Data → Name × Data → Bool
-  rest_accepts d x = not (is_other x.0) || accepts W u d x.1
-
-  abbrev pub each_accepts : Data → Name × Data → Bool
-  each_accepts d x = declared_accepts x && matching_accept x && rest_accepts d x
-
-  -- ---- what these find in it, where the schema object stands at P and the value at Q
-
-  module _ (P Q : Path) where
-    abbrev pub declared_report : Name × Data → List Fault
-    declared_report x = flat_map (λ s. report W u s x.1 (P // codes "properties" // x.0) (Q // x.0)) (declared_at fs x.0)
-
-    abbrev pub matching_report : Name × Data → List Fault
-    matching_report x = flat_map (λ e. report W u e.1 x.1 (P // codes "patternProperties" // e.0) (Q // x.0)) (matching_at W u es x.0)
-
-    abbrev pub rest_report : Data → Name × Data → List Fault
-    rest_report d x = cond (is_other x.0) (cond (is_object d) (report W u d x.1 (P // codes "additionalProperties") (Q // x.0)) []) []
-
-    abbrev pub each_report : Data → Name × Data → List Fault
-    each_report d x = declared_report x ++ matching_report x ++ rest_report d x
-
-    -- where the rest is false, the members that are not expected are told together
-    abbrev pub others_report : Bool → Data → Data → List Fault
-    others_report named d v = cond (is_truth false d) (unexpected_faults named (other_members v) v (P // codes "additionalProperties") Q) []
-
-    -- ---- and what they show of it
-
-    abbrev pub declared_shown : Name × Data → List Tree
-    declared_shown x = map (λ s. tree W u s x.1 (P // codes "properties" // x.0) (Q // x.0)) (declared_at fs x.0)
-
-    abbrev pub matching_shown : Name × Data → List Tree
-    matching_shown x = map (λ e. tree W u e.1 x.1 (P // codes "patternProperties" // e.0) (Q // x.0)) (matching_at W u es x.0)
-
-    abbrev pub rest_shown : Data → Name × Data → List Tree
-    rest_shown d x = where_so (is_object d && is_other x.0) (tree W u d x.1 (P // codes "additionalProperties") (Q // x.0))
-
-    abbrev pub each_shown : Data → Name × Data → List Tree
-    each_shown d x = declared_shown x ++ matching_shown x ++ rest_shown d x
+  -- where the rest is false, the members that are not expected are told together
+  abbrev pub others_report : Path → Path → Bool → Data → Data → List Fault
+  others_report P Q named d v = cond (is_truth false d) (unexpected_faults named (other_members v) v (P // codes "additionalProperties") Q) []
 
   -- a name for each match, member by member, and the names of the others
   abbrev pub names_matched : Data → List Name
@@ -137,16 +94,60 @@ module _ (W : World) (u : Bool) (fs es : List (Name × Data)) where
   abbrev pub other_names : Data → List Name
   other_names v = map (λ x. x.0) (other_members v)
 
+module _ {W : World} (I : Steps W) (u : Bool) (fs es : List (Name × Data)) where
+  -- ---- a member is accepted by its declared schema, by those of its patterns, and where there is neither by the rest
+
+  abbrev pub declared_accepts : Name × Data → Bool
+  declared_accepts x = list_all (λ s. accepts I u s x.1) (declared_at fs x.0)
+
+  abbrev pub matching_accept : Name × Data → Bool
+  matching_accept x = list_all (λ e. accepts I u e.1 x.1) (matching_at W u es x.0)
+
+  abbrev pub rest_accepts : Data → Name × Data → Bool
+  rest_accepts d x = not (is_other W u fs es x.0) || accepts I u d x.1
+
+  abbrev pub each_accepts : Data → Name × Data → Bool
+  each_accepts d x = declared_accepts x && matching_accept x && rest_accepts d x
+
+  -- ---- what these find in it, where the schema object stands at P and the value at Q
+
+  module _ (P Q : Path) where
+    abbrev pub declared_report : Name × Data → List Fault
+    declared_report x = flat_map (λ s. report I u s x.1 (P // codes "properties" // x.0) (Q // x.0)) (declared_at fs x.0)
+
+    abbrev pub matching_report : Name × Data → List Fault
+    matching_report x = flat_map (λ e. report I u e.1 x.1 (P // codes "patternProperties" // e.0) (Q // x.0)) (matching_at W u es x.0)
+
+    abbrev pub rest_report : Data → Name × Data → List Fault
+    rest_report d x = cond (is_other W u fs es x.0) (cond (is_object d) (report I u d x.1 (P // codes "additionalProperties") (Q // x.0)) []) []
+
+    abbrev pub each_report : Data → Name × Data → List Fault
+    each_report d x = declared_report x ++ matching_report x ++ rest_report d x
+
+    -- ---- and what they show of it
+
+    abbrev pub declared_shown : Name × Data → List Tree
+    declared_shown x = map (λ s. tree I u s x.1 (P // codes "properties" // x.0) (Q // x.0)) (declared_at fs x.0)
+
+    abbrev pub matching_shown : Name × Data → List Tree
+    matching_shown x = map (λ e. tree I u e.1 x.1 (P // codes "patternProperties" // e.0) (Q // x.0)) (matching_at W u es x.0)
+
+    abbrev pub rest_shown : Data → Name × Data → List Tree
+    rest_shown d x = where_so (is_object d && is_other W u fs es x.0) (tree I u d x.1 (P // codes "additionalProperties") (Q // x.0))
+
+    abbrev pub each_shown : Data → Name × Data → List Tree
+    each_shown d x = declared_shown x ++ matching_shown x ++ rest_shown d x
+
   -- ---- and how many matchers are asked
 
   abbrev pub declared_asks : Name × Data → ℕ
-  declared_asks x = sum_by (λ s. asks W u s x.1) (declared_at fs x.0)
+  declared_asks x = sum_by (λ s. asks I u s x.1) (declared_at fs x.0)
 
   abbrev pub matching_asks : Name × Data → ℕ
-  matching_asks x = sum_by (λ e. asks W u e.1 x.1) (matching_at W u es x.0)
+  matching_asks x = sum_by (λ e. asks I u e.1 x.1) (matching_at W u es x.0)
 
   abbrev pub rest_asks : Data → Name × Data → ℕ
-  rest_asks d x = cond (is_other x.0) (asks W u d x.1) 0
+  rest_asks d x = cond (is_other W u fs es x.0) (asks I u d x.1) 0
 
   abbrev pub each_asks : Data → Name × Data → ℕ
   each_asks d x = declared_asks x + (matching_asks x + patterns_asked W fs es x.0) + rest_asks d x
@@ -168,7 +169,8 @@ module _ (W : World) (u : Bool) (ms : Members) (v : Data) where
   names_shown d = cond (is_object v && (is_object d && (cond (declares_beside ms) (matches_beside ms) (not (matches_beside ms)) || not (is_empty (other_names W u (declared_beside ms) (patterns_beside ms) v)))))
       (Some (other_names W u (declared_beside ms) (patterns_beside ms) v)) None
 
+module _ {W : World} (I : Steps W) (u : Bool) (ms : Members) (v : Data) where
   abbrev pub restriction_shown : Data → Path → Path → Tree
-  restriction_shown d P Q = result (P // codes "additionalProperties") Q (names_shown d) false
+  restriction_shown d P Q = result (P // codes "additionalProperties") Q (names_shown W u ms v d) false
       (described (others_report W u (declared_beside ms) (patterns_beside ms) P Q (has_beside ms) d v))
-      (flat_map (each_shown W u (declared_beside ms) (patterns_beside ms) P Q d) (members v) ++ matched_child P Q ++ required_child ms v P Q)
+      (flat_map (each_shown I u (declared_beside ms) (patterns_beside ms) P Q d) (members v) ++ matched_child W u ms v P Q ++ required_child ms v P Q)

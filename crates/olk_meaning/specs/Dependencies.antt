@@ -5,6 +5,7 @@ use Rattle.serde_json.specs.Data.{Data}
 use Rattle.olk_spec.specs.Names.{Name, filter_once, is_empty}
 use Rattle.olk_spec.specs.Schemas.{is_array, members, has, texts}
 use Rattle.olk_meaning.specs.Chosen.{names_form}
+use Rattle.olk_meaning.specs.Steps.{Steps}
 use Rattle.olk_meaning.specs.Told.{EntryAnswers, schema_answers}
 use Rattle.olk_spec.specs.{World.World, Accepts.missing, Reports.required_faults, Tree.erring}
 
@@ -35,14 +36,14 @@ list_answers = record {
 }
 
 -- it does so where it is a list, and else is a schema, which is asked of the whole value
-abbrev pub either_answers : World → (Data → Bool) → EntryAnswers (Name × Data)
-either_answers W is_list = record {
-  verdict = λ u e v. cond (is_list e.1) (list_answers.verdict u e v) ((schema_answers W).verdict u e v);
-  asked = λ u e v. cond (is_list e.1) 0 ((schema_answers W).asked u e v);
-  faults = λ u e v L Q. cond (is_list e.1) (list_answers.faults u e v L Q) ((schema_answers W).faults u e v L Q);
-  shown = λ u e v L Q. cond (is_list e.1) (list_answers.shown u e v L Q) ((schema_answers W).shown u e v L Q);
-  placed = λ e L. cond (is_list e.1) (list_answers.placed e L) ((schema_answers W).placed e L);
+abbrev pub either_answers : {W : World} → Steps W → (Data → Bool) → EntryAnswers (Name × Data)
+either_answers I is_list = record {
+  verdict = λ u e v. cond (is_list e.1) (list_answers.verdict u e v) ((schema_answers I).verdict u e v);
+  asked = λ u e v. cond (is_list e.1) 0 ((schema_answers I).asked u e v);
+  faults = λ u e v L Q. cond (is_list e.1) (list_answers.faults u e v L Q) ((schema_answers I).faults u e v L Q);
+  shown = λ u e v L Q. cond (is_list e.1) (list_answers.shown u e v L Q) ((schema_answers I).shown u e v L Q);
+  placed = λ e L. cond (is_list e.1) (list_answers.placed e L) ((schema_answers I).placed e L);
 }
 
-abbrev pub dependency_answers : World → EntryAnswers (Name × Data)
-dependency_answers W = either_answers W is_array
+abbrev pub dependency_answers : {W : World} → Steps W → EntryAnswers (Name × Data)
+dependency_answers I = either_answers I is_array

@@ -1,4 +1,5 @@
 pub mod Chosen
+pub mod Steps
 pub mod Members
 pub mod Fused
 pub mod Conditions

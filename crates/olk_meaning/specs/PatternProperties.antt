@@ -7,7 +7,7 @@ use Rattle.olk_spec.specs.Faults.{Fault, Regex}
 use Rattle.olk_spec.specs.Costs.{Cost, no_cost}
 use Rattle.olk_spec.specs.Schemas.{members, is_object}
 use Rattle.olk_spec.specs.Meanings.{matches, is_open}
-use Rattle.olk_spec.specs.Meaning.{accepts, asks, report, tree}
+use Rattle.olk_meaning.specs.Steps.{Steps, accepts, asks, report, tree}
 use Rattle.olk_meaning.specs.Told.{Told}
 use Rattle.olk_spec.specs.{Malformed.refusal, World.World, Tree.result}
 
@@ -40,11 +40,11 @@ module _ (W : World) where
   names_asked fs d = record no_cost { table_asks = length fs * length (open_names d) }
 
 -- `patternProperties` of these entries, where it has a validator of its own: each matcher is asked each member's name, and where the pattern matches, its schema is asked
-abbrev pub patterns_told : World → List (Name × Data) → Told
-patterns_told W es = record {
-  verdict = λ u v. list_all (λ e. list_all (λ x. accepts W u e.1 x.1) (matched_members W u e.0 v)) es;
-  asked = λ u v. sum_by (λ e. sum_by (λ x. pattern_asks W e.0 + cond (matches W u e.0 x.0) (asks W u e.1 x.1) 0) (members v)) es;
-  faults = λ u v L Q. flat_map (λ e. flat_map (λ x. report W u e.1 x.1 (L // e.0) (Q // x.0)) (matched_members W u e.0 v)) es;
+abbrev pub patterns_told : {W : World} → Steps W → List (Name × Data) → Told
+patterns_told {W} I es = record {
+  verdict = λ u v. list_all (λ e. list_all (λ x. accepts I u e.1 x.1) (matched_members W u e.0 v)) es;
+  asked = λ u v. sum_by (λ e. sum_by (λ x. pattern_asks W e.0 + cond (matches W u e.0 x.0) (asks I u e.1 x.1) 0) (members v)) es;
+  faults = λ u v L Q. flat_map (λ e. flat_map (λ x. report I u e.1 x.1 (L // e.0) (Q // x.0)) (matched_members W u e.0 v)) es;
   shown = λ u v L Q. result L Q (cond (is_object v) (Some (flat_map (λ e. map (λ x. x.0) (matched_members W u e.0 v)) es)) None) false []
-      (flat_map (λ e. map (λ x. tree W u e.1 x.1 (L // e.0) (Q // x.0)) (matched_members W u e.0 v)) es);
+      (flat_map (λ e. map (λ x. tree I u e.1 x.1 (L // e.0) (Q // x.0)) (matched_members W u e.0 v)) es);
 }

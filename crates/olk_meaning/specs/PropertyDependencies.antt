@@ -3,6 +3,7 @@ use Rattle.std.specs.Prelude.{List, [], ◌∷◌, map}
 use Rattle.std.specs.List.{flat_map}
 use Rattle.serde_json.specs.Data.{Data}
 use Rattle.olk_spec.specs.Schemas.{at, as_text}
+use Rattle.olk_meaning.specs.Steps.{Steps}
 use Rattle.olk_meaning.specs.Told.{EntryAnswers, placed_answers}
 use Rattle.olk_spec.specs.{Names.Name, World.World}
 
@@ -18,5 +19,5 @@ chosen v e = flat_map (chosen_by e.1) (at e.0 v)
 abbrev pub choices : List (Name × Data) → Data → List (Name × Name × Data)
 choices es v = flat_map (λ e. map (λ c. (e.0, c.0, c.1)) (chosen v e)) es
 
-abbrev pub choice_answers : World → EntryAnswers (Name × Name × Data)
-choice_answers W = placed_answers W (λ c. c.2) (λ c. c.0 ∷ c.1 ∷ [])
+abbrev pub choice_answers : {W : World} → Steps W → EntryAnswers (Name × Name × Data)
+choice_answers I = placed_answers I (λ c. c.2) (λ c. c.0 ∷ c.1 ∷ [])

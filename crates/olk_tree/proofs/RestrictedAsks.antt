@@ -11,9 +11,10 @@ use Rattle.olk_spec.specs.Faults.{Fault}
 use Rattle.olk_spec.specs.Schemas.{is_object, members}
 use Rattle.olk_spec.specs.Literals.{Literal, literal}
 use Rattle.olk_spec.specs.Meanings.{literal_says, pattern_says, is_open}
-use Rattle.olk_spec.specs.Meaning.{asks}
+use Rattle.olk_meaning.specs.Steps.{asks}
 use Rattle.olk_spec.specs.Tree.{Tree}
 use Rattle.olk_base.specs.Kit.{Kit}
+use Rattle.olk_tree.specs.Steps.{StepsOf}
 use Rattle.olk_base.specs.Compiled.{pattern_answers, pattern_costs}
 use Rattle.olk_base.specs.declared.pattern.CompiledPattern.{CompiledPattern}
 use Rattle.olk_meaning.specs.AdditionalProperties.{declared_at, matching_at, open_among, patterns_asked, declared_asks, matching_asks, rest_asks, each_asks}
@@ -105,9 +106,9 @@ open_counts W text n = by (literal text) _
         test true = refl
         test false = refl
 
-module _ {K R N : Type 0} (o : Kit K R) (m : N → Data → Question) (r : N → Bool → Data → Path → List Fault) (t : N → Bool → Data → Path → Tree) (n : Name) (u : Bool) (S : Sides R N) (L : Path) where
+module _ {K R N : Type 0} {o : Kit K R} (I : StepsOf o) (m : N → Data → Question) (r : N → Bool → Data → Path → List Fault) (t : N → Bool → Data → Path → Tree) (n : Name) (u : Bool) (S : Sides R N) (L : Path) where
   -- of a name that isn't declared, each
-  all_asked : (i : ℕ) (ps : List (CompiledPattern R × N)) (es : Rows) → PatternsAnswer o m r t ps es L → matchers_asked o.answers o.costs S n u None i ps ≡ length (open_among o.world es)
+  all_asked : (i : ℕ) (ps : List (CompiledPattern R × N)) (es : Rows) → PatternsAnswer I m r t ps es L → matchers_asked o.answers o.costs S n u None i ps ≡ length (open_among o.world es)
   all_asked i [] [] h = refl
   all_asked i (p ∷ ps) (e ∷ es) h =
       (λ j. cond (h.0.costs j || is_unfinished (h.0.answers n j)) 1 0 + all_asked (i + 1) ps es h.2 j) ∙ ap (λ c. c + length (open_among o.world es))
@@ -122,12 +123,12 @@ module _ {K R N : Type 0} (o : Kit K R) (m : N → Data → Question) (r : N →
   is_left text = is_unfinished (o.world.says text n)
 
   -- of a declared one, those that left it unfinished
-  unfinished_asked : (f : ℕ × N) (i : ℕ) (ps : List (CompiledPattern R × N)) (es : Rows) → PatternsAnswer o m r t ps es L
-      → Recalls o m r t n S (Some f) i ps → matchers_asked o.answers o.costs S n u (Some f) i ps ≡ count_by is_left (open_among o.world es)
+  unfinished_asked : (f : ℕ × N) (i : ℕ) (ps : List (CompiledPattern R × N)) (es : Rows) → PatternsAnswer I m r t ps es L
+      → Recalls I m r t n S (Some f) i ps → matchers_asked o.answers o.costs S n u (Some f) i ps ≡ count_by is_left (open_among o.world es)
   unfinished_asked f i [] [] h k = refl
   unfinished_asked f i (p ∷ ps) (e ∷ es) h k =
-      (λ j. (known_or_asked ((recalls_here o m r t n S (Some f) i p ps k ∙ h.0.answers n) j) (said_to (h.0.costs j) (h.0.answers n j))).asks of_asked u + unfinished_asked f
-      (i + 1) ps es h.2 (recalls_later o m r t n S (Some f) i p ps k) j)
+      (λ j. (known_or_asked ((recalls_here I m r t n S (Some f) i p ps k ∙ h.0.answers n) j) (said_to (h.0.costs j) (h.0.answers n j))).asks of_asked u + unfinished_asked f
+      (i + 1) ps es h.2 (recalls_later I m r t n S (Some f) i p ps k) j)
       ∙ ap (λ c. c + count_by is_left (open_among o.world es)) (asked_if_unfinished o.world u e.0 n)
       ∙ by (is_open o.world e.0)
     where
@@ -136,51 +137,51 @@ module _ {K R N : Type 0} (o : Kit K R) (m : N → Data → Question) (r : N →
       by false = omega arith
   unfinished_asked f i _ _ h k = absurd h
 
-  matchers_counted : (a : Option (ℕ × N)) (ps : List (CompiledPattern R × N)) (es : Rows) → PatternsAnswer o m r t ps es L
-      → Recalls o m r t n S a 0 ps → matchers_asked o.answers o.costs S n u a 0 ps ≡ cond (is_some a) (count_by is_left (open_among o.world es)) (length (open_among o.world es))
+  matchers_counted : (a : Option (ℕ × N)) (ps : List (CompiledPattern R × N)) (es : Rows) → PatternsAnswer I m r t ps es L
+      → Recalls I m r t n S a 0 ps → matchers_asked o.answers o.costs S n u a 0 ps ≡ cond (is_some a) (count_by is_left (open_among o.world es)) (length (open_among o.world es))
   matchers_counted None ps es h k = all_asked 0 ps es h
   matchers_counted (Some f) ps es h k = unfinished_asked f 0 ps es h k
 
 -- ---- all
 
-module _ {K R N : Type 0} {o : Kit K R} {m : _} {r : _} {t : _} {S : Sides R N} {fs es : Rows} {d : Data} {P : Path} (h : SidesStand o m r t S fs es d P) (u : Bool) where
+module _ {K R N : Type 0} {o : Kit K R} {I : StepsOf o} {m : _} {r : _} {t : _} {S : Sides R N} {fs es : Rows} {d : Data} {P : Path} (h : SidesStand I m r t S fs es d P) (u : Bool) where
   pub matchers_for : (n : Name) → matchers_asked o.answers o.costs S n u (at_name S n) 0 S.patterns ≡ patterns_asked o.world fs es n
-  matchers_for n = matchers_counted o m r t n u S _ (at_name S n) S.patterns es h.patterns (recalls h n)
+  matchers_for n = matchers_counted I m r t n u S _ (at_name S n) S.patterns es h.patterns (recalls h n)
       ∙ ap {B = ℕ} (λ b. cond b (count_by (λ x. is_unfinished (o.world.says x n)) (open_among o.world es)) (length (open_among o.world es))) (is_declared h n)
 
   module _ (x : Name × Data) where
     abbrev pub asking : Data × Path → ℕ
-    asking s = asks o.world u s.0 x.1
+    asking s = asks I.steps u s.0 x.1
 
-    pub asked_by_others : sum_by asking (other_schemas h x.0 u) ≡ matching_asks o.world u fs es x + sum_by asking (rest_schemas h x.0 u)
+    pub asked_by_others : sum_by asking (other_schemas h x.0 u) ≡ matching_asks I.steps u fs es x + sum_by asking (rest_schemas h x.0 u)
     asked_by_others =
         sum_by-append asking (matching_schemas h x.0 u) _ ∙ ap (λ k. k + sum_by asking (rest_schemas h x.0 u)) (sum_by-map asking _ (matching_at o.world u es x.0))
 
-    asked_by_part : sum_by asking (asked_schemas h x.0 u) ≡ declared_asks o.world u fs es x + (matching_asks o.world u fs es x + sum_by asking (rest_schemas h x.0 u))
+    asked_by_part : sum_by asking (asked_schemas h x.0 u) ≡ declared_asks I.steps u fs es x + (matching_asks I.steps u fs es x + sum_by asking (rest_schemas h x.0 u))
     asked_by_part = sum_by-append asking (declared_schemas h x.0 u) _ ∙ (λ i. sum_by-map asking (declared_schema h x.0) (declared_at fs x.0) i + asked_by_others i)
 
-    pub rest_within : sum_by asking (rest_schemas h x.0 u) ≤ rest_asks o.world u fs es d x
+    pub rest_within : sum_by asking (rest_schemas h x.0 u) ≤ rest_asks I.steps u fs es d x
     rest_within = by (is_object d) _
       where
-        by : (a b : Bool) → sum_by asking (put_if (a && b) (d, P // codes "additionalProperties") []) ≤ cond b (asks o.world u d x.1) 0
+        by : (a b : Bool) → sum_by asking (put_if (a && b) (d, P // codes "additionalProperties") []) ≤ cond b (asks I.steps u d x.1) 0
         by true true = omega arith
         by true false = omega arith
         by false true = omega arith
         by false false = omega arith
 
-    asked_each : (member_means o.answers o.costs m S x.0 x.1).asks of_asked u ≤ each_asks o.world u fs es d x
+    asked_each : (member_means o.answers o.costs m S x.0 x.1).asks of_asked u ≤ each_asks I.steps u fs es d x
     asked_each =
         let whole = member_asks o.answers o.costs m S x.0 x.1 u in
-        let nodes = all_ask o m r t u x.1 _ _ (asked_answer h x.0 u) in
+        let nodes = all_ask I m r t u x.1 _ _ (asked_answer h x.0 u) in
         let parts = asked_by_part in
         let rest = rest_within in
         let matchers = matchers_for x.0 in
         omega (arith, whole, nodes, parts, rest, matchers)
 
   -- it asks at most what each member asks
-  pub restricted_asks : (v : Data) → (means_in_turn o.answers o.costs m S v).asks of_asked u ≤ sum_by (each_asks o.world u fs es d) (members v)
+  pub restricted_asks : (v : Data) → (means_in_turn o.answers o.costs m S v).asks of_asked u ≤ sum_by (each_asks I.steps u fs es d) (members v)
   restricted_asks v = along (members v)
     where
-      along : (xs : Rows) → (every (λ x. member_means o.answers o.costs m S x.0 x.1) xs).asks of_asked u ≤ sum_by (each_asks o.world u fs es d) xs
+      along : (xs : Rows) → (every (λ x. member_means o.answers o.costs m S x.0 x.1) xs).asks of_asked u ≤ sum_by (each_asks I.steps u fs es d) xs
       along [] = omega arith
-      along (x ∷ xs) = more_within _ _ _ _ _ (asked_each x) (along xs) (sum_by-cons (each_asks o.world u fs es d) x xs)
+      along (x ∷ xs) = more_within _ _ _ _ _ (asked_each x) (along xs) (sum_by-cons (each_asks I.steps u fs es d) x xs)

@@ -9,13 +9,13 @@ use Rattle.olk_spec.specs.Vocabulary.{additional_properties, keyword_named}
 use Rattle.olk_spec.specs.Faults.{Fault, ◌∼◌, like_through}
 use Rattle.olk_spec.specs.Schemas.{listed, read_members}
 use Rattle.olk_spec.specs.Malformed.{has_repeat}
-use Rattle.olk_spec.specs.Meaning.{meaning_step}
 use Rattle.olk_spec.specs.Accepts.{missing}
 use Rattle.olk_spec.specs.Reports.{required_faults}
 use Rattle.olk_spec.specs.Tree.{Tree}
 use Rattle.olk_spec.specs.Trees.{fuses_one}
 use Rattle.olk_spec.proofs.Order.{∼_append, ∼_behind, ∼_same, ∼_sym}
 use Rattle.olk_base.specs.Kit.{Kit}
+use Rattle.olk_tree.specs.Steps.{StepsOf}
 use Rattle.olk_meaning.specs.AdditionalProperties.{required_beside, has_beside, required_child}
 use Rattle.olk_meaning.specs.Conditions.{is_restricted}
 use Rattle.olk_meaning.specs.Fused.{fused_one}
@@ -42,8 +42,8 @@ patterns_placed answers S u v Q false true A t more e = ap (λ L. additional_tre
 patterns_placed answers S u v Q true true A t more e = refl
 patterns_placed answers S u v Q declares false A t more e = refl
 
-module _ {K R N : Type 0} (o : Kit K R) (m : N → Data → Question) (r : N → Bool → Data → Path → List Fault) (t : N → Bool → Data → Path → Tree)
-    (k : Restriction R N) {ms : Members} {d : Data} {P : Path} (h : RestrictionStands o m r t (held k) ms d P) where
+module _ {K R N : Type 0} {o : Kit K R} (I : StepsOf o) (m : N → Data → Question) (r : N → Bool → Data → Path → List Fault) (t : N → Bool → Data → Path → Tree)
+    (k : Restriction R N) {ms : Members} {d : Data} {P : Path} (h : RestrictionStands I m r t (held k) ms d P) where
   -- ---- the name that is required
 
   required_found : (v : Data) (Q : Path) → lacks (held k).required v Q ≡ required_faults (required_beside ms) v (P // codes "required") Q
@@ -75,34 +75,34 @@ module _ {K R N : Type 0} (o : Kit K R) (m : N → Data → Question) (r : N →
 
     -- it accepts where each of these accepts
     pub restriction_accepts : (u : Bool) (v : Data) → (validator_means o m (keyword.AdditionalProperties k) v).accepts u ≡ list_all
-        (λ x. member_accepts o.world ms x (keyword_named o.world x.0) u v) claimed
+        (λ x. member_accepts I.steps ms x (keyword_named o.world x.0) u v) claimed
     unfolding answers_of
     restriction_accepts u v = by (repeats v) refl
       where
         by : (b : Bool) → repeats v ≡ b → ((cond b (named_means o.answers o.costs m (sides_of (held k)) v) (means_in_turn o.answers o.costs m (sides_of (held k)) v)).accepts u
-            && is_empty (missing (required_text (held k).required) v)) ≡ list_all (λ x. member_accepts o.world ms x (keyword_named o.world x.0) u v) claimed
-        by true q = (λ i. named_accepts h.sides u v i && is_empty (missing (h.requires i) v)) ∙ sym (claims_accept o.world ms d distinct there restricted u v)
-        by false q = (λ i. restricted_accepts h.sides u v i && is_empty (missing (h.requires i) v)) ∙ sym (claims_accept_each o.world ms d distinct there restricted u v h.declared_once q)
+            && is_empty (missing (required_text (held k).required) v)) ≡ list_all (λ x. member_accepts I.steps ms x (keyword_named o.world x.0) u v) claimed
+        by true q = (λ i. named_accepts h.sides u v i && is_empty (missing (h.requires i) v)) ∙ sym (claims_accept I.steps ms d distinct there restricted u v)
+        by false q = (λ i. restricted_accepts h.sides u v i && is_empty (missing (h.requires i) v)) ∙ sym (claims_accept_each I.steps ms d distinct there restricted u v h.declared_once q)
 
     -- it asks at most what these ask
-    pub restriction_asks : (u : Bool) (v : Data) → (validator_means o m (keyword.AdditionalProperties k) v).asks of_asked u ≤ sum_by (λ x. member_asks o.world ms x (keyword_named o.world x.0) u v) claimed
+    pub restriction_asks : (u : Bool) (v : Data) → (validator_means o m (keyword.AdditionalProperties k) v).asks of_asked u ≤ sum_by (λ x. member_asks I.steps ms x (keyword_named o.world x.0) u v) claimed
     unfolding answers_of
     restriction_asks u v = by (repeats v) refl
       where
         by : (b : Bool) → repeats v ≡ b → (cond b (named_means o.answers o.costs m (sides_of (held k)) v) (means_in_turn o.answers o.costs m (sides_of (held k)) v)).asks of_asked u + 0 ≤ sum_by
-            (λ x. member_asks o.world ms x (keyword_named o.world x.0) u v) claimed
+            (λ x. member_asks I.steps ms x (keyword_named o.world x.0) u v) claimed
         by true q =
             let within = named_asks h.sides u v in
-            let all = claims_ask o.world ms d distinct there restricted u v in
+            let all = claims_ask I.steps ms d distinct there restricted u v in
             omega (arith, within, all)
         by false q =
             let within = restricted_asks h.sides u v in
-            let all = claims_ask_each o.world ms d distinct there restricted u v h.declared_once q in
+            let all = claims_ask_each I.steps ms d distinct there restricted u v h.declared_once q in
             omega (arith, within, all)
 
     -- it finds what these find
     pub restriction_finds : (u : Bool) (v : Data) (Q : Path) → validator_report o m r u (keyword.AdditionalProperties k) v Q ∼ flat_map
-        (λ x. member_report o.world ms x (keyword_named o.world x.0) u v P Q) claimed
+        (λ x. member_report I.steps ms x (keyword_named o.world x.0) u v P Q) claimed
     unfolding answers_of
     restriction_finds u v Q = like_through (∼_append (∼_same placed) (∼_same (required_found v Q))) (by (repeats v) refl)
       where
@@ -110,18 +110,18 @@ module _ {K R N : Type 0} (o : Kit K R) (m : N → Data → Question) (r : N →
         placed = λ i. reported u v Q (repeats v) (h.declares i || h.has_patterns i) (h.place i)
 
         by : (b : Bool) → repeats v ≡ b → reported u v Q b (has_beside ms) (P // codes "additionalProperties") ++ required_faults (required_beside ms) v
-            (P // codes "required") Q ∼ flat_map (λ x. member_report o.world ms x (keyword_named o.world x.0) u v P Q) claimed
-        by true q = like_through (∼_behind (required_faults _ v _ Q) (named_finds h.sides u _ v Q)) (∼_sym (claims_find o.world ms d distinct there restricted u v P Q))
+            (P // codes "required") Q ∼ flat_map (λ x. member_report I.steps ms x (keyword_named o.world x.0) u v P Q) claimed
+        by true q = like_through (∼_behind (required_faults _ v _ Q) (named_finds h.sides u _ v Q)) (∼_sym (claims_find I.steps ms d distinct there restricted u v P Q))
         by false q =
             like_through (∼_behind (required_faults _ v _ Q) (restricted_finds h.sides u _ v Q))
-            (∼_sym (claims_find_each o.world ms d distinct there restricted u v P Q h.declared_once q))
+            (∼_sym (claims_find_each I.steps ms d distinct there restricted u v P Q h.declared_once q))
 
     -- and it shows the child of `additionalProperties`
-    pub restriction_shows : (u : Bool) (v : Data) (Q : Path) → fuses_one (read_members (meaning_step o.world u) ms) ≡ is_some (fused_one ms)
-        → validator_tree o m t u (keyword.AdditionalProperties k) v Q ∷ [] ≡ member_child o.world ms (codes "additionalProperties", d) additional_properties u v P Q
+    pub restriction_shows : (u : Bool) (v : Data) (Q : Path) → fuses_one (read_members (I.steps.means u) ms) ≡ is_some (fused_one ms)
+        → validator_tree o m t u (keyword.AdditionalProperties k) v Q ∷ [] ≡ member_child I.steps ms (codes "additionalProperties", d) additional_properties u v P Q
     unfolding answers_of
     restriction_shows u v Q fused = ap (λ x. x ∷ [])
         (patterns_placed o.answers (sides_of (held k)) u v Q (is_some (held k).properties) (is_some (held k).patterns) (held k).location (λ n. t n u)
         (missing_trees _ v _ Q) h.patterns_place
         ∙ restricted_shows ms h.sides u v Q _ _ (held k).location _ (missing_trees _ v _ Q) h.declares h.has_patterns h.place refl (required_shown v Q))
-        ∙ sym (additional_shows o.world ms u v P Q d restricted fused)
+        ∙ sym (additional_shows I.steps ms u v P Q d restricted fused)

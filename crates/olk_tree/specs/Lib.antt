@@ -30,6 +30,7 @@ pub mod Required
 pub mod Shown
 pub mod Sides
 pub mod Sorted
+pub mod Steps
 pub mod Tables
 pub mod Validators
 pub mod Visited

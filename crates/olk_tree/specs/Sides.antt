@@ -6,9 +6,10 @@ use Rattle.olk_spec.specs.Faults.{Fault, ◌∼◌}
 use Rattle.olk_spec.specs.Schemas.{is_object, is_truth}
 use Rattle.olk_spec.specs.Malformed.{has_repeat}
 use Rattle.olk_spec.specs.Meanings.{pattern_says, is_open}
-use Rattle.olk_spec.specs.Meaning.{accepts, asks, report, tree}
+use Rattle.olk_meaning.specs.Steps.{accepts, asks, report, tree}
 use Rattle.olk_spec.specs.Tree.{Tree}
 use Rattle.olk_base.specs.Kit.{Kit}
+use Rattle.olk_tree.specs.Steps.{StepsOf}
 use Rattle.olk_base.specs.Compiled.{pattern_answers, pattern_costs}
 use Rattle.olk_base.specs.declared.pattern.CompiledPattern.{CompiledPattern}
 use Rattle.olk_meaning.specs.AdditionalProperties.{declared_beside, patterns_beside, required_beside, declares_beside, matches_beside}
@@ -17,13 +18,13 @@ use Rattle.olk_tree.specs.Additional.{Held, Sides, placed, sides_of, required_te
 use Rattle.std.specs.List.{zip}
 
 -- m, r and t are what nodes mean, report and show
-module _ {K R N : Type 0} (o : Kit K R) (m : N → Data → Question) (r : N → Bool → Data → Path → List Fault) (t : N → Bool → Data → Path → Tree) where
+module _ {K R N : Type 0} {o : Kit K R} (I : StepsOf o) (m : N → Data → Question) (r : N → Bool → Data → Path → List Fault) (t : N → Bool → Data → Path → Tree) where
   -- a node answers as the schema S at the place P
   pub record AnswersAs (n : N) (S : Data) (P : Path) : Type 0 where
-    pub verdict : (u : Bool) (v : Data) → (m n v).accepts u ≡ accepts o.world u S v
-    pub asks_within : (u : Bool) (v : Data) → (m n v).asks of_asked u ≤ asks o.world u S v
-    pub faults : (u : Bool) (v : Data) (Q : Path) → r n u v Q ∼ report o.world u S v P Q
-    pub shows : (u : Bool) (v : Data) (Q : Path) → t n u v Q ≡ tree o.world u S v P Q
+    pub verdict : (u : Bool) (v : Data) → (m n v).accepts u ≡ accepts I.steps u S v
+    pub asks_within : (u : Bool) (v : Data) → (m n v).asks of_asked u ≤ asks I.steps u S v
+    pub faults : (u : Bool) (v : Data) (Q : Path) → r n u v Q ∼ report I.steps u S v P Q
+    pub shows : (u : Bool) (v : Data) (Q : Path) → t n u v Q ≡ tree I.steps u S v P Q
 
   -- nodes for schemas under names, below a place
   abbrev pub EntriesAnswer : List N → List (Name × Data) → Path → Type 0

@@ -1,4 +1,6 @@
 use Rattle.std.proofs.Common.{falls, arith, rules, true, false, inl, inr, ◌++◌, [], ◌∷◌, map, refl, sym, ap, subst, ◌≡◌, ◌∙◌, Some, None, append-nil, append_assoc}
+use Rattle.olk_base.specs.Kit.{kit}
+use Rattle.olk_tree.specs.Steps.{layer}
 use Rattle.std.proofs.lemmas.Result.{IfOk-weaker}
 use Rattle.olk_build.proofs.Built.{no_object_no_members, no_array_no_items, none_are_built, itself_is_built, next_branch, no_branch, entry_refused, one_more_entry, inner_refused, one_more_inner}
 use Rattle.olk_build.proofs.Built.{at_an_entry, past_an_entry, none_is_read, built_truth, built_object, refuses_object, refuses_no_schema, size_among}
@@ -8,7 +10,6 @@ use Rattle.serde_json.proofs.Views.{view-Object, view-Array}
 use Rattle.serde_json.specs.declared.value.Value.{the_lemmas as value_lemmas}
 use Rattle.olk_spec.specs.Schemas.{listed, numbered}
 use Rattle.olk_reports.proofs.Errors.{kind_of_multiple_types}
-use Rattle.olk_base.specs.Kit.{kit}
 use Rattle.olk_build.specs.Building.{entries_read, PlacesAreBuilt}
 use Rattle.olk_build.proofs.Spending.{exit, exit_with, refuses_memory, within_nothing, within_exactly, none_so_far, all_so_far, memory_so_far, memory_past}
 use Rattle.olk_spec.proofs.Maps.{items_list-view}
@@ -135,10 +136,10 @@ pub compile_branches-returns-clause-built : goal.compile_branches-returns-clause
 compile_branches-returns-clause-built g t c = all_so_far c.loop-i.invariant (no_branch _ _ c.loop-i-test.false)
 
 pub compile_part-returns-in_err-shape-clause-refused : goal.compile_part-returns-in_err-shape-clause-refused
-compile_part-returns-in_err-shape-clause-refused g t c = exit_with _ _ _ c.from_residual.ensures.1 (refuses_part_own (kit g.L.Leaf.Leaf g.M.Engine.RegexEngine) (known c.args.neighbours) c.args.name.now (view c.args.value.now) c.in_err-shape.ensures.refused)
+compile_part-returns-in_err-shape-clause-refused g t c = exit_with _ _ _ c.from_residual.ensures.1 (refuses_part_own (layer g.L.Leaf.Leaf g.M.Engine.RegexEngine) (known c.args.neighbours) c.args.name.now (view c.args.value.now) c.in_err-shape.ensures.refused)
 
 pub compile_part-returns-in_err-nodes-clause-refused : goal.compile_part-returns-in_err-nodes-clause-refused
-compile_part-returns-in_err-nodes-clause-refused g t c = exit_with _ _ _ c.from_residual-in_err-nodes.ensures.1 (refuses_part_inside c.in_ok-shape.ensures.built c.reads.ensures c.in_err-nodes.ensures.refused)
+compile_part-returns-in_err-nodes-clause-refused g t c = exit_with _ _ _ c.from_residual-in_err-nodes.ensures.1 (refuses_part_inside (layer g.L.Leaf.Leaf g.M.Engine.RegexEngine) c.in_ok-shape.ensures.built c.reads.ensures c.in_err-nodes.ensures.refused)
 
 pub compile_part-returns-clause-built : goal.compile_part-returns-clause-built
 compile_part-returns-clause-built g t c = part_is_built c.in_ok-shape.ensures.built c.reads.ensures c.in_ok-nodes.ensures.built
@@ -233,7 +234,7 @@ compile_object-returns-in_err-keywords-clause-refused g t c = exit _ _ _ c.from_
 
 pub compile_taken-returns-in_err-first-in-Some-clause-refused : goal.compile_taken-returns-in_err-first-in-Some-clause-refused
 compile_taken-returns-in_err-first-in-Some-clause-refused g t c =
-    exit_with _ _ _ c.from_residual.ensures.1 (first_taken_refused (kit g.L.Leaf.Leaf g.M.Engine.RegexEngine) (members_view c.args.members.now.entries) c.args.place.now _ _ _ _ _ (sym c.in-Some.ensures) c.in_err-first-in-Some.ensures.refused)
+    exit_with _ _ _ c.from_residual.ensures.1 (first_taken_refused (layer g.L.Leaf.Leaf g.M.Engine.RegexEngine) (members_view c.args.members.now.entries) c.args.place.now _ _ _ _ _ (sym c.in-Some.ensures) c.in_err-first-in-Some.ensures.refused)
 
 pub compile_taken-returns-in_err-second-in-Some-clause-refused : goal.compile_taken-returns-in_err-second-in-Some-clause-refused
 compile_taken-returns-in_err-second-in-Some-clause-refused g t c =
@@ -256,7 +257,7 @@ compile_neighbour-returns-in_err-location-in-Some-clause-refused g t c = exit _ 
 
 pub compile_neighbour-returns-in_err-part-in-Some-clause-refused : goal.compile_neighbour-returns-in_err-part-in-Some-clause-refused
 compile_neighbour-returns-in_err-part-in-Some-clause-refused g t c =
-    exit_with _ _ _ c.from_residual-in_err-part-in-Some.ensures.1 (neighbour_refused (kit g.L.Leaf.Leaf g.M.Engine.RegexEngine) (members_view c.args.members.now.entries) c.args.place.now c.args.name.now c.of-neighbours.ensures (sym (member_lookup (Some c.in-Some.value) c.args.name.now c.args.members.now.entries c.in-Some.ensures.value)) c.in_ok-location-in-Some.ensures c.in_err-part-in-Some.ensures.refused)
+    exit_with _ _ _ c.from_residual-in_err-part-in-Some.ensures.1 (neighbour_refused (layer g.L.Leaf.Leaf g.M.Engine.RegexEngine) (members_view c.args.members.now.entries) c.args.place.now c.args.name.now c.of-neighbours.ensures (sym (member_lookup (Some c.in-Some.value) c.args.name.now c.args.members.now.entries c.in-Some.ensures.value)) c.in_ok-location-in-Some.ensures c.in_err-part-in-Some.ensures.refused)
 
 pub compile_neighbour-returns-in_ok-part-in-Some-clause-built : goal.compile_neighbour-returns-in_ok-part-in-Some-clause-built
 compile_neighbour-returns-in_ok-part-in-Some-clause-built g t c =
@@ -288,16 +289,16 @@ compile_object-compile_part-requires g t c κs within =
 
 pub compile_object-returns-in_err-part-clause-refused : goal.compile_object-returns-in_err-part-clause-refused
 compile_object-returns-in_err-part-clause-refused g t c =
-    exit_with _ _ _ c.from_residual-in_err-part.ensures.1 (next_refused c.loop-name.invariant.so_far (listed_alike c.in-Some.ensures.steps) (part_refused (kit g.L.Leaf.Leaf g.M.Engine.RegexEngine) g.N.BuiltNode.answers (members_view c.args.members.now.entries) c.args.place.now _ _ _ (next_taken c.loop-name.invariant.so_far (listed_alike c.in-Some.ensures.steps) (subst (λ x. c.is_taken.result ≡ is_taken (planned c.of-plan.result) x) c.as_str-name.ensures.value c.is_taken.ensures) c.if-not-is_taken.true) (next_found c.loop-name.invariant.so_far (listed_alike c.in-Some.ensures.steps)) c.of-neighbours.ensures (below _ c.in_ok-location.ensures c.as_str-name.ensures.value) c.as_str-name.ensures.value c.in_err-part.ensures.refused))
+    exit_with _ _ _ c.from_residual-in_err-part.ensures.1 (next_refused c.loop-name.invariant.so_far (listed_alike c.in-Some.ensures.steps) (part_refused (layer g.L.Leaf.Leaf g.M.Engine.RegexEngine) g.N.BuiltNode.answers (members_view c.args.members.now.entries) c.args.place.now _ _ _ (next_taken c.loop-name.invariant.so_far (listed_alike c.in-Some.ensures.steps) (subst (λ x. c.is_taken.result ≡ is_taken (planned c.of-plan.result) x) c.as_str-name.ensures.value c.is_taken.ensures) c.if-not-is_taken.true) (next_found c.loop-name.invariant.so_far (listed_alike c.in-Some.ensures.steps)) c.of-neighbours.ensures (below _ c.in_ok-location.ensures c.as_str-name.ensures.value) c.as_str-name.ensures.value c.in_err-part.ensures.refused))
 
 pub compile_object-returns-in_err-taken-clause-refused : goal.compile_object-returns-in_err-taken-clause-refused
 compile_object-returns-in_err-taken-clause-refused g t c =
-    exit_with _ _ _ c.from_residual-in_err-taken.ensures.1 (next_refused c.loop-name.invariant.so_far (listed_alike c.in-Some.ensures.steps) (taken_refused (kit g.L.Leaf.Leaf g.M.Engine.RegexEngine) g.N.BuiltNode.answers (members_view c.args.members.now.entries) c.args.place.now _ _ _ (next_taken c.loop-name.invariant.so_far (listed_alike c.in-Some.ensures.steps) (subst (λ x. c.is_taken.result ≡ is_taken (planned c.of-plan.result) x) c.as_str-name.ensures.value c.is_taken.ensures) c.if-not-is_taken.true) (next_found c.loop-name.invariant.so_far (listed_alike c.in-Some.ensures.steps)) c.of-neighbours.ensures (below _ c.in_ok-location.ensures c.as_str-name.ensures.value) c.as_str-name.ensures.value c.in_ok-part.ensures.built c.in_err-taken.ensures.refused))
+    exit_with _ _ _ c.from_residual-in_err-taken.ensures.1 (next_refused c.loop-name.invariant.so_far (listed_alike c.in-Some.ensures.steps) (taken_refused (layer g.L.Leaf.Leaf g.M.Engine.RegexEngine) g.N.BuiltNode.answers (members_view c.args.members.now.entries) c.args.place.now _ _ _ (next_taken c.loop-name.invariant.so_far (listed_alike c.in-Some.ensures.steps) (subst (λ x. c.is_taken.result ≡ is_taken (planned c.of-plan.result) x) c.as_str-name.ensures.value c.is_taken.ensures) c.if-not-is_taken.true) (next_found c.loop-name.invariant.so_far (listed_alike c.in-Some.ensures.steps)) c.of-neighbours.ensures (below _ c.in_ok-location.ensures c.as_str-name.ensures.value) c.as_str-name.ensures.value c.in_ok-part.ensures.built c.in_err-taken.ensures.refused))
 
 pub compile_object-loop-name-preserved-in-Continue-branch-5 : goal.compile_object-loop-name-preserved-in-Continue-branch-5
 compile_object-loop-name-preserved-in-Continue-branch-5 g t c =
     record {
-      so_far = one_more c.loop-name.invariant.so_far (listed_alike c.in-Some.ensures.steps) (member_built (kit g.L.Leaf.Leaf g.M.Engine.RegexEngine) g.N.BuiltNode.answers (members_view c.args.members.now.entries) c.args.place.now _ _ _ (next_taken c.loop-name.invariant.so_far (listed_alike c.in-Some.ensures.steps) (subst (λ x. c.is_taken.result ≡ is_taken (planned c.of-plan.result) x) c.as_str-name.ensures.value c.is_taken.ensures) c.if-not-is_taken.true) (next_found c.loop-name.invariant.so_far (listed_alike c.in-Some.ensures.steps)) c.of-neighbours.ensures (below _ c.in_ok-location.ensures c.as_str-name.ensures.value) c.as_str-name.ensures.value c.in_ok-part.ensures.built c.in_ok-taken.ensures.built c.loop-name.invariant.so_far.distinct c.loop-name.invariant.so_far.plan c.in_ok-append_taking.ensures.makes) c.in_ok-append_taking.ensures.behind;
+      so_far = one_more c.loop-name.invariant.so_far (listed_alike c.in-Some.ensures.steps) (member_built (layer g.L.Leaf.Leaf g.M.Engine.RegexEngine) g.N.BuiltNode.answers (members_view c.args.members.now.entries) c.args.place.now _ _ _ (next_taken c.loop-name.invariant.so_far (listed_alike c.in-Some.ensures.steps) (subst (λ x. c.is_taken.result ≡ is_taken (planned c.of-plan.result) x) c.as_str-name.ensures.value c.is_taken.ensures) c.if-not-is_taken.true) (next_found c.loop-name.invariant.so_far (listed_alike c.in-Some.ensures.steps)) c.of-neighbours.ensures (below _ c.in_ok-location.ensures c.as_str-name.ensures.value) c.as_str-name.ensures.value c.in_ok-part.ensures.built c.in_ok-taken.ensures.built c.loop-name.invariant.so_far.distinct c.loop-name.invariant.so_far.plan (c.in_ok-append_taking.ensures (layer g.L.Leaf.Leaf g.M.Engine.RegexEngine)).makes) (c.in_ok-append_taking.ensures (layer g.L.Leaf.Leaf g.M.Engine.RegexEngine)).behind;
       before = c.loop-name.invariant.before ++ (c.in-Some.name.now, c.in-Some.value.now) ∷ [];
       entries = append_assoc c.loop-name.invariant.before ((c.in-Some.name.now, c.in-Some.value.now) ∷ []) c.next.new.self
           ∙ ap (λ l. c.loop-name.invariant.before ++ l) (sym c.in-Some.ensures.steps) ∙ c.loop-name.invariant.entries;
@@ -307,16 +308,16 @@ compile_object-loop-name-preserved-in-Continue-branch-5 g t c =
 
 pub compile_object-returns-in_err-append_taking-clause-refused : goal.compile_object-returns-in_err-append_taking-clause-refused
 compile_object-returns-in_err-append_taking-clause-refused g t c =
-    exit _ _ _ c.from_residual-in_err-append_taking.ensures.1 (λ e q. next_refused c.loop-name.invariant.so_far (listed_alike c.in-Some.ensures.steps) (read_memory (kit g.L.Leaf.Leaf g.M.Engine.RegexEngine) g.N.BuiltNode.answers (members_view c.args.members.now.entries) c.args.place.now _ _ _ (next_taken c.loop-name.invariant.so_far (listed_alike c.in-Some.ensures.steps) (subst (λ x. c.is_taken.result ≡ is_taken (planned c.of-plan.result) x) c.as_str-name.ensures.value c.is_taken.ensures) c.if-not-is_taken.true) (next_found c.loop-name.invariant.so_far (listed_alike c.in-Some.ensures.steps)) c.of-neighbours.ensures (below _ c.in_ok-location.ensures c.as_str-name.ensures.value) c.as_str-name.ensures.value c.in_ok-part.ensures.built c.in_ok-taken.ensures.built e q))
+    exit _ _ _ c.from_residual-in_err-append_taking.ensures.1 (λ e q. next_refused c.loop-name.invariant.so_far (listed_alike c.in-Some.ensures.steps) (read_memory (layer g.L.Leaf.Leaf g.M.Engine.RegexEngine) g.N.BuiltNode.answers (members_view c.args.members.now.entries) c.args.place.now _ _ _ (next_taken c.loop-name.invariant.so_far (listed_alike c.in-Some.ensures.steps) (subst (λ x. c.is_taken.result ≡ is_taken (planned c.of-plan.result) x) c.as_str-name.ensures.value c.is_taken.ensures) c.if-not-is_taken.true) (next_found c.loop-name.invariant.so_far (listed_alike c.in-Some.ensures.steps)) c.of-neighbours.ensures (below _ c.in_ok-location.ensures c.as_str-name.ensures.value) c.as_str-name.ensures.value c.in_ok-part.ensures.built c.in_ok-taken.ensures.built e q))
 
 pub compile_object-returns-in_err-append_alone-clause-refused : goal.compile_object-returns-in_err-append_alone-clause-refused
 compile_object-returns-in_err-append_alone-clause-refused g t c =
-    exit _ _ _ c.from_residual-in_err-append_alone.ensures.1 (λ e q. next_refused c.loop-name.invariant.so_far (listed_alike c.in-Some.ensures.steps) (alone_memory (kit g.L.Leaf.Leaf g.M.Engine.RegexEngine) g.N.BuiltNode.answers (members_view c.args.members.now.entries) c.args.place.now _ _ _ (next_taken c.loop-name.invariant.so_far (listed_alike c.in-Some.ensures.steps) (subst (λ x. c.is_taken.result ≡ is_taken (planned c.of-plan.result) x) c.as_str-name.ensures.value c.is_taken.ensures) c.if-not-is_taken.true) (next_found c.loop-name.invariant.so_far (listed_alike c.in-Some.ensures.steps)) c.of-neighbours.ensures (below _ c.in_ok-location.ensures c.as_str-name.ensures.value) c.as_str-name.ensures.value c.in_ok-part.ensures.built c.takes_any.ensures c.if-takes_any.false e q))
+    exit _ _ _ c.from_residual-in_err-append_alone.ensures.1 (λ e q. next_refused c.loop-name.invariant.so_far (listed_alike c.in-Some.ensures.steps) (alone_memory (layer g.L.Leaf.Leaf g.M.Engine.RegexEngine) g.N.BuiltNode.answers (members_view c.args.members.now.entries) c.args.place.now _ _ _ (next_taken c.loop-name.invariant.so_far (listed_alike c.in-Some.ensures.steps) (subst (λ x. c.is_taken.result ≡ is_taken (planned c.of-plan.result) x) c.as_str-name.ensures.value c.is_taken.ensures) c.if-not-is_taken.true) (next_found c.loop-name.invariant.so_far (listed_alike c.in-Some.ensures.steps)) c.of-neighbours.ensures (below _ c.in_ok-location.ensures c.as_str-name.ensures.value) c.as_str-name.ensures.value c.in_ok-part.ensures.built c.takes_any.ensures c.if-takes_any.false e q))
 
 pub compile_object-loop-name-preserved-in-Continue-branch-6 : goal.compile_object-loop-name-preserved-in-Continue-branch-6
 compile_object-loop-name-preserved-in-Continue-branch-6 g t c =
     record {
-      so_far = one_more c.loop-name.invariant.so_far (listed_alike c.in-Some.ensures.steps) (alone_built (kit g.L.Leaf.Leaf g.M.Engine.RegexEngine) g.N.BuiltNode.answers (members_view c.args.members.now.entries) c.args.place.now _ _ _ (next_taken c.loop-name.invariant.so_far (listed_alike c.in-Some.ensures.steps) (subst (λ x. c.is_taken.result ≡ is_taken (planned c.of-plan.result) x) c.as_str-name.ensures.value c.is_taken.ensures) c.if-not-is_taken.true) (next_found c.loop-name.invariant.so_far (listed_alike c.in-Some.ensures.steps)) c.of-neighbours.ensures (below _ c.in_ok-location.ensures c.as_str-name.ensures.value) c.as_str-name.ensures.value c.in_ok-part.ensures.built c.takes_any.ensures c.if-takes_any.false c.loop-name.invariant.so_far.distinct c.loop-name.invariant.so_far.plan c.in_ok-append_alone.ensures.makes) c.in_ok-append_alone.ensures.behind;
+      so_far = one_more c.loop-name.invariant.so_far (listed_alike c.in-Some.ensures.steps) (alone_built (layer g.L.Leaf.Leaf g.M.Engine.RegexEngine) g.N.BuiltNode.answers (members_view c.args.members.now.entries) c.args.place.now _ _ _ (next_taken c.loop-name.invariant.so_far (listed_alike c.in-Some.ensures.steps) (subst (λ x. c.is_taken.result ≡ is_taken (planned c.of-plan.result) x) c.as_str-name.ensures.value c.is_taken.ensures) c.if-not-is_taken.true) (next_found c.loop-name.invariant.so_far (listed_alike c.in-Some.ensures.steps)) c.of-neighbours.ensures (below _ c.in_ok-location.ensures c.as_str-name.ensures.value) c.as_str-name.ensures.value c.in_ok-part.ensures.built c.takes_any.ensures c.if-takes_any.false c.loop-name.invariant.so_far.distinct c.loop-name.invariant.so_far.plan (c.in_ok-append_alone.ensures (layer g.L.Leaf.Leaf g.M.Engine.RegexEngine)).makes) (c.in_ok-append_alone.ensures (layer g.L.Leaf.Leaf g.M.Engine.RegexEngine)).behind;
       before = c.loop-name.invariant.before ++ (c.in-Some.name.now, c.in-Some.value.now) ∷ [];
       entries = append_assoc c.loop-name.invariant.before ((c.in-Some.name.now, c.in-Some.value.now) ∷ []) c.next.new.self
           ∙ ap (λ l. c.loop-name.invariant.before ++ l) (sym c.in-Some.ensures.steps) ∙ c.loop-name.invariant.entries;
@@ -327,7 +328,7 @@ compile_object-loop-name-preserved-in-Continue-branch-6 g t c =
 pub compile_object-loop-name-preserved : goal.compile_object-loop-name-preserved
 compile_object-loop-name-preserved g t c =
     record {
-      so_far = one_more c.loop-name.invariant.so_far (listed_alike c.in-Some.ensures.steps) (taken_built (kit g.L.Leaf.Leaf g.M.Engine.RegexEngine) g.N.BuiltNode.answers (members_view c.args.members.now.entries) c.args.place.now _ _ _ (next_taken c.loop-name.invariant.so_far (listed_alike c.in-Some.ensures.steps) (subst (λ x. c.is_taken.result ≡ is_taken (planned c.of-plan.result) x) c.as_str-name.ensures.value c.is_taken.ensures) c.if-not-is_taken.false)) (sym (append-nil _));
+      so_far = one_more c.loop-name.invariant.so_far (listed_alike c.in-Some.ensures.steps) (taken_built (layer g.L.Leaf.Leaf g.M.Engine.RegexEngine) g.N.BuiltNode.answers (members_view c.args.members.now.entries) c.args.place.now _ _ _ (next_taken c.loop-name.invariant.so_far (listed_alike c.in-Some.ensures.steps) (subst (λ x. c.is_taken.result ≡ is_taken (planned c.of-plan.result) x) c.as_str-name.ensures.value c.is_taken.ensures) c.if-not-is_taken.false)) (sym (append-nil _));
       before = c.loop-name.invariant.before ++ (c.in-Some.name.now, c.in-Some.value.now) ∷ [];
       entries = append_assoc c.loop-name.invariant.before ((c.in-Some.name.now, c.in-Some.value.now) ∷ []) c.next.new.self
           ∙ ap (λ l. c.loop-name.invariant.before ++ l) (sym c.in-Some.ensures.steps) ∙ c.loop-name.invariant.entries;

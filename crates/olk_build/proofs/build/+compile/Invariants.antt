@@ -1,9 +1,9 @@
 use Rattle.std.proofs.Common.{◌≡◌, ◌++◌, List, String, Global}
+use Rattle.olk_tree.specs.Steps.{layer}
 use Rattle.serde_json.specs.declared.value.Value.{Value}
 use Rattle.serde_json.specs.View.{items_view, members_view}
 use Rattle.olk_spec.specs.Schemas.{listed, numbered}
 use Rattle.olk_spec.specs.Malformed.{items_list}
-use Rattle.olk_base.specs.Kit.{kit}
 use Rattle.olk_build.specs.Building.{entries_read}
 use Rattle.olk_build.proofs.Built.{EntriesSoFar, InnerSoFar, branches_from}
 use Rattle.olk_meaning.specs.Plans.{planned}
@@ -13,7 +13,7 @@ use Rattle.olk_build.proofs.build.+compile.Given as goal
 -- the nodes so far are built for those of the entries so far that are read
 abbrev pub invariant-compile_entries-loop-name : goal.invariant-compile_entries-loop-name
 invariant-compile_entries-loop-name g l = record {
-  so_far : EntriesSoFar (kit g.L.Leaf.Leaf g.M.Engine.RegexEngine) g.N.BuiltNode.answers l.fn.place
+  so_far : EntriesSoFar (layer g.L.Leaf.Leaf g.M.Engine.RegexEngine) g.N.BuiltNode.answers l.fn.place
       (entries_read l.passes_arrays (listed (members_view l.map.entries))) l.fn.meter l.nodes.items (entries_read l.passes_arrays (listed (members_view l.name-iterator))) l.meter;
   next : (goal.iterator-compile_entries-loop-name g).can_next l.name-iterator;
   ends : (goal.iterator-compile_entries-loop-name g).is_finite l.name-iterator;
@@ -21,7 +21,7 @@ invariant-compile_entries-loop-name g l = record {
 
 abbrev pub invariant-compile_inner_entries-loop-name : goal.invariant-compile_inner_entries-loop-name
 invariant-compile_inner_entries-loop-name g l = record {
-  so_far : InnerSoFar (kit g.L.Leaf.Leaf g.M.Engine.RegexEngine) g.N.BuiltNode.answers l.fn.place (listed (members_view l.map.entries)) l.fn.meter l.nodes.items
+  so_far : InnerSoFar (layer g.L.Leaf.Leaf g.M.Engine.RegexEngine) g.N.BuiltNode.answers l.fn.place (listed (members_view l.map.entries)) l.fn.meter l.nodes.items
       (listed (members_view l.name-iterator)) l.meter;
   next : (goal.iterator-compile_inner_entries-loop-name g).can_next l.name-iterator;
   ends : (goal.iterator-compile_inner_entries-loop-name g).is_finite l.name-iterator;
@@ -29,12 +29,12 @@ invariant-compile_inner_entries-loop-name g l = record {
 
 abbrev pub invariant-compile_branches-loop-i : goal.invariant-compile_branches-loop-i
 invariant-compile_branches-loop-i g l =
-    EntriesSoFar (kit g.L.Leaf.Leaf g.M.Engine.RegexEngine) g.N.BuiltNode.answers l.fn.place (numbered (items_list (items_view l.items.items))) l.fn.meter l.nodes.items (branches_from l.i l.schema-items) l.meter
+    EntriesSoFar (layer g.L.Leaf.Leaf g.M.Engine.RegexEngine) g.N.BuiltNode.answers l.fn.place (numbered (items_list (items_view l.items.items))) l.fn.meter l.nodes.items (branches_from l.i l.schema-items) l.meter
 
 -- the keywords so far mean what the members so far claim; the entries so far, which the next is none of, bound its size
 abbrev pub invariant-compile_object-loop-name : goal.invariant-compile_object-loop-name
 invariant-compile_object-loop-name g l = record {
-  so_far : KeywordsSoFar (kit g.L.Leaf.Leaf g.M.Engine.RegexEngine) g.N.BuiltNode.answers (members_view l.members.entries) l.fn.place
+  so_far : KeywordsSoFar (layer g.L.Leaf.Leaf g.M.Engine.RegexEngine) g.N.BuiltNode.answers (members_view l.members.entries) l.fn.place
       (planned l.plan) l.fn.meter l.keywords.items (listed (members_view l.name-iterator)) l.meter;
   before : List (String Global × Value);
   entries : before ++ l.name-iterator ≡ l.members.entries;

@@ -7,3 +7,6 @@ returns-in_err-location-clause-refused g c = exit _ _ _ c.from_residual.ensures.
 pub returns-in_err-compile_entries-clause-refused : goal.returns-in_err-compile_entries-clause-refused
 returns-in_err-compile_entries-clause-refused g c =
     exit_with _ _ _ c.from_residual-in_err-compile_entries.ensures.1 (rw (← c.in_ok-location.ensures) c.in_err-compile_entries.ensures.refused)
+
+pub returns-clause-built : goal.returns-clause-built
+returns-clause-built g c = rw (← c.in_ok-location.ensures) c.in_ok-compile_entries.ensures.built

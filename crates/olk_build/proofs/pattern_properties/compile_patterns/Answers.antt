@@ -1,7 +1,7 @@
 use Rattle.std.specs.Prelude.{codes}
+use Rattle.olk_tree.specs.Steps.{layer}
 use Rattle.std.proofs.lemmas.Result.{IfOk-from_err}
 use Rattle.serde_json.specs.View.{members_view}
-use Rattle.olk_base.specs.Kit.{kit}
 use Rattle.olk_build.proofs.Spending.{exit, refuses_memory, within_nothing}
 use Rattle.olk_build.proofs.CompiledPatterns.{refuses_pattern, refuses_node, refuses_entries, patterns_built}
 use Rattle.olk_spec.specs.Names.{◌//◌}
@@ -13,14 +13,14 @@ returns-in_err-location-clause-refused g c = exit _ _ _ c.from_residual.ensures.
 
 pub returns-in_err-compiled-clause-refused : goal.returns-in_err-compiled-clause-refused
 returns-in_err-compiled-clause-refused g c =
-    exit _ _ _ c.from_residual-in_err-compiled.ensures.1 (refuses_pattern (kit g.L.Leaf.Leaf g.M.Engine.RegexEngine) g.N.BuiltNode.answers
+    exit _ _ _ c.from_residual-in_err-compiled.ensures.1 (refuses_pattern (layer g.L.Leaf.Leaf g.M.Engine.RegexEngine) g.N.BuiltNode.answers
     (listed (members_view c.args.patterns.now.entries)) c.in_ok-location.location (c.args.ctx.now.place // codes "patternProperties") c.in_ok-location.ensures c.args.ctx.now.meter.now
     c.patterns_of_entries.new.meter c.in_err-compiled.ensures.refused)
 
 pub returns-in_err-nodes : goal.returns-in_err-nodes
 returns-in_err-nodes g c = record {
   built = IfOk-from_err c.from_residual-in_err-nodes.result _ c.from_residual-in_err-nodes.ensures.0;
-  refused = exit _ _ _ c.from_residual-in_err-nodes.ensures.1 (refuses_node (kit g.L.Leaf.Leaf g.M.Engine.RegexEngine) g.N.BuiltNode.answers
+  refused = exit _ _ _ c.from_residual-in_err-nodes.ensures.1 (refuses_node (layer g.L.Leaf.Leaf g.M.Engine.RegexEngine) g.N.BuiltNode.answers
       (listed (members_view c.args.patterns.now.entries)) c.in_ok-location.location (c.args.ctx.now.place // codes "patternProperties") c.in_ok-location.ensures c.args.ctx.now.meter.now
       c.in_ok-compiled.compiled.items c.patterns_of_entries.new.meter c.compile_declared.new.ctx.meter.now c.in_ok-compiled.ensures.read c.in_err-nodes.ensures.refused);
   place = c.compile_declared.ensures.place;
@@ -30,7 +30,7 @@ returns-in_err-nodes g c = record {
 pub returns-in_err-with_nodes : goal.returns-in_err-with_nodes
 returns-in_err-with_nodes g c = record {
   built = IfOk-from_err c.from_residual-in_err-with_nodes.result _ c.from_residual-in_err-with_nodes.ensures.0;
-  refused = exit _ _ _ c.from_residual-in_err-with_nodes.ensures.1 (refuses_entries (kit g.L.Leaf.Leaf g.M.Engine.RegexEngine) g.N.BuiltNode.answers
+  refused = exit _ _ _ c.from_residual-in_err-with_nodes.ensures.1 (refuses_entries (layer g.L.Leaf.Leaf g.M.Engine.RegexEngine) g.N.BuiltNode.answers
       (listed (members_view c.args.patterns.now.entries)) c.in_ok-location.location (c.args.ctx.now.place // codes "patternProperties") c.in_ok-location.ensures c.args.ctx.now.meter.now
       c.in_ok-compiled.compiled.items c.patterns_of_entries.new.meter c.compile_declared.new.ctx.meter.now c.in_ok-compiled.ensures.read c.in_ok-nodes.nodes.items c.in_ok-nodes.ensures.built);
   place = c.compile_declared.ensures.place;
@@ -39,7 +39,7 @@ returns-in_err-with_nodes g c = record {
 
 pub returns : goal.returns
 returns g c = record {
-  built = patterns_built (kit g.L.Leaf.Leaf g.M.Engine.RegexEngine) g.N.BuiltNode.answers (listed (members_view c.args.patterns.now.entries)) c.in_ok-location.location
+  built = patterns_built (layer g.L.Leaf.Leaf g.M.Engine.RegexEngine) g.N.BuiltNode.answers (listed (members_view c.args.patterns.now.entries)) c.in_ok-location.location
       (c.args.ctx.now.place // codes "patternProperties") c.in_ok-location.ensures c.args.ctx.now.meter.now
       c.in_ok-compiled.compiled.items c.patterns_of_entries.new.meter c.compile_declared.new.ctx.meter.now c.in_ok-compiled.ensures.read c.in_ok-nodes.nodes.items c.in_ok-nodes.ensures.built
       c.in_ok-with_nodes.field-0.items c.in_ok-with_nodes.ensures;

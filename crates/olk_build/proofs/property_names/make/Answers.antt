@@ -6,4 +6,4 @@ pub returns-clause-form : goal.returns-clause-form
 returns-clause-form g c = refl
 
 pub returns-clause-makes : goal.returns-clause-makes
-returns-clause-makes g c = makes_property_names _ _ c.in-Some.node c.args.location c.pop.new.self.items c.args.nodes.items c.in-Some.ensures.items
+returns-clause-makes g c I = makes_property_names I _ c.in-Some.node c.args.location c.pop.new.self.items c.args.nodes.items c.in-Some.ensures.items

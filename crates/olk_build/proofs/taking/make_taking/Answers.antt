@@ -1,7 +1,6 @@
-use Rattle.olk_base.specs.Kit.{kit}
 use Rattle.olk_build.proofs.TakenParts.{makes_taking}
 use Rattle.olk_build.proofs.taking.make_taking.Goals as goal
 
 pub returns : goal.returns
-returns g c =
-    makes_taking (kit g.K.Leaf g.R.RegexEngine) g.N.BuiltNode.answers c.args.part.shape c.args.part.nodes.items c.args.taken c.in_ok-keyword.ensures.makes c.in_ok-keyword.ensures.form
+returns g c I =
+    makes_taking I g.N.BuiltNode.answers c.args.part.shape c.args.part.nodes.items c.args.taken (c.in_ok-keyword.ensures.makes I) (c.in_ok-keyword.ensures.form I)
