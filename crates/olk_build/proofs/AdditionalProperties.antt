@@ -19,7 +19,7 @@ use Rattle.olk_tree.specs.Maps.{keys_in, nodes_in, mapped}
 use Rattle.olk_tree.specs.Sides.{AnswersAs, EntriesAnswer, PatternsAnswer, RestAnswers, RestrictionStands}
 use Rattle.olk_tree.proofs.RestrictionMeans.{restriction_accepts, restriction_asks, restriction_finds, restriction_shows}
 use Rattle.olk_build.specs.Forms.{IsMapOf, IsRestriction, HasMapFor, IsFormOfAdditionalProperties, IsAdditionalProperties}
-use Rattle.olk_build.specs.Standing.{StandEach, which, all_malformed, Fills, EntriesStand, DeclaredStand, PatternsStand, RestStands, BesideStands}
+use Rattle.olk_build.specs.Standing.{StandEach, which, all_malformed, FillsPlace, EntriesStand, DeclaredStand, PatternsStand, RestStands, BesideStands}
 use Rattle.olk_build.specs.Making.{KeywordsMean, MakesRestriction, MakesPart}
 use Rattle.olk_build.proofs.Together.{MeanClaim, claim_by_name, means_nothing}
 use Rattle.olk_build.proofs.PatternProperties.{all_formed}
@@ -39,7 +39,7 @@ use Rattle.olk_tree.specs.{Holdings.held, Ascending.Ascend, Questions.Question, 
 use Rattle.olk_tree.specs.{declared.properties_map.PropertiesMap.PropertiesMap, declared.node.KeywordOver.KeywordOver, Answers.Answers}
 use Rattle.olk_tree.specs.{AdditionalProperties.additional_properties_answers, Validators.answers_of}
 use Rattle.olk_build.specs.{declared.part.Beside.Beside, declared.part.DeclaredNodes.DeclaredNodes, declared.part.Patterns.Patterns}
-use Rattle.olk_build.specs.declared.part.Taken.{Taken}
+use Rattle.olk_build.specs.declared.part.TakenNeighbours.{TakenNeighbours}
 use Rattle.olk_meaning.proofs.Standing as standing
 use Rattle.olk_tree.specs.declared.additional_properties.Restriction.TheVariants as by
 use Rattle.olk_tree.specs.declared.node.KeywordOver.TheVariants as keyword
@@ -110,7 +110,7 @@ module _ {K R N : Type 0} {o : Kit K R} (I : StepsOf o) (answers : N → Answers
     keys : keys_in (mapped m) ≡ keys_in (members d)
     keys = each_keys I answers (mapped m) _ _ _ all_mapped _ each
 
-  declared_side : (b : Option (DeclaredNodes N)) (x : Option (PropertiesMap N)) (a : Option Data) (L : Path) → IsMapOf b x → Fills (λ m. DeclaredStand I answers m L) b a → DeclaredSide x a L
+  declared_side : (b : Option (DeclaredNodes N)) (x : Option (PropertiesMap N)) (a : Option Data) (L : Path) → IsMapOf b x → FillsPlace (λ m. DeclaredStand I answers m L) b a → DeclaredSide x a L
   declared_side None None None L form h = record { nodes = []; placed_zip = refl; declared = tt; there = refl; once = refl }
   declared_side (Some b) (Some m) (Some d) L form h = record {
     nodes = b.nodes.items;
@@ -206,7 +206,7 @@ module _ {K R N : Type 0} {o : Kit K R} (I : StepsOf o) (answers : N → Answers
       all_placed (Some m) e = absurd (true≢false e)
 
     patterns_side : (m : Option (PropertiesMap N)) → is_some m ≡ declares_beside ms → (x : Option (Patterns R N)) (a : Option Data) (L : Path)
-        → Fills (λ x. PatternsStand I answers (known_of ms) x L) x a → PatternsSide m x (keys_in (declared_beside ms)) a L
+        → FillsPlace (λ x. PatternsStand I answers (known_of ms) x L) x a → PatternsSide m x (keys_in (declared_beside ms)) a L
     patterns_side m declares None None L h = record {
       patterns = tt;
       known = λ p i n c at_name at_pattern. absurd (true≢false (sym (ap is_some at_pattern)));
@@ -223,7 +223,7 @@ module _ {K R N : Type 0} {o : Kit K R} (I : StepsOf o) (answers : N → Answers
 
   -- ---- the form of what stands beside it
 
-  declared_names : (b : Option (DeclaredNodes N)) (x : Option (PropertiesMap N)) (a : Option Data) (L : Path) → IsMapOf b x → Fills (λ m. DeclaredStand I answers m L) b a
+  declared_names : (b : Option (DeclaredNodes N)) (x : Option (PropertiesMap N)) (a : Option Data) (L : Path) → IsMapOf b x → FillsPlace (λ m. DeclaredStand I answers m L) b a
       → names_beside x ≡ keys_in (entries_in a)
   declared_names None None None L form h = refl
   declared_names (Some b) (Some m) (Some d) L form h = keys b m d L form h
@@ -231,7 +231,7 @@ module _ {K R N : Type 0} {o : Kit K R} (I : StepsOf o) (answers : N → Answers
   declared_names (Some b) None a L form h = absurd form
   declared_names _ x _ L form h = absurd h
 
-  declared_formed : (b : Option (DeclaredNodes N)) (x : Option (PropertiesMap N)) (a : Option Data) (L : Path) → IsMapOf b x → Fills (λ m. DeclaredStand I answers m L) b a
+  declared_formed : (b : Option (DeclaredNodes N)) (x : Option (PropertiesMap N)) (a : Option Data) (L : Path) → IsMapOf b x → FillsPlace (λ m. DeclaredStand I answers m L) b a
       → option_map_or (λ m. is_map_formed m && list_all (has_form I answers) (nodes_in (mapped m))) x true ≡ true
   declared_formed None None None L form h = refl
   declared_formed (Some b) (Some m) (Some d) L form h =
@@ -243,7 +243,7 @@ module _ {K R N : Type 0} {o : Kit K R} (I : StepsOf o) (answers : N → Answers
 
   module _ (ms : Members) (restricted : is_restricted ms ≡ true) where
     table_beside_formed : (m : Option (PropertiesMap N)) (x : Option (Patterns R N)) (a : Option Data) (L : Path) → names_beside m ≡ keys_in (declared_beside ms)
-        → Fills (λ x. PatternsStand I answers (known_of ms) x L) x a
+        → FillsPlace (λ x. PatternsStand I answers (known_of ms) x L) x a
         → option_map_or (is_table_formed o.answers (names_beside m) (map (λ e. e.0) (patterns_in (option_map entries x)))) (table_beside m x) true ≡ true
     table_beside_formed None x a L declared h = refl
     table_beside_formed (Some m) None a L declared h = refl
@@ -251,7 +251,7 @@ module _ {K R N : Type 0} {o : Kit K R} (I : StepsOf o) (answers : N → Answers
         table_formed o.answers (names_beside (Some m)) (map (λ e. e.0) x.patterns.items) x.table (names_kept ms restricted x d L h ∙ sym declared) h.table
     table_beside_formed (Some m) (Some x) None L declared h = absurd h
 
-    entries_formed : (x : Option (Patterns R N)) (a : Option Data) (L : Path) → Fills (λ x. PatternsStand I answers (known_of ms) x L) x a
+    entries_formed : (x : Option (Patterns R N)) (a : Option Data) (L : Path) → FillsPlace (λ x. PatternsStand I answers (known_of ms) x L) x a
         → list_all (entry_formed I answers) (patterns_in (option_map entries x)) ≡ true
     entries_formed None a L h = refl
     entries_formed (Some x) (Some d) L h = all_formed I answers L x.patterns.items (members d) h.entries
@@ -263,7 +263,7 @@ module _ {K R N : Type 0} {o : Kit K R} (I : StepsOf o) (answers : N → Answers
 
   -- ---- what stands beside it
 
-  declared_placed : (b : Option (DeclaredNodes N)) (x : Option (PropertiesMap N)) (a : Option Data) (L : Path) → IsMapOf b x → Fills (λ m. DeclaredStand I answers m L) b a
+  declared_placed : (b : Option (DeclaredNodes N)) (x : Option (PropertiesMap N)) (a : Option Data) (L : Path) → IsMapOf b x → FillsPlace (λ m. DeclaredStand I answers m L) b a
       → (option_map size_of x ≡ size_declared I.steps a) × (option_map_or (λ m. flat_map (stand_in I answers) (nodes_in (mapped m))) x [] ≡ each_placed I.steps L (entries_in a))
   declared_placed None None None L form h = (refl, refl)
   declared_placed (Some b) (Some m) (Some d) L form h = (
@@ -274,7 +274,7 @@ module _ {K R N : Type 0} {o : Kit K R} (I : StepsOf o) (answers : N → Answers
   declared_placed (Some b) None a L form h = absurd form
   declared_placed _ x _ L form h = absurd h
 
-  matched_placed : (c : Known) (x : Option (Patterns R N)) (a : Option Data) (L : Path) → Fills (λ x. PatternsStand I answers c x L) x a
+  matched_placed : (c : Known) (x : Option (Patterns R N)) (a : Option Data) (L : Path) → FillsPlace (λ x. PatternsStand I answers c x L) x a
       → flat_map (λ e. stand_in I answers e.1) (patterns_in (option_map entries x)) ≡ each_placed I.steps L (entries_in a)
   matched_placed c None None L h = refl
   matched_placed c (Some x) (Some d) L h = entries_placed I answers x.patterns.items (members d) L h.entries
@@ -402,7 +402,7 @@ module _ {K R N : Type 0} {o : Kit K R} (I : StepsOf o) (answers : N → Answers
 
   -- ---- the parts
 
-  module _ {L P : Path} {p : Planned} (ns : List N) (t : Taken R N) where
+  module _ {L P : Path} {p : Planned} (ns : List N) (t : TakenNeighbours R N) where
     -- of a schema, whose node this is
     pub part_of_rest : {n : N} {ks : List (KeywordOver K R N)} (before : List N) → ns ≡ before ++ n ∷ [] → MakesRestriction I answers L (Some n) t.beside P p ks
         → MakesPart I answers shape.AdditionalProperties L ns t P p ks

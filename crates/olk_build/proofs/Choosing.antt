@@ -15,14 +15,14 @@ use Rattle.olk_build.specs.Reading.{ArePatterns, IsPattern, reads_of, IsShape, F
 use Rattle.olk_build.specs.Chooser.{IsLeafAt, HasForm, IsChosen}
 use Rattle.olk_build.specs.Forms.{IsFormOfAllOf, IsFormOfAnyOf, IsFormOfOneOf, IsAllOf, IsAnyOf, IsOneOf, IsNot, IsRequired, IsIf, IsProperties, IsPatternProperties, IsAdditionalProperties}
 use Rattle.olk_build.specs.Forms.{IsDependencies, IsDependentRequired, IsDependentSchemas, IsPropertyNames, IsPropertyNamesFalse, IsPropertyDependencies}
-use Rattle.olk_build.specs.Standing.{StandEach, StandAt, EntriesStand, Fills, is_taken, is_if_shape, is_restriction_shape, CasesStand, BesideStands}
+use Rattle.olk_build.specs.Standing.{StandEach, StandAt, EntriesStand, FillsPlace, is_taken, is_if_shape, is_restriction_shape, CasesStand, BesideStands}
 use Rattle.olk_build.specs.Made.{IsMade, MakesOthers}
 use Rattle.std.proofs.{lemmas.List.length-map, lemmas.List.FromFn.length-enumerate_from, lemmas.Slice.Zip.AllZip-long}
 use Rattle.olk_base.specs.{Kit.Kit, declared.pattern.CompiledPattern.CompiledPattern}
 use Rattle.olk_meaning.proofs.{PropertyNames.false_is_no_object, Conditions.of_conditional}
 use Rattle.olk_build.specs.{declared.shape.Shape.Shape, declared.shape.ReadPlaces.TheVariants.Itself}
 use Rattle.olk_tree.specs.{Answers.Answers, declared.node.KeywordOver.KeywordOver, Questions.conditional}
-use Rattle.olk_build.specs.{declared.part.DeclaredNodes.DeclaredNodes, declared.part.Patterns.Patterns, declared.part.Taken.Taken}
+use Rattle.olk_build.specs.{declared.part.DeclaredNodes.DeclaredNodes, declared.part.Patterns.Patterns, declared.part.TakenNeighbours.TakenNeighbours}
 use Rattle.olk_build.specs.declared.shape.Shape.TheVariants as shape
 use Rattle.olk_tree.specs.declared.node.KeywordOver.TheVariants as keyword
 use Rattle.olk_tree.specs.Steps.{StandsBy, StepsOf}
@@ -61,12 +61,12 @@ module _ {K R N : Type 0} {o : Kit K R} (I : StepsOf o) (answers : N → Answers
   both_stand _ ns _ L h s = absurd h
 
 module _ {X : Type 0} (Means : X → Data → Type 0) where
-  pub filled_as : (t : Option X) (a : Option Data) → Fills Means t a → is_some t ≡ is_some a
+  pub filled_as : (t : Option X) (a : Option Data) → FillsPlace Means t a → is_some t ≡ is_some a
   filled_as None None h = refl
   filled_as (Some n) (Some d) h = refl
   filled_as _ _ h = absurd h
 
-  counted_as : (f : X → ℕ) → ((x : X) (d : Data) → Means x d → f x ≡ length (members d)) → (t : Option X) (a : Option Data) → Fills Means t a → option_map f t ≡ option_map (λ d. length (members d)) a
+  counted_as : (f : X → ℕ) → ((x : X) (d : Data) → Means x d → f x ≡ length (members d)) → (t : Option X) (a : Option Data) → FillsPlace Means t a → option_map f t ≡ option_map (λ d. length (members d)) a
   counted_as f same None None h = refl
   counted_as f same (Some x) (Some d) h = ap Some (same x d h)
   counted_as f same _ _ h = absurd h
@@ -92,7 +92,7 @@ module _ {K R N : Type 0} {o : Kit K R} (I : StepsOf o) (answers : N → Answers
   unrestricted : (r c : Bool) → ((r && true) || (c && false)) ≡ false → r ≡ false
   unrestricted r c e = first_false r (c && false) (ap (λ b. b || (c && false)) (sym (and-true r)) ∙ e)
 
-  module _ (k : Name) (d : Data) (L : Path) (place : L ≡ P // k) (ns : List N) (t : Taken R N) where
+  module _ (k : Name) (d : Data) (L : Path) (place : L ≡ P // k) (ns : List N) (t : TakenNeighbours R N) where
     abbrev ChosenAt : Name → Option (KeywordOver K R N) → Type 0
     ChosenAt n r = IsChosen ms P (keyword_named o.world n) (n, d) r
 

@@ -19,7 +19,7 @@ use Rattle.olk_meaning.specs.Plans.{Planned, plan_of, is_case, tells_members, he
 use Rattle.olk_meaning.proofs.Claims.{members_found, claims_condition, claims_itself, heads_elsewhere, never_taken}
 use Rattle.olk_meaning.proofs.Facts.{all_there, sum_there, find_there}
 use Rattle.olk_build.specs.Forms.{IsFormOfIf, IsIf}
-use Rattle.olk_build.specs.Standing.{which, Covers, Fills, is_taken}
+use Rattle.olk_build.specs.Standing.{which, Covers, FillsPlace, is_taken}
 use Rattle.olk_build.specs.Making.{KeywordsMean, MakesCondition, MakesPart}
 use Rattle.olk_build.proofs.Choosing.{filled_as}
 use Rattle.olk_build.proofs.Held.{question, shown, found}
@@ -29,7 +29,7 @@ use Rattle.std.proofs.{lemmas.List.Folds.list_all-append, lemmas.Grind.flat_map-
 use Rattle.olk_spec.specs.{Schemas.listed, Malformed.has_repeat}
 use Rattle.olk_tree.specs.{Validators.answers_of, declared.node.KeywordOver.KeywordOver, Answers.Answers}
 use Rattle.olk_meaning.proofs.{Listed.names_of, AdditionalProperties.either_way, Standing.if_stands, Rows.Rows}
-use Rattle.olk_build.specs.{declared.part.Cases.Cases, declared.part.Taken.Taken}
+use Rattle.olk_build.specs.{declared.part.Cases.Cases, declared.part.TakenNeighbours.TakenNeighbours}
 use Rattle.olk_tree.specs.declared.node.KeywordOver.TheVariants as keyword
 use Rattle.olk_meaning.proofs.Conditions as fact
 use Rattle.olk_build.specs.declared.shape.Shape.TheVariants as shape
@@ -53,7 +53,7 @@ module _ {K R N : Type 0} {o : Kit K R} (I : StepsOf o) (answers : N → Answers
   abbrev Case : Path → N → Data → Type 0
   Case L n d = StandsBy I answers n d L
 
-  filled_formed : (c : Option N) (a : Option Data) (L : Path) → Fills (Case L) c a → case_formed I answers c ≡ true
+  filled_formed : (c : Option N) (a : Option Data) (L : Path) → FillsPlace (Case L) c a → case_formed I answers c ≡ true
   filled_formed None None L h = refl
   filled_formed (Some n) (Some d) L h = h.formed
   filled_formed _ _ L h = absurd h
@@ -109,22 +109,22 @@ module _ {K R N : Type 0} {o : Kit K R} (I : StepsOf o) (answers : N → Answers
     case_trees None L Q = []
     case_trees (Some d) L Q = tree I.steps u d v L Q ∷ []
 
-    case_accepts : (t : Option N) (a : Option Data) (L : Path) → Fills (Case L) t a → (case_question t v).accepts u ≡ case_verdict a
+    case_accepts : (t : Option N) (a : Option Data) (L : Path) → FillsPlace (Case L) t a → (case_question t v).accepts u ≡ case_verdict a
     case_accepts None None L h = refl
     case_accepts (Some n) (Some d) L h = h.verdict u v
     case_accepts _ _ L h = absurd h
 
-    case_asks : (t : Option N) (a : Option Data) (L : Path) → Fills (Case L) t a → (case_question t v).asks of_asked u ≤ case_asked a
+    case_asks : (t : Option N) (a : Option Data) (L : Path) → FillsPlace (Case L) t a → (case_question t v).asks of_asked u ≤ case_asked a
     case_asks None None L h = omega arith
     case_asks (Some n) (Some d) L h = h.asks_within u v
     case_asks _ _ L h = absurd h
 
-    case_finds : (t : Option N) (a : Option Data) (L Q : Path) → Fills (Case L) t a → case_found u t v Q ∼ case_report a L Q
+    case_finds : (t : Option N) (a : Option Data) (L Q : Path) → FillsPlace (Case L) t a → case_found u t v Q ∼ case_report a L Q
     case_finds None None L Q h = like_empty
     case_finds (Some n) (Some d) L Q h = h.faults u v Q
     case_finds _ _ L Q h = absurd h
 
-    case_shows : (t : Option N) (a : Option Data) (L Q : Path) → Fills (Case L) t a → branch_trees (λ n. (answers n).tree u) v Q (option_to_list t) ≡ case_trees a L Q
+    case_shows : (t : Option N) (a : Option Data) (L Q : Path) → FillsPlace (Case L) t a → branch_trees (λ n. (answers n).tree u) v Q (option_to_list t) ≡ case_trees a L Q
     case_shows None None L Q h = refl
     case_shows (Some n) (Some d) L Q h = ap (λ t. t ∷ []) (h.evaluation u v Q)
     case_shows _ _ L Q h = absurd h
@@ -199,7 +199,7 @@ module _ {K R N : Type 0} {o : Kit K R} (I : StepsOf o) (answers : N → Answers
       three = (codes "if", d) ∷ rows (codes "then") at_then ++ rows (codes "else") at_else
 
       module _ (L : Path) (n : N) (t e : Option N) (k : KeywordOver K R N) (place : L ≡ P // codes "if") (form : IsFormOfIf L n t e k) (stands : StandsBy I answers n d L)
-          (then_stands : Fills (Case (P // codes "then")) t at_then) (else_stands : Fills (Case (P // codes "else")) e at_else) where
+          (then_stands : FillsPlace (Case (P // codes "then")) t at_then) (else_stands : FillsPlace (Case (P // codes "else")) e at_else) where
         mean_together : Covers I answers ms (k ∷ []) three P
         mean_together = record {
           verdict = λ u v. and-true _ ∙ ap (λ q. q.accepts u) (form_means L n t e k form v)
@@ -256,7 +256,7 @@ module _ {K R N : Type 0} {o : Kit K R} (I : StepsOf o) (answers : N → Answers
 
   -- ---- what is made of the nodes
 
-  none_stands : (a : Option Data) (L : Path) → Fills (Case L) None a → a ≡ None
+  none_stands : (a : Option Data) (L : Path) → FillsPlace (Case L) None a → a ≡ None
   none_stands None L h = refl
   none_stands (Some d) L h = absurd h
 
@@ -267,8 +267,8 @@ module _ {K R N : Type 0} {o : Kit K R} (I : StepsOf o) (answers : N → Answers
   -- where there is neither, `if` is not read
   pub makes_no_condition : (L : Path) (n : N) (cs : Cases N) → cs.then_schema ≡ None → cs.else_schema ≡ None → MakesCondition I answers L n cs []
   makes_no_condition L n cs p q ms d P place stands cases distinct there read_here =
-      let a = none_stands _ (P // codes "then") (subst (λ t. Fills (Case (P // codes "then")) t (lookup_name (codes "then") (listed ms))) p cases.0) in
-      let b = none_stands _ (P // codes "else") (subst (λ t. Fills (Case (P // codes "else")) t (lookup_name (codes "else") (listed ms))) q cases.1) in
+      let a = none_stands _ (P // codes "then") (subst (λ t. FillsPlace (Case (P // codes "then")) t (lookup_name (codes "then") (listed ms))) p cases.0) in
+      let b = none_stands _ (P // codes "else") (subst (λ t. FillsPlace (Case (P // codes "else")) t (lookup_name (codes "else") (listed ms))) q cases.1) in
       absurd (true≢false (sym read_here ∙ (λ i. is_some (there i) && (is_some (a i) || is_some (b i)))))
 
   pub makes_if : (r : Option (KeywordOver K R N)) (L : Path) (n : N) (cs : Cases N) → IfNone r (cs.then_schema ≡ None) → IfNone r (cs.else_schema ≡ None)
@@ -277,7 +277,7 @@ module _ {K R N : Type 0} {o : Kit K R} (I : StepsOf o) (answers : N → Answers
   makes_if (Some k) L n cs p q form = makes_condition k L n cs form
 
   -- the part of `if`, whose node this is
-  pub part_of_if : {L P : Path} {n : N} {ks : List (KeywordOver K R N)} {p : Planned} (before ns : List N) (t : Taken R N) → ns ≡ before ++ n ∷ []
+  pub part_of_if : {L P : Path} {n : N} {ks : List (KeywordOver K R N)} {p : Planned} (before ns : List N) (t : TakenNeighbours R N) → ns ≡ before ++ n ∷ []
       → MakesCondition I answers L n t.cases ks → MakesPart I answers shape.If L ns t P p ks
   part_of_if before ns t split make ms m place named fits stand cases beside distinct there chosen untaken =
       claim_by_name I answers named chosen place there (λ at_if found. make ms m.1 _ at_if (last_stands I answers before split stand) (cases refl) distinct found fits)
@@ -286,7 +286,7 @@ module _ {K R N : Type 0} {o : Kit K R} (I : StepsOf o) (answers : N → Answers
   case_is_taken p ms k case fits chosen untaken =
       absurd (true≢false (sym ((λ i. (p.restricted && tells_members k) || (ap (λ q. q.condition) chosen ∙ fits) i && case i) ∙ or-true (p.restricted && tells_members k)) ∙ untaken))
 
-  module _ {L P : Path} {ks : List (KeywordOver K R N)} {p : Planned} (ns : List N) (t : Taken R N) where
+  module _ {L P : Path} {ks : List (KeywordOver K R N)} {p : Planned} (ns : List N) (t : TakenNeighbours R N) where
     -- what `if` takes does not stay
     pub part_of_then : MakesPart I answers shape.Then L ns t P p ks
     part_of_then ms m place named fits stand cases beside distinct there chosen untaken = case_is_taken p ms (codes "then") refl fits chosen (ap (is_taken p) (sym named) ∙ untaken)
@@ -295,7 +295,7 @@ module _ {K R N : Type 0} {o : Kit K R} (I : StepsOf o) (answers : N → Answers
     part_of_else ms m place named fits stand cases beside distinct there chosen untaken = case_is_taken p ms (codes "else") refl fits chosen (ap (is_taken p) (sym named) ∙ untaken)
 
   -- none of the three has a keyword of its own where `if` is not read
-  pub part_of_unpaired : {L P : Path} {p : Planned} (ns : List N) (t : Taken R N) → MakesPart I answers shape.Unpaired L ns t P p []
+  pub part_of_unpaired : {L P : Path} {p : Planned} (ns : List N) (t : TakenNeighbours R N) → MakesPart I answers shape.Unpaired L ns t P p []
   part_of_unpaired {L} {P} ns t ms m place named fits stand cases beside distinct there chosen untaken =
       let nothing = fact.unpaired_means_nothing I.steps ms m named fits (ap is_some there) in
       subst (λ q. MeanClaim I answers ms q [] m P) (sym chosen) (subst (λ rows. KeywordsMean I answers ms [] rows (m ∷ []) P) (sym

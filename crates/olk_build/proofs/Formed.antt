@@ -1,6 +1,6 @@
 -- Nodes that answer as entries are to be answered, and that what is made of them has the form that is chosen for it.
 use Rattle.olk_tree.specs.Maps.{keys_in, nodes_in, mapped, named}
-use Rattle.olk_build.specs.Standing.{StandAt, IsLast, Fills, EntriesStand, StandEach}
+use Rattle.olk_build.specs.Standing.{StandAt, IsLast, FillsPlace, EntriesStand, StandEach}
 use Rattle.std.proofs.Common.{Option, Some, None, ◌≡◌, ◌≤◌, Bool, ◌&&◌, List, [], ◌∷◌, map, length, sum_by, true, ◌≢◌, ℕ, false, cond, not, nat_lt, ◌++◌, zip, bytes_eq, string_bytes, is_some}
 use Rattle.std.proofs.Common.{option_to_list, Vec, refl, ap, subst, sym, ◌∙◌, append-nil, Global, lt-ltb, le-ltb, eq-eqb, ne_eqb}
 use Rattle.std.specs.List.{AllZip, list_all, flat_map}
@@ -94,7 +94,7 @@ module _ {K R N : Type 0} {o : Kit K R} (I : StepsOf o) (answers : N → Answers
       by (x ∷ y ∷ before) g = absurd g
 
   -- and what was taken of it stands for it
-  pub taken_stands : (ns : List N) (t : Option N) (d : Data) (L : Path) → IsLast ns t → StandAt I answers Itself ns d L → Fills (λ n x. StandsBy I answers n x L) t (Some d)
+  pub taken_stands : (ns : List N) (t : Option N) (d : Data) (L : Path) → IsLast ns t → StandAt I answers Itself ns d L → FillsPlace (λ n x. StandsBy I answers n x L) t (Some d)
   taken_stands ns None d L e h = subst (λ l. StandAt I answers Itself l d L) e h
   taken_stands ns (Some n) d L e h = last_stands e.0 e.1 h
 
@@ -241,7 +241,7 @@ module _ {K R N : Type 0} {o : Kit K R} (I : StepsOf o) (answers : N → Answers
       ∙ ap (λ l. (L, if_then_else_form) ∷ l) (sym (λ i. (stand_in n ++ append-nil (stand_in t) i) ++ append-nil (stand_in e) i))
   if_placed L n t e k f = absurd f
 
-  pub case_as : (t : Option N) (a : Option Data) (L : Path) → Fills (λ n d. StandsBy I answers n d L) t a → case_in t ≡ case_placed I.steps L a
+  pub case_as : (t : Option N) (a : Option Data) (L : Path) → FillsPlace (λ n d. StandsBy I answers n d L) t a → case_in t ≡ case_placed I.steps L a
   case_as None None L h = refl
   case_as (Some n) (Some d) L h = ap (λ l. l ++ []) h.forms
   case_as _ _ L h = absurd h

@@ -29,7 +29,7 @@ use Rattle.olk_meaning.specs.Chosen.{any_of_form, not_form, leaf_form}
 use Rattle.olk_meaning.specs.Plans.{Planned, plan_of, is_case, tells_members, head, claims}
 use Rattle.olk_build.specs.Forms.{IsMapOver, IsMapFor, IsFormOfProperties, IsFormOfAllOf, IsFormOfAnyOf}
 use Rattle.olk_meaning.specs.Fused.{fused_pair, fused_one, declares_few}
-use Rattle.olk_build.specs.Standing.{StandEach, which, all_malformed, Holds, Covers, is_taken}
+use Rattle.olk_build.specs.Standing.{StandEach, which, all_malformed, HoldsMember, Covers, is_taken}
 use Rattle.olk_build.specs.Making.{KeywordMeans, KeywordsMean}
 use Rattle.olk_tree.specs.declared.properties_map.PropertiesMap.TheVariants.{Small, Big}
 use Rattle.olk_build.proofs.Pairs.{some_accepts, some_asks}
@@ -37,7 +37,7 @@ use Rattle.olk_meaning.proofs.Claims.{fusing_restricts, listing, fuses, claims_i
 use Rattle.olk_meaning.proofs.Claims.{free_takes_nothing, free_fuses_none, fusing_is_free, claims_no_fused}
 use Rattle.olk_build.proofs.Formed.{AnswerEach, each_count, each_accept, each_ask, each_find, each_show, schemas_answer, has_form, is_formed, just_one_formed, stand_formed, each_held_formed}
 use Rattle.olk_build.proofs.Formed.{entries_zipped, map_zipped, paired, map_formed, required2_formed, all_of_holds, any_of_holds, stand_in, stand_as, each_held_placed, map_sized, branches_placed}
-use Rattle.olk_meaning.specs.Told.{Told, IsTold, EntryAnswers, entries_told, schema_answers, branches_find, branches_shown, accepting_branches, any_shown, any_told, shown_at, shown_declared}
+use Rattle.olk_meaning.specs.Told.{KeywordTold, IsKeywordTold, EntryAnswers, entries_told, schema_answers, branches_find, branches_shown, accepting_branches, any_shown, any_told, shown_at, shown_declared}
 use Rattle.olk_meaning.specs.Told.{declared_told, names_told, negation_told, faults_told}
 use Rattle.olk_build.proofs.Together.{MeanClaim, means_alone, means_permuted}
 use Rattle.olk_meaning.proofs.Clean.{clean_one_fused, fused, names_fused}
@@ -200,14 +200,14 @@ module _ {K R N : Type 0} {o : Kit K R} (I : StepsOf o) (answers : N → Answers
     pub evaluation : (Q : Path) → shown u k v Q ≡ evaluated Q
 
   -- it answers at L as it is told
-  pub record AnswersTold (k : KeywordOver K R N) (t : Told) (L : Path) : Type 0 where
+  pub record AnswersTold (k : KeywordOver K R N) (t : KeywordTold) (L : Path) : Type 0 where
     pub verdict : (u : Bool) (v : Data) → (question k v).accepts u ≡ t.verdict u v
     pub asks_within : (u : Bool) (v : Data) → (question k v).asks of_asked u ≤ t.asked u v
     pub faults : (u : Bool) (v : Data) (Q : Path) → found u k v Q ∼ t.faults u v L Q
     pub evaluation : (u : Bool) (v : Data) (Q : Path) → shown u k v Q ≡ t.shown u v L Q
     pub formed : is_formed I answers k ≡ true
 
-  pub means_told : (ms : Members) (k : KeywordOver K R N) (m : Name × Data) (P L : Path) (t : Told) → L ≡ P // m.0 → IsTold I.steps ms m (which o ms m) t
+  pub means_told : (ms : Members) (k : KeywordOver K R N) (m : Name × Data) (P L : Path) (t : KeywordTold) → L ≡ P // m.0 → IsKeywordTold I.steps ms m (which o ms m) t
       → AnswersTold k t L → (StandsByItself I.steps ms (which o ms m) → flat_map (stand_as I answers) (k ∷ []) ≡ member_standing I.steps ms m (which o ms m) P)
       → KeywordMeans I answers ms (k ∷ []) m P
   means_told ms k m P L t p is h placed = record {
@@ -317,7 +317,7 @@ module _ {K R N : Type 0} {o : Kit K R} (I : StepsOf o) (answers : N → Answers
     unfolding answers_of
     both_placed = λ i. (form.1 i, fused_properties_form) ∷ flat_map (stand_in I answers) (nodes_in (named k.value.properties))
 
-    covers_both : (d : Data) → is_restricted ms ≡ false → Holds I answers ms (alone ∷ []) (codes "properties", d) properties P → Covers I answers ms
+    covers_both : (d : Data) → is_restricted ms ≡ false → HoldsMember I answers ms (alone ∷ []) (codes "properties", d) properties P → Covers I answers ms
         (keyword.PropertiesWithRequired2 k ∷ []) ((codes "properties", d) ∷ (codes "required", listing t) ∷ []) P
     covers_both d unrestricted h = record {
       verdict = λ u v. ap (λ b. b && true) (both_accept u v) ∙ turned (is_empty (lacking v)) ((question alone v).accepts u)
@@ -572,7 +572,7 @@ module _ {K R N : Type 0} {o : Kit K R} (I : StepsOf o) (answers : N → Answers
       → (ms : Members) (P : Path) → L ≡ P // k → KeywordMeans I answers ms (keyword.Leaf L l ∷ []) (k, d) P
   unfolding answers_of
   means_leaf l k L d q name same ms P p = means_told ms _ (k, d) P L (faults_told k (o.world.faults k d)) p
-      (subst (λ w. IsTold I.steps ms (k, d) w (faults_told k (o.world.faults k d))) (sym q) (leaf_told I.steps ms d k)) (record {
+      (subst (λ w. IsKeywordTold I.steps ms (k, d) w (faults_told k (o.world.faults k d))) (sym q) (leaf_told I.steps ms d k)) (record {
         verdict = λ u v. ap is_empty (same v);
         asks_within = λ u v. omega arith;
         faults = λ u v Q. ∼_same (λ i. map (λ t. fault (Leaf (name i) t) v Q L) (same v i));
@@ -582,7 +582,7 @@ module _ {K R N : Type 0} {o : Kit K R} (I : StepsOf o) (answers : N → Answers
 
   pub means_unread : (k : Name) (d : Data) → keyword_named o.world k ≡ unread → (ms : Members) (P : Path) → KeywordMeans I answers ms [] (k, d) P
   means_unread k d q ms P = record {
-    holds = subst (λ w. Holds I answers ms [] (k, d) w P) (sym q)
+    holds = subst (λ w. HoldsMember I answers ms [] (k, d) w P) (sym q)
         (record { verdict = λ u v. refl; asks_within = λ free u v. subst (λ n. 0 ≤ n) (sym (nothing_first 0)) (omega arith); faults = λ u v Q. ∼_same refl });
     shows = λ u h v Q. ap (λ w. member_child I.steps ms (k, d) w u v P Q) (sym q);
     formed = refl;

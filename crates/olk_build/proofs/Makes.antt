@@ -35,7 +35,7 @@ use Rattle.std.proofs.{lemmas.List.Sums.sum_by-cons, Math.Bool.or-true}
 use Rattle.olk_spec.specs.{Reports.fault_if, World.World}
 use Rattle.olk_base.specs.{Kit.Kit, declared.pattern.CompiledPattern.CompiledPattern}
 use Rattle.olk_tree.specs.{OneOf.one_of_report, Validators.answers_of, declared.node.KeywordOver.KeywordOver, Answers.Answers}
-use Rattle.olk_build.specs.{declared.shape.Shape.Shape, declared.shape.ReadPlaces.TheVariants.Nothing, Made.IsMade, declared.part.Taken.Taken}
+use Rattle.olk_build.specs.{declared.shape.Shape.Shape, declared.shape.ReadPlaces.TheVariants.Nothing, Made.IsMade, declared.part.TakenNeighbours.TakenNeighbours}
 use Rattle.olk_tree.specs.declared.node.KeywordOver.TheVariants as keyword
 use Rattle.olk_meaning.proofs.PropertyNames as fact
 use Rattle.olk_build.specs.declared.shape.Shape.TheVariants as shape
@@ -182,7 +182,7 @@ module _ {K R N : Type 0} {o : Kit K R} (I : StepsOf o) (answers : N → Answers
 -- ---- what is made of a part, by its shape
 
 module _ {K R N : Type 0} {o : Kit K R} (I : StepsOf o) (answers : N → Answers) {x y : Shape K R} (e : x ≡ y) where
-  pub is_made : (L P : Path) (ns : List N) (t : Taken R N) (p : Planned) (r : Option (KeywordOver K R N)) → IsMade I answers y L ns t P p r → IsMade I answers x L ns t P p r
+  pub is_made : (L P : Path) (ns : List N) (t : TakenNeighbours R N) (p : Planned) (r : Option (KeywordOver K R N)) → IsMade I answers y L ns t P p r → IsMade I answers x L ns t P p r
   is_made L P ns t p r = subst (λ z. IsMade I answers z L ns t P p r) (sym e)
 
 -- ---- what is made of a part, and of all parts
@@ -294,21 +294,21 @@ module _ {K R N : Type 0} {o : Kit K R} (I : StepsOf o) (answers : N → Answers
   without_nodes x L ns ks none make ms m P place s stand = make ms m P place s (subst (λ r. StandAt I answers r [] m.1 L) (sym none) refl)
 
   -- all but `if` and `additionalProperties` hold their own nodes alone
-  pub part_of_claims : (x : Shape K R) {L P : Path} {ks : List (KeywordOver K R N)} {p : Planned} (ns : List N) (t : Taken R N)
+  pub part_of_claims : (x : Shape K R) {L P : Path} {ks : List (KeywordOver K R N)} {p : Planned} (ns : List N) (t : TakenNeighbours R N)
       → MakesClaims I answers x L ns P p ks → MakesPart I answers x L ns t P p ks
   part_of_claims x ns t make ms m place s fits stand cases beside distinct there chosen untaken = make ms m place s stand distinct there chosen untaken
 
   -- of an equal shape
-  pub part_of_shape : {x y : Shape K R} {L P : Path} {ks : List (KeywordOver K R N)} {p : Planned} (ns : List N) (t : Taken R N) → x ≡ y
+  pub part_of_shape : {x y : Shape K R} {L P : Path} {ks : List (KeywordOver K R N)} {p : Planned} (ns : List N) (t : TakenNeighbours R N) → x ≡ y
       → MakesPart I answers y L ns t P p ks → MakesPart I answers x L ns t P p ks
   part_of_shape {x} {y} {L} {P} {ks} {p} ns t e = subst (λ z. MakesPart I answers z L ns t P p ks) (sym e)
 
-  pub part_of_alone : {x y : Shape K R} {L P : Path} {ks : List (KeywordOver K R N)} {p : Planned} (ns : List N) (t : Taken R N) → x ≡ y → IsAlone y
+  pub part_of_alone : {x y : Shape K R} {L P : Path} {ks : List (KeywordOver K R N)} {p : Planned} (ns : List N) (t : TakenNeighbours R N) → x ≡ y → IsAlone y
       → MakesMember I answers y L ns ks → MakesPart I answers x L ns t P p ks
   part_of_alone {x} ns t e alone make = part_of_claims x ns t (claims_own ns e alone make)
 
   -- of a shape that has one name
-  pub part_of_own : {x y : Shape K R} {n : Name} {L P : Path} {ks : List (KeywordOver K R N)} {p : Planned} (ns : List N) (t : Taken R N) → x ≡ y
+  pub part_of_own : {x y : Shape K R} {n : Name} {L P : Path} {ks : List (KeywordOver K R N)} {p : Planned} (ns : List N) (t : TakenNeighbours R N) → x ≡ y
       → ((k : Name) (d : Data) → IsShape o k d y → k ≡ n) → neighbours (keyword_named o.world n) ≡ false → MakesMember I answers y L ns ks → MakesPart I answers x L ns t P p ks
   part_of_own ns t e named apart = part_of_alone ns t e (λ k d s. ap (λ n. neighbours (keyword_named o.world n)) (named k d s) ∙ apart)
 

@@ -42,7 +42,7 @@ use Rattle.std.proofs.{lemmas.Grind.flat_map-append, lemmas.Slice.Zip.all_zipped
 use Rattle.olk_base.specs.{Count.Counts, Kit.Kit}
 use Rattle.olk_reports.specs.{declared.error.BuildError.BuildError, declared.error.BuildError.TheVariants.Memory}
 use Rattle.olk_tree.specs.{Answers.Answers, declared.node.KeywordOver.KeywordOver}
-use Rattle.olk_build.specs.{declared.part.Part.Part, declared.part.Taken.Taken, Making.KeywordsMean}
+use Rattle.olk_build.specs.{declared.part.Part.Part, declared.part.TakenNeighbours.TakenNeighbours, Making.KeywordsMean}
 use Rattle.olk_tree.specs.Steps.{StepsOf}
 
 -- ---- in another order
@@ -323,7 +323,7 @@ module _ {K R N : Type 0} {o : Kit K R} (I : StepsOf o) (answers : N → Answers
         taken_refused {z} {r} w = refused_here (second_refused I ms P ((k, d) ∷ []) (rows_taken ms (takes (plan_of ms) k)) y (within_exactly part_spent)
             (subst (λ t. RefusesTaken I ms t P y z r) same_rows w))
 
-        module _ {t : Taken R N} {z : Counts} (taken : IsTaken I answers ms part.shape P y z t) where
+        module _ {t : TakenNeighbours R N} {z : Counts} (taken : IsTaken I answers ms part.shape P y z t) where
           spent : Spends b z (total_cost (costs I ms P) rows)
           spent = both_spent I ms P ((k, d) ∷ []) (rows_taken ms (takes (plan_of ms) k)) b y z part_spent (subst (λ t. Spends y z (total_cost (costs I ms P) (rows_taken ms t))) same_rows taken.spends)
 
@@ -352,7 +352,7 @@ module _ {K R N : Type 0} {o : Kit K R} (I : StepsOf o) (answers : N → Answers
           alone_memory r x = read_memory none_here r x
 
           pub alone_built : {q : Planned} {r : Option (KeywordOver K R N)} → has_repeat (map (λ m. m.0) (listed ms)) ≡ false → q ≡ plan_of ms
-              → (takes_of part.shape ≡ None → (t : Taken R N) → MakesTaking I answers part.shape part.location part.nodes.items t P q r) → MemberIsBuilt I ms (k, d) P b y answers r
+              → (takes_of part.shape ≡ None → (t : TakenNeighbours R N) → MakesTaking I answers part.shape part.location part.nodes.items t P q r) → MemberIsBuilt I ms (k, d) P b y answers r
           alone_built distinct plan makes = member_built none_here distinct plan (makes takes_none nothing)
 
 -- ---- what is given of it

@@ -11,7 +11,7 @@ use Rattle.olk_meaning.specs.Members.{member_malformations, member_cost}
 use Rattle.olk_build.specs.Refusing.{Spends, SpendsWithin, Refuses}
 use Rattle.olk_build.proofs.Spending.{spends_nothing, spends_append, spends_same, within_after, within_before, within_exactly, within_same, refuses_among, tells_left, tells_right, tells_same}
 use Rattle.olk_build.proofs.Spending.{refuses_memory}
-use Rattle.olk_build.specs.Standing.{which, all_malformed, PartStands, Fills, StandAt, EntriesStand, is_if_shape, is_restriction_shape, is_taken, DeclaredStand, PatternsStand, CasesStand, BesideStands}
+use Rattle.olk_build.specs.Standing.{which, all_malformed, PartStands, FillsPlace, StandAt, EntriesStand, is_if_shape, is_restriction_shape, is_taken, DeclaredStand, PatternsStand, CasesStand, BesideStands}
 use Rattle.olk_build.specs.Building.{RefusesPart, all_cost, all_later, SpendsBefore, IsMember, later_cost, IsPart}
 use Rattle.olk_build.specs.Taking.{RefusesNeighbour, RefusesTaken, IsNeighbour, takes, takes_of, IsNode, DeclaredBy, IsDeclared, PatternsBy, IsPatterns, MakesTaking, rows_taken, TakenBy, asks_by}
 use Rattle.olk_build.specs.Taking.{asks_of, asks_taken, TakenStands, IsTaken}
@@ -32,7 +32,7 @@ use Rattle.olk_base.specs.{Count.Counts, Kit.Kit, declared.pattern.CompiledPatte
 use Rattle.olk_reports.specs.{declared.error.BuildError.BuildError, declared.error.BuildError.TheVariants.Memory}
 use Rattle.olk_tree.specs.{Answers.Answers, declared.node.KeywordOver.KeywordOver}
 use Rattle.olk_meaning.specs.{AdditionalProperties.rows_at, PatternProperties.open_names}
-use Rattle.olk_build.specs.{declared.part.Part.Part, Made.IsMade, declared.part.Taken.Taken, declared.part.DeclaredNodes.DeclaredNodes}
+use Rattle.olk_build.specs.{declared.part.Part.Part, Made.IsMade, declared.part.TakenNeighbours.TakenNeighbours, declared.part.DeclaredNodes.DeclaredNodes}
 use Rattle.olk_build.specs.declared.part.Patterns.{Patterns}
 use Rattle.olk_build.specs.{declared.shape.Shape.Shape, declared.shape.ReadPlaces.TheVariants.Itself, Reading.ArePatterns}
 use Rattle.olk_tree.specs.declared.node.KeywordOver.TheVariants as keyword
@@ -109,7 +109,7 @@ module _ {K R : Type 0} {o : Kit K R} (I : StepsOf o) (ms : Members) (P : Path) 
 module _ {K R N : Type 0} {o : Kit K R} {I : StepsOf o} {answers : N → Answers} {ms : Members} {P : Path} where
   pub no_neighbour : {k : Name} {a : Counts} → lookup_name k (listed ms) ≡ None → IsNeighbour I answers ms None k P a a
   no_neighbour {k} {a} e = record {
-    stands = subst (Fills (λ x d. PartStands I answers (known_of ms) x (k, d) P) None) (sym e) tt;
+    stands = subst (FillsPlace (λ x d. PartStands I answers (known_of ms) x (k, d) P) None) (sym e) tt;
     clean = ap (λ x. all_malformed I ms P (map (λ d. (k, d)) (option_to_list x))) e;
     spends = subst (λ x. SpendsBefore I ms (map (λ d. (k, d)) (option_to_list x)) a a) (sym e) (record { spent = no_cost; exactly = spends_nothing a; whole = refl });
   }
@@ -119,7 +119,7 @@ module _ {K R N : Type 0} {o : Kit K R} {I : StepsOf o} {answers : N → Answers
   neighbour_built {k} {d} {p} {c} {L} {a} {b} known there place part =
       let built = part ms P place (subst (λ x. IsKnown x ms k) (sym known) (there_known I ms P k d there)) in
       record {
-        stands = subst (Fills (λ x d. PartStands I answers (known_of ms) x (k, d) P) (Some p)) (sym there) built.stand.0;
+        stands = subst (FillsPlace (λ x d. PartStands I answers (known_of ms) x (k, d) P) (Some p)) (sym there) built.stand.0;
         clean = ap (λ y. all_malformed I ms P (map (λ d. (k, d)) (option_to_list y))) there ∙ built.clean;
         spends = subst (λ y. SpendsBefore I ms (map (λ d. (k, d)) (option_to_list y)) a b) (sym there) built.spends;
       }
@@ -154,8 +154,8 @@ module _ {K R N : Type 0} {o : Kit K R} (I : StepsOf o) (answers : N → Answers
 
   module _ (ms : Members) (P : Path) where
     pub node_fills : (k : Name) → is_conditional_name k ≡ true → has_no_shape (keyword_named o.world k) ≡ false → is_condition ms ≡ true → (p : Option (Part K R N)) (t : Option N) (a : Option Data)
-        → IsNode p t → Fills (λ x d. PartStands I answers (known_of ms) x (k, d) P) p a → Fills (λ n d. StandsBy I answers n d (P // k)) t a
-    node_fills k h n read None t None e s = subst (λ x. Fills (λ n d. StandsBy I answers n d (P // k)) x None) (sym e) tt
+        → IsNode p t → FillsPlace (λ x d. PartStands I answers (known_of ms) x (k, d) P) p a → FillsPlace (λ n d. StandsBy I answers n d (P // k)) t a
+    node_fills k h n read None t None e s = subst (λ x. FillsPlace (λ n d. StandsBy I answers n d (P // k)) x None) (sym e) tt
     node_fills k h n read (Some p) t (Some d) e s = taken_stands I answers p.nodes.items t d (P // k) e
         (subst (λ r. StandAt I answers r p.nodes.items d (P // k)) (case_reads_itself (known_of ms) k h n p.shape d s.shape s.fits read) s.nodes)
     node_fills k h n read _ t _ e s = absurd s
@@ -163,8 +163,8 @@ module _ {K R N : Type 0} {o : Kit K R} (I : StepsOf o) (answers : N → Answers
     -- ---- `properties`
 
     declared_by : (x : Shape K R) (p : Part K R N) (t : Option (DeclaredNodes N)) (d : Data) → DeclaredBy x p t → IsShape o (codes "properties") d x
-        → StandAt I answers (reads_of x) p.nodes.items d (P // codes "properties") → Fills (λ y. DeclaredStand I answers y (P // codes "properties")) t (Some d)
-    declared_by (shape.Properties names) p t d e s h = subst (λ x. Fills (λ y. DeclaredStand I answers y (P // codes "properties")) x (Some d)) (sym e) (record { kind = s.1; names = s.2; nodes = h })
+        → StandAt I answers (reads_of x) p.nodes.items d (P // codes "properties") → FillsPlace (λ y. DeclaredStand I answers y (P // codes "properties")) t (Some d)
+    declared_by (shape.Properties names) p t d e s h = subst (λ x. FillsPlace (λ y. DeclaredStand I answers y (P // codes "properties")) x (Some d)) (sym e) (record { kind = s.1; names = s.2; nodes = h })
     declared_by (shape.Leaf l) p t d e s h = absurd (true≢false (sym (ap has_no_shape s.0)))
     declared_by shape.Unread p t d e s h = absurd (true≢false (sym (ap has_no_shape s)))
     declared_by shape.Unpaired p t d e s h = absurd (true≢false (sym s))
@@ -174,8 +174,8 @@ module _ {K R N : Type 0} {o : Kit K R} (I : StepsOf o) (answers : N → Answers
     declared_by x p t d e s h = absurd (true≢false (ap (bytes_eq (codes "properties")) s.0))
 
     pub declared_fills : (p : Option (Part K R N)) (t : Option (DeclaredNodes N)) (a : Option Data) → IsDeclared p t
-        → Fills (λ x d. PartStands I answers (known_of ms) x (codes "properties", d) P) p a → Fills (λ y. DeclaredStand I answers y (P // codes "properties")) t a
-    declared_fills None t None e s = subst (λ x. Fills (λ y. DeclaredStand I answers y (P // codes "properties")) x None) (sym e) tt
+        → FillsPlace (λ x d. PartStands I answers (known_of ms) x (codes "properties", d) P) p a → FillsPlace (λ y. DeclaredStand I answers y (P // codes "properties")) t a
+    declared_fills None t None e s = subst (λ x. FillsPlace (λ y. DeclaredStand I answers y (P // codes "properties")) x None) (sym e) tt
     declared_fills (Some p) t (Some d) e s = declared_by p.shape p t d e s.shape s.nodes
     declared_fills _ t _ e s = absurd s
 
@@ -183,7 +183,7 @@ module _ {K R N : Type 0} {o : Kit K R} (I : StepsOf o) (answers : N → Answers
 
     patterns_by : (x : Shape K R) (p : Part K R N) (t : Option (Patterns R N)) (d : Data) → PatternsBy o.answers (known_of ms) x p t → p.location ≡ P // codes "patternProperties"
         → IsShape o (codes "patternProperties") d x → StandAt I answers (reads_of x) p.nodes.items d (P // codes "patternProperties")
-        → Fills (λ y. PatternsStand I answers (known_of ms) y (P // codes "patternProperties")) t (Some d)
+        → FillsPlace (λ y. PatternsStand I answers (known_of ms) y (P // codes "patternProperties")) t (Some d)
     patterns_by (shape.PatternProperties v) p (Some y) d e place s h = record {
       place = e.place ∙ place;
       kind = s.1;
@@ -201,8 +201,8 @@ module _ {K R N : Type 0} {o : Kit K R} (I : StepsOf o) (answers : N → Answers
     patterns_by x p t d e place s h = absurd (true≢false (ap (bytes_eq (codes "patternProperties")) s.0))
 
     pub patterns_fill : (p : Option (Part K R N)) (t : Option (Patterns R N)) (a : Option Data) → IsPatterns o.answers (known_of ms) p t
-        → Fills (λ x d. PartStands I answers (known_of ms) x (codes "patternProperties", d) P) p a → Fills (λ y. PatternsStand I answers (known_of ms) y (P // codes "patternProperties")) t a
-    patterns_fill None t None e s = subst (λ x. Fills (λ y. PatternsStand I answers (known_of ms) y (P // codes "patternProperties")) x None) (sym e) tt
+        → FillsPlace (λ x d. PartStands I answers (known_of ms) x (codes "patternProperties", d) P) p a → FillsPlace (λ y. PatternsStand I answers (known_of ms) y (P // codes "patternProperties")) t a
+    patterns_fill None t None e s = subst (λ x. FillsPlace (λ y. PatternsStand I answers (known_of ms) y (P // codes "patternProperties")) x None) (sym e) tt
     patterns_fill (Some p) t (Some d) e s = patterns_by p.shape p t d e s.place s.shape s.nodes
     patterns_fill _ t _ e s = absurd s
 
@@ -221,7 +221,7 @@ module _ {K R N : Type 0} {o : Kit K R} (I : StepsOf o) (answers : N → Answers
   if_read shape.If c e f = f
   if_read x c e f = absurd (true≢false (sym e))
 
-  module _ (x : Shape K R) {L : Path} (ns : List N) (t : Taken R N) {P : Path} {q : Planned} {r : Option (KeywordOver K R N)}
+  module _ (x : Shape K R) {L : Path} (ns : List N) (t : TakenNeighbours R N) {P : Path} {q : Planned} {r : Option (KeywordOver K R N)}
       (make : MakesPart I answers x L ns t P q (option_to_list r)) (form : IsMade I answers x L ns t P q r) where
     -- where all that it takes stands there
     made_of : (ms : Members) (m : Name × Data) → L ≡ P // m.0 → IsShape o m.0 m.1 x → Fits o (known_of ms) x → StandAt I answers (reads_of x) ns m.1 L
@@ -233,7 +233,7 @@ module _ {K R N : Type 0} {o : Kit K R} (I : StepsOf o) (answers : N → Answers
     }
 
     -- a part that takes nothing
-    pub makes_nothing : takes_of x ≡ None → (u : Taken R N) → MakesTaking I answers x L ns u P q r
+    pub makes_nothing : takes_of x ≡ None → (u : TakenNeighbours R N) → MakesTaking I answers x L ns u P q r
     makes_nothing none u ms m place s f stand fills distinct found same untaken = made_of ms m place s f stand
         (λ taking. absurd (true≢false (sym (ap is_some (if_takes x taking)) ∙ ap is_some none)))
         (λ taking. absurd (true≢false (sym (ap is_some (restriction_takes x taking)) ∙ ap is_some none))) distinct found same untaken
@@ -243,12 +243,12 @@ module _ {K R N : Type 0} {o : Kit K R} (I : StepsOf o) (answers : N → Answers
     makes_taking ms m place s f stand taken = made_of ms m place s f stand (λ taking. taken.cases taking (if_read x (known_of ms) taking f)) taken.beside
 
   -- a leaf takes nothing
-  pub makes_leaf_taking : {x : Shape K R} (l : K) {L : Path} (ns : List N) (u : Taken R N) {P : Path} {q : Planned} → x ≡ shape.Leaf l → MakesTaking I answers x L ns u P q (Some (keyword.Leaf L l))
+  pub makes_leaf_taking : {x : Shape K R} (l : K) {L : Path} (ns : List N) (u : TakenNeighbours R N) {P : Path} {q : Planned} → x ≡ shape.Leaf l → MakesTaking I answers x L ns u P q (Some (keyword.Leaf L l))
   makes_leaf_taking {x} l {L} ns u {P} {q} is =
       makes_nothing x ns nothing (part_of_alone I answers {L = L} {P = P} {ks = keyword.Leaf L l ∷ []} {p = q} ns nothing is (λ k d s. ap neighbours s.0) (makes_leaf I answers l L ns))
       (subst (λ y. IsMade I answers y L ns nothing P q (Some (keyword.Leaf L l))) (sym is) refl) (ap takes_of is) u
     where
-      nothing : Taken R N
+      nothing : TakenNeighbours R N
       nothing = record { cases = record { then_schema = None; else_schema = None }; beside = record { properties = None; patterns = None } }
 
   -- ---- what a shape takes, by the object's plan
@@ -303,7 +303,7 @@ module _ {K R N : Type 0} {o : Kit K R} (I : StepsOf o) (answers : N → Answers
 -- ---- what a keyword takes of its neighbours' parts, and what is counted for it
 
 -- nothing is taken
-abbrev pub nothing : {R N : Type 0} → Taken R N
+abbrev pub nothing : {R N : Type 0} → TakenNeighbours R N
 nothing = record { cases = record { then_schema = None; else_schema = None }; beside = record { properties = None; patterns = None } }
 
 first_name : {x y a b : Name} → ◌≡◌ {A = Option (Name × Name)} (Some (x, y)) (Some (a, b)) → x ≡ a
@@ -338,7 +338,7 @@ module _ {K R N : Type 0} {o : Kit K R} (I : StepsOf o) (answers : N → Answers
     part_asks shape.Else ns d s h = absurd (true≢false (ap (bytes_eq (codes "patternProperties")) s))
     part_asks x ns d s h = absurd (true≢false (ap (bytes_eq (codes "patternProperties")) s.0))
 
-    patterns_later : (q : Option (Part K R N)) (a : Option Data) → Fills (λ x d. PartStands I answers (known_of ms) x (codes "patternProperties", d) P) q a
+    patterns_later : (q : Option (Part K R N)) (a : Option Data) → FillsPlace (λ x d. PartStands I answers (known_of ms) x (codes "patternProperties", d) P) q a
         → all_later I ms (map (λ d. (codes "patternProperties", d)) (option_to_list a)) ≡ asks (asks_of o.costs (known_of ms) q)
     patterns_later None None h = refl
     patterns_later (Some p) (Some d) h = sum_last _ ∙ ap asks (part_asks p.shape p.nodes.items d h.shape h.nodes)
@@ -354,7 +354,7 @@ module _ {K R N : Type 0} {o : Kit K R} (I : StepsOf o) (answers : N → Answers
     module _ {b : Name} {q : Option (Part K R N)} {m n : Counts} (h : IsNeighbour I answers ms q b P m n) where
       at_patterns : codes "patternProperties" ≡ b → all_later I ms (rows_at b ms) ≡ asks (asks_of o.costs (known_of ms) q)
       at_patterns e = subst (λ k. all_later I ms (rows_at k ms) ≡ asks (asks_of o.costs (known_of ms) q)) e
-          (patterns_later q (lookup_name (codes "patternProperties") (listed ms)) (subst (λ k. Fills (λ x d. PartStands I answers (known_of ms) x (k, d) P) q (lookup_name k (listed ms))) (sym e) h.stands))
+          (patterns_later q (lookup_name (codes "patternProperties") (listed ms)) (subst (λ k. FillsPlace (λ x d. PartStands I answers (known_of ms) x (k, d) P) q (lookup_name k (listed ms))) (sym e) h.stands))
 
       second_later : {a : Name} (x : Shape K R) → takes_of x ≡ Some (a, b) → all_later I ms (rows_at b ms) ≡ asks (asks_taken o.costs (known_of ms) x q)
       second_later shape.If e = subst (λ k. all_later I ms (rows_at k ms) ≡ no_cost) (second_name e) (none_at (codes "else") (λ d. refl) (lookup_name (codes "else") (listed ms)))
@@ -364,7 +364,7 @@ module _ {K R N : Type 0} {o : Kit K R} (I : StepsOf o) (answers : N → Answers
 
     -- ---- what is taken stands there
 
-    module _ {p q : Option (Part K R N)} {t : Taken R N} where
+    module _ {p q : Option (Part K R N)} {t : TakenNeighbours R N} where
       condition_stands : {a b : Name} {c m n : Counts} → ◌≡◌ {A = Option (Name × Name)} (Some (codes "then", codes "else")) (Some (a, b)) → IsNeighbour I answers ms p a P c m → IsNeighbour I answers ms q b P m n
           → IsNode p t.cases.then_schema × IsNode q t.cases.else_schema → TakenStands I answers ms shape.If P t
       condition_stands {c = c} {m} {n} e h k taken =
@@ -393,7 +393,7 @@ module _ {K R N : Type 0} {o : Kit K R} (I : StepsOf o) (answers : N → Answers
       both_stand_taken x e h k taken = absurd (true≢false (sym (ap is_some e)))
 
 module _ {K R N : Type 0} {o : Kit K R} {I : StepsOf o} {answers : N → Answers} {ms : Members} {P : Path} where
-  pub takes_nothing : {x : Shape K R} {a : Counts} {t : Taken R N} → takes_of x ≡ None → IsTaken I answers ms x P a a t
+  pub takes_nothing : {x : Shape K R} {a : Counts} {t : TakenNeighbours R N} → takes_of x ≡ None → IsTaken I answers ms x P a a t
   takes_nothing {x} {a} none = record {
     stands = record {
       cases = λ is. absurd (true≢false (sym (ap is_some (if_takes I answers x is)) ∙ ap is_some none));
@@ -404,7 +404,7 @@ module _ {K R N : Type 0} {o : Kit K R} {I : StepsOf o} {answers : N → Answers
   }
 
   module _ (x : Shape K R) {a b : Name} (e : takes_of x ≡ Some (a, b)) {p q : Option (Part K R N)} {c m n z : Counts} (h : IsNeighbour I answers ms p a P c m) (k : IsNeighbour I answers ms q b P m n) where
-    pub both_taken : {t : Taken R N} {known : Known} → known ≡ known_of ms → TakenBy o.answers known x p q t → z ≡ count_asks (asks_taken o.costs known x q) n → IsTaken I answers ms x P c z t
+    pub both_taken : {t : TakenNeighbours R N} {known : Known} → known ≡ known_of ms → TakenBy o.answers known x p q t → z ≡ count_asks (asks_taken o.costs known x q) n → IsTaken I answers ms x P c z t
     both_taken {t} same taken asked = record {
       stands = both_stand_taken I answers ms P x e h k (subst (λ w. TakenBy o.answers w x p q t) same taken);
       clean = ap (λ t. all_malformed I ms P (rows_taken ms t)) e ∙ flat_map-append (wrong I ms P) (rows_at a ms) (rows_at b ms) ∙ (λ i. h.clean i ++ k.clean i);

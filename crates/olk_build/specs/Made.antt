@@ -13,7 +13,7 @@ use Rattle.olk_build.specs.Forms.{IsFormOfAllOf, IsFormOfAnyOf, IsFormOfOneOf, I
 use Rattle.olk_build.specs.Forms.{IsDependentRequired, IsDependentSchemas, IsPropertyNames, IsPropertyNamesFalse, IsPropertyDependencies}
 use Rattle.serde_json.specs.{Data.Data, View.view}
 use Rattle.olk_tree.specs.{Answers.Answers, declared.node.KeywordOver.KeywordOver}
-use Rattle.olk_build.specs.{Standing.StandAt, declared.part.Taken.Taken}
+use Rattle.olk_build.specs.{Standing.StandAt, declared.part.TakenNeighbours.TakenNeighbours}
 use Rattle.olk_build.specs.declared.shape.Shape.TheVariants as shape
 use Rattle.olk_tree.specs.declared.node.KeywordOver.TheVariants as keyword
 use Rattle.olk_tree.specs.Steps.{StepsOf}
@@ -54,7 +54,7 @@ module _ {K R N : Type 0} {o : Kit K R} (I : StepsOf o) (answers : N → Answers
   MakesPropertyDependencies x L ns k = (m : Name × Data) → IsShape o m.0 m.1 x → StandAt I answers (reads_of x) ns m.1 L
       → IsPropertyDependencies L (map (λ e. e.0) (members m.1)) (map (λ e. map (λ c. c.0) (members e.1)) (members m.1)) k
 
-  module _ (L : Path) (ns : List N) (t : Taken R N) (P : Path) (p : Planned) where
+  module _ (L : Path) (ns : List N) (t : TakenNeighbours R N) (P : Path) (p : Planned) where
     -- `additionalProperties` over what was taken
     abbrev pub MakesOthers : Bool → KeywordOver K R N → Type 0
     MakesOthers rest k = IsAdditionalProperties P L rest (option_map (λ m. length m.names) t.beside.properties) (option_map (λ x. length x.patterns.items) t.beside.patterns) p.fused_one k
@@ -95,10 +95,10 @@ module _ {K R N : Type 0} {o : Kit K R} (I : StepsOf o) (answers : N → Answers
     MakesNone shape.Unread = ⊤
     MakesNone x = ⊥
 
-    abbrev pub Makes : Shape K R → Option (KeywordOver K R N) → Type 0
-    Makes x None = MakesNone x
-    Makes x (Some k) = MakesForm x k
+    abbrev pub MakesValidator : Shape K R → Option (KeywordOver K R N) → Type 0
+    MakesValidator x None = MakesNone x
+    MakesValidator x (Some k) = MakesForm x k
 
   -- what is made of a part of this shape
-  abbrev pub IsMade : Shape K R → Path → List N → Taken R N → Path → Planned → Option (KeywordOver K R N) → Type 0
-  IsMade x L ns t P p r = Makes L ns t P p x r
+  abbrev pub IsMade : Shape K R → Path → List N → TakenNeighbours R N → Path → Planned → Option (KeywordOver K R N) → Type 0
+  IsMade x L ns t P p r = MakesValidator L ns t P p x r

@@ -6,13 +6,13 @@ use Rattle.olk_spec.specs.Names.{Name, Path, ◌//◌, lookup_name}
 use Rattle.olk_base.specs.Kit.{Kit}
 use Rattle.olk_meaning.specs.Plans.{Planned, plan_of, head, claims}
 use Rattle.olk_meaning.specs.Members.{member_child, member_standing, StandsAlone, StandsByItself}
-use Rattle.olk_build.specs.Standing.{which, all_malformed, show, all_formed, stand, Holds, Covers, StandAt, is_taken, is_if_shape, is_restriction_shape, RestStands, CasesStand, BesideStands}
+use Rattle.olk_build.specs.Standing.{which, all_malformed, show, all_formed, stand, HoldsMember, Covers, StandAt, is_taken, is_if_shape, is_restriction_shape, RestStands, CasesStand, BesideStands}
 use Rattle.olk_meaning.specs.Conditions.{is_condition, known_of}
 use Rattle.olk_build.specs.Reading.{reads_of, IsShape, Fits}
 use Rattle.olk_build.specs.declared.shape.Shape.{Shape}
 use Rattle.olk_spec.specs.{Schemas.listed, Malformed.has_repeat}
 use Rattle.olk_tree.specs.{declared.node.KeywordOver.KeywordOver, Answers.Answers}
-use Rattle.olk_build.specs.{Chooser.IsChosen, declared.part.Cases.Cases, declared.part.Beside.Beside, declared.part.Taken.Taken}
+use Rattle.olk_build.specs.{Chooser.IsChosen, declared.part.Cases.Cases, declared.part.Beside.Beside, declared.part.TakenNeighbours.TakenNeighbours}
 use Rattle.olk_tree.specs.Steps.{StandsBy, StepsOf}
 
 module _ {K R N : Type 0} {o : Kit K R} (I : StepsOf o) (answers : N → Answers) where
@@ -30,7 +30,7 @@ module _ {K R N : Type 0} {o : Kit K R} (I : StepsOf o) (answers : N → Answers
 
     -- the same for one member and no neighbours
     pub record KeywordMeans (m : Name × Data) (P : Path) : Type 0 where
-      pub holds : Holds I answers ms ks m (which o ms m) P
+      pub holds : HoldsMember I answers ms ks m (which o ms m) P
       pub shows : (u : Bool) → StandsAlone I.steps u ms m (which o ms m) → (v : Data) (Q : Path) → show I answers ms ks u v Q ≡ member_child I.steps ms m (which o ms m) u v P Q
       pub formed : all_formed I answers ms ks ≡ true
       pub forms : StandsByItself I.steps ms (which o ms m) → stand I answers ms ks ≡ member_standing I.steps ms m (which o ms m) P
@@ -58,7 +58,7 @@ module _ {K R N : Type 0} {o : Kit K R} (I : StepsOf o) (answers : N → Answers
       → KeywordsMean ms ks (claims (head p) (listed ms) (codes "additionalProperties", d)) ((codes "additionalProperties", d) ∷ []) P
 
   -- keywords that are made of a part that stays mean what its member claims, in each object at P that has this plan; `if` and `additionalProperties` take what was taken for them
-  abbrev pub MakesPart : Shape K R → Path → List N → Taken R N → Path → Planned → List (KeywordOver K R N) → Type 0
+  abbrev pub MakesPart : Shape K R → Path → List N → TakenNeighbours R N → Path → Planned → List (KeywordOver K R N) → Type 0
   MakesPart x L ns t P p ks = (ms : Members) (m : Name × Data) → L ≡ P // m.0 → IsShape o m.0 m.1 x → Fits o (known_of ms) x → StandAt I answers (reads_of x) ns m.1 L
       → (is_if_shape x ≡ true → CasesStand I answers t.cases ms P) → (is_restriction_shape x ≡ true → BesideStands I answers (known_of ms) t.beside ms P)
       → has_repeat (map (λ m. m.0) (listed ms)) ≡ false → lookup_name m.0 (listed ms) ≡ Some m.1 → p ≡ plan_of ms → is_taken p m.0 ≡ false

@@ -71,7 +71,7 @@ module _ {K R N : Type 0} {o : Kit K R} (I : StepsOf o) (answers : N → Answers
     stand = flat_map (λ k. validator_forms o (λ n. (answers n).forms) k) ks
 
     -- it is what one member means; what is asked is bounded where `additionalProperties` doesn't take the keyword over
-    pub record Holds (m : Name × Data) (w : Keyword) (P : Path) : Type 0 where
+    pub record HoldsMember (m : Name × Data) (w : Keyword) (P : Path) : Type 0 where
       pub verdict : (u : Bool) (v : Data) → means v u ≡ member_accepts I.steps ms m w u v
       pub asks_within : (is_restricted ms && tells_members m.0) ≡ false → (u : Bool) (v : Data) → ask v u ≤ member_asks I.steps ms m w u v
       pub faults : (u : Bool) (v : Data) (Q : Path) → find u v Q ∼ member_report I.steps ms m w u v P Q
@@ -104,11 +104,11 @@ IsLast xs None = xs ≡ []
 IsLast {X} xs (Some x) = (before : List X) × (xs ≡ before ++ x ∷ [])
 
 -- something, or nothing, for the schema that is there, or for none
-abbrev pub Fills : {X : Type 0} → (X → Data → Type 0) → Option X → Option Data → Type 0
-Fills Stands None None = ⊤
-Fills Stands None (Some d) = ⊥
-Fills Stands (Some x) None = ⊥
-Fills Stands (Some x) (Some d) = Stands x d
+abbrev pub FillsPlace : {X : Type 0} → (X → Data → Type 0) → Option X → Option Data → Type 0
+FillsPlace Stands None None = ⊤
+FillsPlace Stands None (Some d) = ⊥
+FillsPlace Stands (Some x) None = ⊥
+FillsPlace Stands (Some x) (Some d) = Stands x d
 
 module _ {K R N : Type 0} {o : Kit K R} (I : StepsOf o) (answers : N → Answers) where
   -- nodes for the places that are read in a value at L
@@ -159,8 +159,8 @@ module _ {K R N : Type 0} {o : Kit K R} (I : StepsOf o) (answers : N → Answers
 
   -- in the schema object with the members ms at P, for what stands at `then` and at `else`
   abbrev pub CasesStand : Cases N → Members → Path → Type 0
-  CasesStand cs ms P = Fills (λ n d. StandsBy I answers n d (P // codes "then")) cs.then_schema (lookup_name (codes "then") (listed ms)) × Fills (λ n d. StandsBy I answers n d (P // codes "else")) cs.else_schema (lookup_name (codes "else") (listed ms))
+  CasesStand cs ms P = FillsPlace (λ n d. StandsBy I answers n d (P // codes "then")) cs.then_schema (lookup_name (codes "then") (listed ms)) × FillsPlace (λ n d. StandsBy I answers n d (P // codes "else")) cs.else_schema (lookup_name (codes "else") (listed ms))
 
   -- and for what stands at `properties` and at `patternProperties`
   abbrev pub BesideStands : Known → Beside R N → Members → Path → Type 0
-  BesideStands c b ms P = Fills (λ x. DeclaredStand x (P // codes "properties")) b.properties (lookup_name (codes "properties") (listed ms)) × Fills (λ x. PatternsStand c x (P // codes "patternProperties")) b.patterns (lookup_name (codes "patternProperties") (listed ms))
+  BesideStands c b ms P = FillsPlace (λ x. DeclaredStand x (P // codes "properties")) b.properties (lookup_name (codes "properties") (listed ms)) × FillsPlace (λ x. PatternsStand c x (P // codes "patternProperties")) b.patterns (lookup_name (codes "patternProperties") (listed ms))

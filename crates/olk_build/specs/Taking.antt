@@ -10,14 +10,14 @@ use Rattle.olk_build.specs.Refusing.{Spends, Refuses}
 use Rattle.olk_build.specs.Reading.{reads_of, IsShape, Fits}
 use Rattle.olk_build.specs.declared.shape.Shape.{Shape}
 use Rattle.olk_tree.specs.Tables.{patterns_of, IsTableOf, how_many_cost}
-use Rattle.olk_build.specs.Standing.{all_malformed, StandAt, PartStands, Fills, IsLast, is_taken, is_if_shape, is_restriction_shape, CasesStand, BesideStands}
+use Rattle.olk_build.specs.Standing.{all_malformed, StandAt, PartStands, FillsPlace, IsLast, is_taken, is_if_shape, is_restriction_shape, CasesStand, BesideStands}
 use Rattle.olk_build.specs.Building.{IsMember, all_cost, SpendsBefore}
 use Rattle.std.specs.{declared.alloc.Global.Global, Option.IfSome}
 use Rattle.olk_spec.specs.{Schemas.listed, Malformed.has_repeat, World.Says}
 use Rattle.olk_base.specs.{Count.Counts, Kit.Kit, declared.pattern.CompiledPattern.CompiledPattern}
 use Rattle.olk_tree.specs.{Answers.Answers, declared.node.KeywordOver.KeywordOver}
 use Rattle.olk_build.specs.{Making.IsMadeOf, declared.part.Part.Part, declared.part.DeclaredNodes.DeclaredNodes, declared.part.Patterns.Patterns}
-use Rattle.olk_build.specs.declared.part.Taken.{Taken}
+use Rattle.olk_build.specs.declared.part.TakenNeighbours.{TakenNeighbours}
 use Rattle.olk_build.specs.declared.shape.Shape.TheVariants as shape
 use Rattle.olk_tree.specs.Steps.{StepsOf}
 
@@ -73,7 +73,7 @@ module _ {K R N : Type 0} (says : R → Name → Says) (c : Known) where
   IsPatterns (Some p) t = PatternsBy p.shape p t
 
   -- what a keyword of this shape takes of two parts
-  abbrev pub TakenBy : Shape K R → Option (Part K R N) → Option (Part K R N) → Taken R N → Type 0
+  abbrev pub TakenBy : Shape K R → Option (Part K R N) → Option (Part K R N) → TakenNeighbours R N → Type 0
   TakenBy shape.If first second t = IsNode first t.cases.then_schema × IsNode second t.cases.else_schema
   TakenBy x first second t = IsDeclared first t.beside.properties × IsPatterns second t.beside.patterns
 
@@ -104,7 +104,7 @@ module _ {K R : Type 0} {o : Kit K R} (I : StepsOf o) (ms : Members) where
 module _ {K R N : Type 0} {o : Kit K R} (I : StepsOf o) (answers : N → Answers) (ms : Members) where
   -- a part stands for the member of the name k, and there is none where there is no such member
   abbrev pub PartFills : Option (Part K R N) → Name → Path → Type 0
-  PartFills p k P = Fills (λ x d. PartStands I answers (known_of ms) x (k, d) P) p (lookup_name k (listed ms))
+  PartFills p k P = FillsPlace (λ x d. PartStands I answers (known_of ms) x (k, d) P) p (lookup_name k (listed ms))
 
   pub record IsNeighbour (p : Option (Part K R N)) (k : Name) (P : Path) (old new : Counts) : Type 0 where
     pub stands : PartFills p k P
@@ -112,23 +112,23 @@ module _ {K R N : Type 0} {o : Kit K R} (I : StepsOf o) (answers : N → Answers
     pub spends : SpendsBefore I ms (rows_at k ms) old new
 
   -- what the keyword of this shape takes stands for the members that are there
-  pub record TakenStands (x : Shape K R) (P : Path) (t : Taken R N) : Type 0 where
+  pub record TakenStands (x : Shape K R) (P : Path) (t : TakenNeighbours R N) : Type 0 where
     pub cases : is_if_shape x ≡ true → is_condition ms ≡ true → CasesStand I answers t.cases ms P
     pub beside : is_restriction_shape x ≡ true → BesideStands I answers (known_of ms) t.beside ms P
 
-  pub record IsTaken (x : Shape K R) (P : Path) (old new : Counts) (t : Taken R N) : Type 0 where
+  pub record IsTaken (x : Shape K R) (P : Path) (old new : Counts) (t : TakenNeighbours R N) : Type 0 where
     pub stands : TakenStands x P t
     pub clean : all_malformed I ms P (rows_taken ms (takes_of x)) ≡ []
     pub spends : Spends old new (all_cost I ms (rows_taken ms (takes_of x)))
 
 module _ {K R N : Type 0} {o : Kit K R} (I : StepsOf o) (answers : N → Answers) where
   -- what is made of a shape and nodes at L is made of the part's member, in each object at P that has this plan and where what was taken stands for the neighbours
-  abbrev pub MakesTaking : Shape K R → Path → List N → Taken R N → Path → Planned → Option (KeywordOver K R N) → Type 0
+  abbrev pub MakesTaking : Shape K R → Path → List N → TakenNeighbours R N → Path → Planned → Option (KeywordOver K R N) → Type 0
   MakesTaking x L ns t P q r = (ms : Members) (m : Name × Data) → L ≡ P // m.0 → IsShape o m.0 m.1 x → Fits o (known_of ms) x → StandAt I answers (reads_of x) ns m.1 L → TakenStands I answers ms x P t
       → has_repeat (map (λ m. m.0) (listed ms)) ≡ false → IsMember ms m → q ≡ plan_of ms → is_taken q m.0 ≡ false → IsMadeOf I answers ms m P r
 
   -- it stands behind the keywords before it
-  pub record AppendsTaking (x : Shape K R) (L : Path) (ns : List N) (t : Taken R N) (P : Path) (q : Planned) (old new : List (KeywordOver K R N)) : Type 0 where
+  pub record AppendsTaking (x : Shape K R) (L : Path) (ns : List N) (t : TakenNeighbours R N) (P : Path) (q : Planned) (old new : List (KeywordOver K R N)) : Type 0 where
     pub made : Option (KeywordOver K R N)
     pub behind : new ≡ old ++ option_to_list made
     pub makes : MakesTaking x L ns t P q made
@@ -137,7 +137,7 @@ module _ {K R N : Type 0} {o : Kit K R} (I : StepsOf o) (answers : N → Answers
   pub record AppendsAlone (x : Shape K R) (L : Path) (ns : List N) (P : Path) (q : Planned) (old new : List (KeywordOver K R N)) : Type 0 where
     pub made : Option (KeywordOver K R N)
     pub behind : new ≡ old ++ option_to_list made
-    pub makes : takes_of x ≡ None → (t : Taken R N) → MakesTaking x L ns t P q made
+    pub makes : takes_of x ≡ None → (t : TakenNeighbours R N) → MakesTaking x L ns t P q made
 
 -- ---- the member m of the schema object with the members ms at P, with the members that it takes
 

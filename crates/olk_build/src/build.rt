@@ -16,7 +16,7 @@ ghost use Rattle.olk_build.specs.Chooser.{has_no_validator, HasForm};
 ghost use Rattle.olk_spec.specs.Vocabulary.{keyword_named};
 
 use crate::context::{Context, Makers};
-use crate::part::{Part, Taken};
+use crate::part::{Part, TakenNeighbours};
 use crate::reading::read_keyword;
 use crate::refusal::{Stop, refuse};
 use crate::shape::{ReadPlaces, Shape};
@@ -110,7 +110,7 @@ fn compile_taken<'a, L: MakeLeaf, M: MakeRegex, N: BuiltNode<L::Leaf, M::Engine>
     place: &Location,
     members: &'a Map<String, Value>,
     shape: &Shape<L::Leaf, M::Engine>,
-) -> Result<Taken<M::Engine, N>, Stop<'a>>
+) -> Result<TakenNeighbours<M::Engine, N>, Stop<'a>>
     ensures built { IfOk result (IsTaken (layer L.Leaf.Leaf M.Engine.RegexEngine) N.answers
         (members_view members.now.entries) shape.now place.now meter.old meter.new) }
     ensures refused { IfErr result (RefusesTaken (layer L.Leaf.Leaf M.Engine.RegexEngine)

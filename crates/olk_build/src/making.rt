@@ -6,7 +6,7 @@ ghost use Rattle.olk_meaning.specs.Plans.{planned};
 ghost use Rattle.olk_build.specs.Making.{MakesPart};
 ghost use Rattle.olk_build.specs.Made.{IsMade};
 
-use crate::part::{Part, Taken};
+use crate::part::{Part, TakenNeighbours};
 use crate::shape::Shape;
 use crate::{
     additional_properties, all_of, any_of, dependencies, if_, not, one_of, pattern_properties,
@@ -30,7 +30,7 @@ pub(crate) fn make_keyword<K: Leaf, R: RegexEngine, N: BuiltNode<K, R>>(
     alloc: Global,
     plan: Plan<'_>,
     place: &Location,
-    taken: &mut Taken<R, N>,
+    taken: &mut TakenNeighbours<R, N>,
     part: Part<K, R, N>,
 ) -> Result<Option<KeywordOver<K, R, N>>, AllocError>
     ensures makes { IfOk result (λ o. (I : StepsOf (kit K.Leaf R.RegexEngine))

@@ -100,7 +100,7 @@ impl<R, N> Beside<R, N> {
 /// `additionalProperties`, where it restricts other members, from `properties` and
 /// `patternProperties`.
 #[derive(Drop)]
-pub struct Taken<R, N> {
+pub struct TakenNeighbours<R, N> {
     pub cases: Cases<N>,
     pub beside: Beside<R, N>,
 }

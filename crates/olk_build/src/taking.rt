@@ -9,7 +9,7 @@ ghost use Rattle.olk_build.specs.Standing.{is_taken};
 ghost use Rattle.olk_build.specs.Taking.{takes_of, IsNode, IsDeclared, IsPatterns, asks_of, asks_taken, TakenBy, MakesTaking, AppendsTaking, AppendsAlone};
 
 use crate::making::make_keyword;
-use crate::part::{Beside, Cases, DeclaredNodes, Part, Patterns, Taken};
+use crate::part::{Beside, Cases, DeclaredNodes, Part, Patterns, TakenNeighbours};
 use crate::pattern_properties::with_nodes;
 use crate::shape::Shape;
 use olk_base::{CompiledPattern, Leaf, Meter, RegexEngine, append};
@@ -162,7 +162,7 @@ pub fn take<K: Drop, R: RegexEngine, N: Drop>(
     shape: &Shape<K, R>,
     first: Option<Part<K, R, N>>,
     second: Option<Part<K, R, N>>,
-) -> Result<Taken<R, N>, AllocError>
+) -> Result<TakenNeighbours<R, N>, AllocError>
     ensures taken { IfOk result (TakenBy R.answers (known neighbours.entry)
         shape.now first second) }
     ensures asked { OnOk result (meter.new ≡ count_asks
@@ -171,14 +171,14 @@ pub fn take<K: Drop, R: RegexEngine, N: Drop>(
         (asks_taken R.costs (known neighbours.entry) shape.now second) meter.old meter.new) }
 {
     match shape {
-        Shape::If => Ok(Taken {
+        Shape::If => Ok(TakenNeighbours {
             cases: Cases {
                 then_schema: node_of(first),
                 else_schema: node_of(second),
             },
             beside: Beside::none(),
         }),
-        _ => Ok(Taken {
+        _ => Ok(TakenNeighbours {
             cases: Cases::none(),
             beside: Beside {
                 properties: declared_of(first),
@@ -195,7 +195,7 @@ pub fn make_taking<K: Leaf, R: RegexEngine, N: BuiltNode<K, R>>(
     plan: Plan<'_>,
     place: &Location,
     part: Part<K, R, N>,
-    mut taken: Taken<R, N>,
+    mut taken: TakenNeighbours<R, N>,
 ) -> Result<Option<KeywordOver<K, R, N>>, AllocError>
     ensures { IfOk result (λ r. (I : StepsOf (kit K.Leaf R.RegexEngine))
         → MakesTaking I N.answers part.shape
@@ -213,7 +213,7 @@ pub fn append_taking<K: Leaf, R: RegexEngine, N: BuiltNode<K, R>>(
     plan: Plan<'_>,
     place: &Location,
     part: Part<K, R, N>,
-    taken: Taken<R, N>,
+    taken: TakenNeighbours<R, N>,
     keywords: &mut Vec<KeywordOver<K, R, N>>,
 ) -> Result<(), AllocError>
     ensures { OnOk result ((I : StepsOf (kit K.Leaf R.RegexEngine))
@@ -228,8 +228,8 @@ pub fn append_taking<K: Leaf, R: RegexEngine, N: BuiltNode<K, R>>(
 }
 
 /// What is taken where nothing is.
-pub fn take_nothing<R, N>() -> Taken<R, N> {
-    Taken {
+pub fn take_nothing<R, N>() -> TakenNeighbours<R, N> {
+    TakenNeighbours {
         cases: Cases::none(),
         beside: Beside::none(),
     }

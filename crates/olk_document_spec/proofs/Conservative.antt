@@ -24,7 +24,7 @@ use Rattle.olk_document_spec.specs.Documents.{references, targets}
 use Rattle.olk_document_spec.specs.Plain.{is_plain}
 use Rattle.olk_document_spec.specs.Malformed.{member_malformed, document_malformed, document_malformations_step, malformations_under, malformed_targets}
 use Rattle.olk_document_spec.specs.Laws.{Conservative, Same_malformations}
-use Rattle.olk_document_spec.proofs.Alike.{both_true, answer_alike}
+use Rattle.olk_document_spec.proofs.Alike.{both_true, plain_alike}
 
 and_true : (a : Bool) → (a && true) ≡ a
 and_true true = refl
@@ -117,7 +117,7 @@ module _ (W : World) (u : Bool) (T : Targets) where
   -- the law
   pub same_under : (S : Data) → is_plain S ≡ true → meaning_under W u T S ≡ meaning W u S
   unfolding meaning_under meaning
-  same_under S e = answer_alike (document_step W u T) (meaning_step W u) (λ b. refl) (λ d. refl) step_alike S e
+  same_under S e = plain_alike (document_step W u T) (meaning_step W u) (λ b. refl) (λ d. refl) step_alike S e
 
 pub conservative : Conservative
 conservative W u D e = same_under W u (targets W u D (references D)) D e
@@ -138,7 +138,7 @@ module _ (W : World) (D : Data) (M : Text → List Fault) where
 
   malformed_same : (S : Data) → is_plain S ≡ true → malformations_under W D M S ≡ malformations_at W S
   unfolding malformations_under malformations_at
-  malformed_same S e = answer_alike (document_malformations_step W D M) (malformations_step W) (λ b. refl) (λ d. refl) malformed_alike S e
+  malformed_same S e = plain_alike (document_malformations_step W D M) (malformations_step W) (λ b. refl) (λ d. refl) malformed_alike S e
 
 pub same_malformations : Same_malformations
 same_malformations W D e = λ i. malformed_same W D (malformed_targets W D (references D)) D e i []

@@ -1,6 +1,9 @@
 pub mod Alike
 pub mod Conservative
+pub mod Applied
 pub mod Verdicts
+pub mod Tree_verdicts
+pub mod Following
 pub mod Computed
 pub mod Rows_arrays
 pub mod Rows_bounds

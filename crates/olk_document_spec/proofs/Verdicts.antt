@@ -1,28 +1,27 @@
 -- A document accepts a value exactly where it finds no fault in it.
-use Rattle.std.specs.Prelude.{◌≡◌, ℕ, zero, suc, Bool, true, ◌&&◌, List, [], ◌∷◌, ◌++◌, map}
-use Rattle.std.specs.List.{zip}
+use Rattle.std.specs.Prelude.{◌≡◌, ⊤, ℕ, zero, suc, Bool, true, ◌&&◌, List, ◌++◌}
 use Rattle.std.proofs.Common.{refl, sym, ◌∙◌}
 use Rattle.serde_json.specs.Data.{Data}
 use Rattle.olk_spec.specs.Names.{Text, Name, Path, is_empty, ◌//◌}
 use Rattle.olk_spec.specs.World.{World}
 use Rattle.olk_spec.specs.Faults.{Leaf}
-use Rattle.olk_spec.specs.Schemas.{Schema, truth, keywords, Keywords, Part, branches, as_text}
-use Rattle.olk_spec.specs.Meanings.{Meaning, Subschema, Asked, asked, holds}
-use Rattle.olk_spec.proofs.Each.{Each, Each-any, Each-implies, Each-map, Each-flat_map}
-use Rattle.olk_spec.proofs.Induction.{GoodEntry, GoodPart, GoodSchema, branches_good, good_answer}
+use Rattle.olk_spec.specs.Malformed.{items_of_array}
+use Rattle.olk_spec.specs.Schemas.{Schema, truth, keywords, Keywords, Part}
+use Rattle.olk_spec.specs.Meanings.{Meaning, holds}
+use Rattle.olk_spec.proofs.Applied.{GoodAsked}
+use Rattle.olk_spec.proofs.Each.{Each, Each-any, Each-implies, Each-map}
+use Rattle.olk_spec.proofs.Induction.{GoodPart, GoodSchema, good_answer}
 use Rattle.olk_spec.proofs.Verdicts.{is_empty-append, all_empty, none_if, keyword_row, Agrees}
-use Rattle.olk_document_spec.specs.Keywords.{Document_keyword, prefix_items, items, contains, reference, document_keyword, beneath, Target, Targets}
-use Rattle.olk_document_spec.specs.Applied.{items_from, prefix_length, applied_to_items, referred, is_lacking, contains_text, document_wanted, document_own, document_accepts, document_report}
+use Rattle.olk_document_spec.specs.Keywords.{Document_keyword, contains, document_keyword, beneath, Target, Targets}
+use Rattle.olk_document_spec.specs.Applied.{applied_to_items, referred, is_lacking, contains_text, document_wanted, document_own, document_accepts, document_report}
 use Rattle.olk_document_spec.specs.Steps.{document_step, meaning_under}
 use Rattle.olk_document_spec.specs.Documents.{place_named, references, targets}
 use Rattle.olk_document_spec.specs.Laws.{Verdict_of_reports}
+use Rattle.olk_document_spec.proofs.Applied.{applied_to_items_good, referred_good}
 
 -- the verdict of a meaning is that of its reports
 abbrev IsOne : Meaning → Type 0
 IsOne m = (v : Data) (P Q : Path) → m.accepts v ≡ is_empty (m.report v P Q)
-
-abbrev AskedIsOne : Asked → Type 0
-AskedIsOne a = IsOne a.sub.answer
 
 abbrev TargetIsOne : Target → Type 0
 TargetIsOne t = IsOne t.meaning
@@ -32,23 +31,6 @@ both_empty a b xs ys e f = (λ i. e i && f i) ∙ sym (is_empty-append xs ys)
 
 module _ (W : World) (u : Bool) (T : Targets) (lawful : (t : Text) → Each TargetIsOne (T t)) where
   module _ (S : Keywords Meaning) (k : Name) (p : Part Meaning) (h : GoodPart (Agrees W u) p) (v : Data) (P Q : Path) where
-    pairs_good : (bs : List (Name × Subschema)) (is : List (Name × Data)) → Each (GoodEntry (Agrees W u)) bs → Each AskedIsOne (map (λ e. asked e.0.1 e.1.1 (k ∷ e.0.0 ∷ []) (e.1.0 ∷ [])) (zip bs is))
-    pairs_good [] is g = tt
-    pairs_good (b ∷ bs) [] g = tt
-    pairs_good (b ∷ bs) (i ∷ is) g = (g.0, pairs_good bs is g.1)
-
-    items_good : (is : List (Name × Data)) → Each AskedIsOne (map (λ e. asked p.whole e.1 (k ∷ []) (e.0 ∷ [])) is)
-    items_good is = Each-map AskedIsOne (λ e. asked p.whole e.1 (k ∷ []) (e.0 ∷ [])) is (Each-any (λ e. AskedIsOne (asked p.whole e.1 (k ∷ []) (e.0 ∷ []))) (λ e. h.0) is)
-
-    applied_good : (w : Document_keyword) → Each AskedIsOne (applied_to_items T S k p v w)
-    applied_good prefix_items = pairs_good (branches p) (items_from 0 v) (branches_good (Agrees W u) p h)
-    applied_good items = items_good (items_from (prefix_length S) v)
-    applied_good _ = tt
-
-    referred_good : (w : Document_keyword) → Each TargetIsOne (referred T S k p v w)
-    referred_good reference = Each-flat_map TargetIsOne T (as_text p.whole.schema) (Each-any (λ t. Each TargetIsOne (T t)) lawful (as_text p.whole.schema))
-    referred_good _ = tt
-
     own_row : (w : Document_keyword) → document_wanted T S k p v w ≡ is_empty (document_own T S k p v P Q w)
     own_row contains = none_if (is_lacking T S k p v) (Leaf k (contains_text v)) v (P // k) Q
     own_row _ = refl
@@ -56,8 +38,9 @@ module _ (W : World) (u : Bool) (T : Targets) (lawful : (t : Text) → Each Targ
     document_row : (w : Document_keyword) → document_accepts T S k p v w ≡ is_empty (document_report T S k p v P Q w)
     document_row w = both_empty _ _ _ _
         (both_empty _ _ _ _
-        (all_empty (λ a. holds a.sub a.value) (λ a. a.sub.answer.report a.value _ _) (applied_to_items T S k p v w) (Each-implies AskedIsOne _ (λ a g. g a.value _ _) (applied_to_items T S k p v w) (applied_good w)))
-        (all_empty (λ t. t.meaning.accepts v) (λ t. t.meaning.report v t.place Q) (referred T S k p v w) (Each-implies TargetIsOne _ (λ t g. g v t.place Q) (referred T S k p v w) (referred_good w))))
+        (all_empty (λ a. holds a.sub a.value) (λ a. a.sub.answer.report a.value _ _) (applied_to_items T S k p v w)
+        (Each-implies (GoodAsked (Agrees W u) (λ d. ⊤)) _ (λ a g. g.0 a.value _ _) (applied_to_items T S k p v w) (applied_to_items_good T S k p v (Agrees W u) (λ d. ⊤) h (Each-any (λ d. ⊤) (λ d. tt) (items_of_array v)) w)))
+        (all_empty (λ t. t.meaning.accepts v) (λ t. t.meaning.report v t.place Q) (referred T S k p v w) (Each-implies TargetIsOne _ (λ t g. g v t.place Q) (referred T S k p v w) (referred_good T S k p v TargetIsOne lawful w))))
         (own_row w)
 
   keep : (S : Schema Meaning) → GoodSchema (Agrees W u) S → IsOne (document_step W u T S)

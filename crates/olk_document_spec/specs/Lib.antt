@@ -4,6 +4,7 @@ pub mod Steps
 pub mod Documents
 pub mod Malformed
 pub mod Plain
+pub mod Following
 pub mod Laws
 pub mod Answers
 pub mod Rows_arrays

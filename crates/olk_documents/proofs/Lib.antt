@@ -4,3 +4,4 @@ pub mod Segments
 pub mod Counted
 pub mod Layers
 pub mod Outcomes
+pub mod Trees

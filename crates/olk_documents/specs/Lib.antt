@@ -3,3 +3,4 @@ pub mod Contains
 pub mod References
 pub mod Nodes
 pub mod Outcomes
+pub mod Wanted

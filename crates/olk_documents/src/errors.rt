@@ -134,7 +134,7 @@ impl<'a, N: Walk<'a>> Walk<'a> for Items<N> {
 }
 
 /// What is told where too few items are contained, or too many.
-fn text_of_contains(alloc: Global, node: Node<'_>) -> Result<String, AllocError>
+pub(crate) fn text_of_contains(alloc: Global, node: Node<'_>) -> Result<String, AllocError>
     ensures { IfOk result (λ t. string_bytes t ≡ contains_text (data_of node.entry)) }
 {
     let shown = shown_text(alloc, node)?;

@@ -1,12 +1,13 @@
 //! Places of a document's schema: the keywords of the layer over nodes, and beside them those of
 //! arrays and references.
 //!
-//! Stands on `olk_errors` and `olk_document_spec`.
+//! Stands on `olk_errors`, `olk_evaluate` and `olk_document_spec`. Tested by `olk_document_tests`.
 #![tactic(auto)]
 
 pub mod arrays;
 pub mod contains;
 pub mod errors;
+pub mod evaluate;
 pub mod means;
 pub mod node;
 pub mod reference;

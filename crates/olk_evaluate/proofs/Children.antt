@@ -23,7 +23,7 @@ emptiness_of f (x ∷ xs) {n} len e = e ∙ grind (arith, nat_tests)
 
 -- ---- the tree of a result
 
-like_result : (P Q : Path) (b b' : Bool) (a : Option (List Name)) (es es' : List Described) (ts ts' : Trees)
+pub like_result : (P Q : Path) (b b' : Bool) (a : Option (List Name)) (es es' : List Described) (ts ts' : Trees)
     → b' ≡ b → AreTold es es' → AreLikeTrees ts ts' → IsLikeTree (result_node P Q b a es ts) (result_node P Q b' a es' ts')
 like_result P Q true true a es es' ts ts' valid own below = (refl, refl, refl, refl, own, below)
 like_result P Q true false a es es' ts ts' valid own below = cc
@@ -45,7 +45,7 @@ trees_wanted = map (λ w. w.0)
 abbrev pub all_wanted : List Wanted → Bool
 all_wanted = list_all (λ w. w.1)
 
-like_children : (ws : List Wanted) (ts : List Tree) → AreShown ws ts → AreLikeTrees (trees_from (trees_wanted ws)) (trees_from ts)
+pub like_children : (ws : List Wanted) (ts : List Tree) → AreShown ws ts → AreLikeTrees (trees_from (trees_wanted ws)) (trees_from ts)
 like_children [] [] h = tt
 like_children [] (t ∷ ts) h = absurd h
 like_children (w ∷ ws) [] h = absurd h
@@ -58,7 +58,7 @@ all_valid (w ∷ ws) [] h = absurd h
 all_valid (w ∷ ws) (t ∷ ts) h = λ i. h.0.verdict i && all_valid ws ts h.1 i
 
 -- what is like a tree is valid where the tree is
-all_wanted_valid : (ws : List Wanted) (ts : List Tree) → AreShown ws ts → list_all is_valid ts ≡ list_all is_valid (trees_wanted ws)
+pub all_wanted_valid : (ws : List Wanted) (ts : List Tree) → AreShown ws ts → list_all is_valid ts ≡ list_all is_valid (trees_wanted ws)
 all_wanted_valid [] [] h = refl
 all_wanted_valid [] (t ∷ ts) h = absurd h
 all_wanted_valid (w ∷ ws) [] h = absurd h

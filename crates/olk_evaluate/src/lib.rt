@@ -148,3 +148,4 @@ mod sides;
 mod walk;
 
 pub use node::show_body;
+pub use walk::{add_child, show_each};

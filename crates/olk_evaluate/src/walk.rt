@@ -11,8 +11,12 @@ use olk_reports::{EvaluationNode, EvaluationResult, InstancePath, PathText};
 use std::alloc::AllocError;
 
 /// One child more: what the node shows.
+///
+/// # Errors
+///
+/// Out of memory.
 #[inline(always)]
-pub(crate) fn add_child<'a, N: Located<'a>>(
+pub fn add_child<'a, N: Located<'a>>(
     schema: &'a N,
     node: Subject<'_, 'a>,
     ctx: &mut EvaluationContext,
@@ -47,7 +51,11 @@ pub(crate) fn add_child_at<'a>(
 }
 
 /// A child more for each of them.
-pub(crate) fn show_each<'a, N: Located<'a>>(
+///
+/// # Errors
+///
+/// Out of memory.
+pub fn show_each<'a, N: Located<'a>>(
     schemas: &'a Vec<N>,
     node: Subject<'_, 'a>,
     ctx: &mut EvaluationContext,

@@ -1,11 +1,14 @@
-//! Callers of the library: with the bench's leaves and matcher, and with a leaf and a matcher of
-//! their own.
+//! Callers of the library: the common case; with the bench's leaves and matcher; and with a leaf and
+//! a matcher of their own.
 //!
-//! Stands on `object_logic` and `olk_bench`. Tested by its file `stdout`.
+//! Stands on `object_logic`, `olk_vocabulary`, `olk_regexes` and `olk_bench`. Tested by its file
+//! `stdout`.
 #![tactic(auto)]
 
+mod common;
 mod own;
 
+use common::is_accepted;
 use object_logic::{
     AnnotationEntry, BuildError, Leaf, MakeLeaf, MakeRegex, Meter, RegexEngine, ValidationContext,
     ValidationError, Validator,
@@ -16,11 +19,15 @@ use serde_json::Value;
 use std::alloc::Global;
 use std::io::{self, ErrorKind};
 
+const PATTERN: &str = r#"{"properties":{"tag":{"pattern":"^[a-z]+$"}}}"#;
+
 const SCHEMA: &str = r#"{"properties":{"age":{"minimum":18}},"required":["name"]}"#;
 
 const OWN: &str = r#"{"properties":{"kind":{"word":"cat"}}}"#;
 
 fn main(rt: HostRuntime) -> io::Result<()> {
+    print_accepted(&rt, PATTERN, r#"{"tag":"spam"}"#)?;
+    print_accepted(&rt, PATTERN, r#"{"tag":"Spam"}"#)?;
     ask(&rt, &BenchLeaves, &BenchRegexes, SCHEMA, r#"{"age":7}"#)?;
     ask(
         &rt,
@@ -35,6 +42,21 @@ fn main(rt: HostRuntime) -> io::Result<()> {
 /// The JSON value of a text.
 fn parse(alloc: Global, text: &str) -> io::Result<Value> {
     Value::from_str(alloc, text).map_err(|_| io::Error::from(ErrorKind::InvalidData))
+}
+
+/// Prints whether a schema accepts a value.
+fn print_accepted(rt: &HostRuntime, schema: &str, value: &str) -> io::Result<()> {
+    let schema = parse(rt.alloc(), schema)?;
+    let value = parse(rt.alloc(), value)?;
+    print_verdict(rt, &schema, &value)
+}
+
+fn print_verdict(rt: &HostRuntime, schema: &Value, value: &Value) -> io::Result<()> {
+    match is_accepted(rt.alloc(), schema, value) {
+        Ok(accepted) => println!(rt; "accepted: {accepted}"),
+        Err(BuildError::Refused(error)) => print_error(rt, &error),
+        Err(BuildError::Memory(error)) => Err(error.into()),
+    }
 }
 
 /// Builds the validator of a schema, and asks it of an instance.

@@ -12,7 +12,7 @@ use Rattle.olk_spec.specs.Tree.{leaf_node, result, plain, erring, described}
 use Rattle.olk_spec.specs.Trees.{fuses_one, fuses_two, missing_child}
 use Rattle.olk_spec.proofs.Reading.{entry, place, lookup_listed, schema_of_read, entries_there}
 use Rattle.olk_meaning.specs.Members.{member_child, StandsAlone}
-use Rattle.olk_meaning.specs.Told.{IsTold, entries_told, schema_answers, branches_find, branches_shown, accepting_branches, any_told, shown_at, shown_declared, declared_told, names_told}
+use Rattle.olk_meaning.specs.Told.{IsKeywordTold, entries_told, schema_answers, branches_find, branches_shown, accepting_branches, any_told, shown_at, shown_declared, declared_told, names_told}
 use Rattle.olk_meaning.specs.Told.{negation_told, faults_told, accepting_count, one_told}
 use Rattle.olk_meaning.proofs.Facts.{at_entries, branch_entries, item_entries, list_any_under, sum_by-map, nothing_first, declared_accept, declared_ask, declared_find, required_accepts, required_asks}
 use Rattle.olk_meaning.proofs.Facts.{required_report, told_by_entries, asked_entries}
@@ -109,7 +109,7 @@ module _ {W : World} (I : Steps W) (ms : Members) (d : Data) where
   abbrev pub given : Rows
   given = numbered (items_of_array d)
 
-  pub properties_told : IsTold I ms (codes "properties", d) properties (declared_told I (members d))
+  pub properties_told : IsKeywordTold I ms (codes "properties", d) properties (declared_told I (members d))
   properties_told = record {
     verdict = declared_accept I ms d;
     asked = λ free. declared_ask I ms d;
@@ -118,7 +118,7 @@ module _ {W : World} (I : Steps W) (ms : Members) (d : Data) where
         ∙ ap (λ b. shown_declared I u v (P // codes "properties") Q (members d) (missing_child W u (read_members (I.means u) ms) v P Q b) ∷ []) alone.2;
   }
 
-  pub required_told : IsTold I ms (codes "required", d) required (names_told (texts d))
+  pub required_told : IsKeywordTold I ms (codes "required", d) required (names_told (texts d))
   required_told = record {
     verdict = required_accepts I ms d;
     asked = λ free. required_asks I ms d;
@@ -126,7 +126,7 @@ module _ {W : World} (I : Steps W) (ms : Members) (d : Data) where
     shown = λ u alone v P Q. required_child I u v ms P Q d alone;
   }
 
-  pub all_of_told : IsTold I ms (codes "allOf", d) all_of (entries_told (schema_answers I) (λ v. given))
+  pub all_of_told : IsKeywordTold I ms (codes "allOf", d) all_of (entries_told (schema_answers I) (λ v. given))
   all_of_told = told_by_entries I ms (codes "allOf", d) all_of (λ e. e.1) (λ e. e.0 ∷ []) (λ v. given) (λ u v. record {
     asked = asked_entries (I.means u) (codes "allOf") v given (branch_entries (I.means u) d);
     wants = refl;
@@ -153,7 +153,7 @@ module _ {W : World} (I : Steps W) (ms : Members) (d : Data) where
     none_accept = none_counted _ (read (I.means u) d).items ∙ ap (λ xs. is_empty (filter_once (λ s. holds s v) xs)) (item_entries (I.means u) d)
         ∙ none_under _ (λ e. place (I.means u) e.1) given
 
-  pub any_of_told : IsTold I ms (codes "anyOf", d) any_of (any_told I given)
+  pub any_of_told : IsKeywordTold I ms (codes "anyOf", d) any_of (any_told I given)
   any_of_told = record {
     verdict = any_accepts;
     asked = λ free u v. nothing_first _ ∙ items_ask u v;
@@ -162,7 +162,7 @@ module _ {W : World} (I : Steps W) (ms : Members) (d : Data) where
         (plain (P // codes "anyOf") Q (accepting_branches_shown I u v (codes "anyOf") P Q d i)) ∷ []);
   }
 
-  pub not_told : IsTold I ms (codes "not", d) not_keyword (negation_told I d)
+  pub not_told : IsKeywordTold I ms (codes "not", d) not_keyword (negation_told I d)
   unfolding meaning
   not_told = record {
     verdict = λ u v. refl;
@@ -171,7 +171,7 @@ module _ {W : World} (I : Steps W) (ms : Members) (d : Data) where
     shown = λ u alone v P Q. (λ i. erring (P // codes "not") Q (fault_if (accepts I u d v) (Not (schema_of_read (I.means u) d i)) v (P // codes "not") Q) ∷ []);
   }
 
-  pub leaf_told : (k : Name) → IsTold I ms (k, d) leaf (faults_told k (W.faults k d))
+  pub leaf_told : (k : Name) → IsKeywordTold I ms (k, d) leaf (faults_told k (W.faults k d))
   leaf_told k = record {
     verdict = λ u v. (λ i. is_empty (W.faults k (schema_of_read (I.means u) d i) v));
     asked = λ free u v. nothing_first 0;
@@ -187,7 +187,7 @@ module _ {W : World} (I : Steps W) (ms : Members) (d : Data) where
   counted u v = ap (count_by (λ s. s.answer.accepts v)) (item_entries (I.means u) d)
       ∙ sum_by-map (λ s. cond (s.answer.accepts v) 1 0) (λ e. place (I.means u) e.1) (given I ms d)
 
-  pub one_of_told : IsTold I ms (codes "oneOf", d) one_of (one_told I (given I ms d))
+  pub one_of_told : IsKeywordTold I ms (codes "oneOf", d) one_of (one_told I (given I ms d))
   one_of_told = record {
     verdict = λ u v. ap (λ n. n == 1) (counted u v);
     asked = λ free u v. nothing_first _ ∙ items_ask I ms d u v;

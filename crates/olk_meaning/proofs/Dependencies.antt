@@ -15,7 +15,7 @@ use Rattle.olk_spec.proofs.Truth.{and_first, and_second}
 use Rattle.olk_spec.proofs.Order.{∼_same, ∼_sym, ∼_before, ∼_behind, ∼_swap}
 use Rattle.olk_spec.proofs.Maps.{flat_map-map, map-map, filter_once-map}
 use Rattle.olk_spec.proofs.Reading.{entry, place, entries_read, schema_of_read}
-use Rattle.olk_meaning.specs.Told.{IsTold, entries_told, schema_answers}
+use Rattle.olk_meaning.specs.Told.{IsKeywordTold, entries_told, schema_answers}
 use Rattle.olk_meaning.specs.Dependencies.{due_entries, list_entries, schema_entries, are_lists, list_answers, dependency_answers}
 use Rattle.olk_meaning.proofs.Facts.{accepts_it, asks_it, finds_it, sum_by-map, nothing_first, nothing_last, sum_of_none, told_by_entries, asked_entries}
 use Rattle.olk_meaning.proofs.Rows.{Rows}
@@ -112,7 +112,7 @@ module _ {X : Type 0} (step : Schema X → X) (d v : Data) where
   lists_read = due_read ∙ ap (map {A = Name × Data} (λ e. (e.0, texts e.1))) (filter_once-filter_once _ _ (members d))
 
 module _ {W : World} (I : Steps W) (ms : Members) (d : Data) where
-  pub dependent_required_told : are_lists d ≡ true → IsTold I ms (codes "dependentRequired", d) dependent_required (entries_told list_answers (due_entries d))
+  pub dependent_required_told : are_lists d ≡ true → IsKeywordTold I ms (codes "dependentRequired", d) dependent_required (entries_told list_answers (due_entries d))
   dependent_required_told lists = record {
     verdict = λ u v. ap (list_all (λ e. is_empty (missing e.1 v))) (due_lists (I.means u) d v lists) ∙ list_all-map (λ e. is_empty (missing e.1 v)) (λ e. (e.0, texts e.1)) (due_entries d v);
     asked = λ free u v. nothing_first 0 ∙ sym (sum_of_none (due_entries d v));
@@ -122,7 +122,7 @@ module _ {W : World} (I : Steps W) (ms : Members) (d : Data) where
         ∙ map-map (λ e. erring _ Q _) (λ e. erring _ Q _) (λ e. (e.0, texts e.1)) (λ e. refl) (due_entries d v));
   }
 
-  pub dependent_schemas_told : IsTold I ms (codes "dependentSchemas", d) dependent_schemas (entries_told (schema_answers I) (due_entries d))
+  pub dependent_schemas_told : IsKeywordTold I ms (codes "dependentSchemas", d) dependent_schemas (entries_told (schema_answers I) (due_entries d))
   dependent_schemas_told = told_by_entries I ms (codes "dependentSchemas", d) dependent_schemas (λ e. e.1) (λ e. e.0 ∷ []) (due_entries d) (λ u v. record {
     asked = asked_entries (I.means u) (codes "dependentSchemas") v (due_entries d v) (entries_due (I.means u) d v);
     wants = refl;
@@ -144,7 +144,7 @@ module _ {W : World} (I : Steps W) (ms : Members) (d : Data) where
         (λ e. asked (place (I.means u) e.1) v (codes "dependencies" ∷ e.0 ∷ []) []) (schemas_due v)
     asked_due = asked_entries (I.means u) (codes "dependencies") v (schemas_due v) (schemas_read (I.means u) d v)
 
-  pub dependencies_told : IsTold I ms (codes "dependencies", d) dependencies (entries_told (dependency_answers I) (due_entries d))
+  pub dependencies_told : IsKeywordTold I ms (codes "dependencies", d) dependencies (entries_told (dependency_answers I) (due_entries d))
   unfolding meaning
   dependencies_told = record {
     verdict = λ u v. (λ i. list_all accepts_it (asked_due u v i) && list_all (λ e. is_empty (missing e.1 v)) (lists_read (I.means u) d v i))

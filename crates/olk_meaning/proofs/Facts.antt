@@ -29,7 +29,7 @@ use Rattle.olk_meaning.proofs.Rows.{Rows}
 use Rattle.olk_spec.specs.Asks.{own_asks, keyword_asks}
 use Rattle.olk_spec.proofs.Each.{Each-any}
 use Rattle.olk_spec.specs.Trees.{keyword_child, asked_trees}
-use Rattle.olk_meaning.specs.Told.{IsTold, entries_told, placed_answers}
+use Rattle.olk_meaning.specs.Told.{IsKeywordTold, entries_told, placed_answers}
 use Rattle.std.proofs.{Math.Bool.and-true, lemmas.List.map-append, lemmas.List.Folds.list_all-map, lemmas.Grind.flat_map-append}
 
 -- ---- sums
@@ -390,7 +390,7 @@ module _ {W : World} (I : Steps W) (ms : Members) (m : Name × Data) (w : Keywor
       pub finds : (P Q : Path) → own W u beside m.0 here v P Q w ≡ []
       pub shows : (P Q : Path) → keyword_child W u beside v P Q m.0 here w ≡ plain (P // m.0) Q (asked_trees W u beside v P Q m.0 here w) ∷ []
 
-  pub told_by_entries : ((u : Bool) (v : Data) → AsksOnly u v) → IsTold I ms m w (entries_told (placed_answers I schema under) es)
+  pub told_by_entries : ((u : Bool) (v : Data) → AsksOnly u v) → IsKeywordTold I ms m w (entries_told (placed_answers I schema under) es)
   unfolding meaning
   told_by_entries h = record {
     verdict = λ u v. (λ i. list_all accepts_it ((h u v).asked i) && (h u v).wants i) ∙ and-true _ ∙ list_all-map accepts_it (asked_entry u v) (es v);

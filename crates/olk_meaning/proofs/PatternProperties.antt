@@ -13,7 +13,7 @@ use Rattle.olk_spec.specs.Costs.{Cost, own_cost, no_cost, ◌⊕◌, total_cost}
 use Rattle.olk_spec.proofs.Maps.{map-map, flat_map-map}
 use Rattle.olk_spec.proofs.Reading.{entry, place, entries_read, schema_of_read}
 use Rattle.olk_meaning.specs.Members.{member_accepts, member_asks, member_report, member_child}
-use Rattle.olk_meaning.specs.Told.{IsTold}
+use Rattle.olk_meaning.specs.Told.{IsKeywordTold}
 use Rattle.olk_meaning.specs.PatternProperties.{matched_members, pattern_asks, open_names, pattern_faults, matcher_made, matchers_made, names_asked, patterns_told}
 use Rattle.olk_meaning.specs.AdditionalProperties.{declared_beside, matching_asks, patterns_asked}
 use Rattle.olk_meaning.proofs.Facts.{accepts_it, asks_it, finds_it, shows_it, asked_each, each_accepts, each_asks, each_finds, each_shows, sum_of_both, sum_of_those, sums_exchanged, sum_by-exchanged}
@@ -127,7 +127,7 @@ module _ {W : World} (I : Steps W) (ms : Members) (d : Data) (u : Bool) (v : Dat
         ∙ sum_by-exchanged (λ e x. matches W u e.0 x.0) (λ e x. asks I u e.1 x.1) (members d) (members v))
         ∙ sym (sum_of_both (matching_asks I u (declared_beside ms) _) (λ x. patterns_asked W _ _ x.0) (members v))
 
-pub pattern_properties_told : {W : World} (I : Steps W) (ms : Members) (d : Data) → IsTold I ms (codes "patternProperties", d) pattern_properties (patterns_told I (members d))
+pub pattern_properties_told : {W : World} (I : Steps W) (ms : Members) (d : Data) → IsKeywordTold I ms (codes "patternProperties", d) pattern_properties (patterns_told I (members d))
 pattern_properties_told I ms d = record {
   verdict = pattern_properties_accepts I ms d;
   asked = λ free u v. pattern_properties_asks I ms d u v (restricted_read (I.means u) ms ∙ sym (and-true (is_restricted ms)) ∙ free);

@@ -10,7 +10,7 @@ use Rattle.olk_spec.specs.Meanings.{applied, asked, Meaning, Asked}
 use Rattle.olk_spec.specs.Malformed.{own_refusals, read_places, unless_object}
 use Rattle.olk_spec.proofs.Maps.{flat_map-map, map-map}
 use Rattle.olk_spec.proofs.Reading.{entry, place, entries_read, schema_of_read, inner_entry, inner_read}
-use Rattle.olk_meaning.specs.Told.{IsTold, entries_told}
+use Rattle.olk_meaning.specs.Told.{IsKeywordTold, entries_told}
 use Rattle.olk_spec.specs.Costs.{Cost, total_cost}
 use Rattle.olk_spec.proofs.CostSums.{total_cost-map}
 use Rattle.olk_meaning.specs.Steps.{Steps, malformations_at, cost}
@@ -43,7 +43,7 @@ module _ (step : Schema Meaning → Meaning) (k : Name) (v : Data) where
       (λ e. asked_by e ∙ sym (map-map asked_choice (asked_of e.0) (λ c. (e.0, c.0, c.1)) (λ c. refl) (chosen v e))) (members d)
       ∙ sym (map-flat_map (λ e. map (λ c. (e.0, c.0, c.1)) (chosen v e)) asked_choice (members d))
 
-pub property_dependencies_told : {W : World} (I : Steps W) (ms : Members) (d : Data) → IsTold I ms (codes "propertyDependencies", d) property_dependencies (entries_told (choice_answers I) (choices (members d)))
+pub property_dependencies_told : {W : World} (I : Steps W) (ms : Members) (d : Data) → IsKeywordTold I ms (codes "propertyDependencies", d) property_dependencies (entries_told (choice_answers I) (choices (members d)))
 property_dependencies_told {W} I ms d = told_by_entries I ms (codes "propertyDependencies", d) property_dependencies (λ c. c.2) (λ c. c.0 ∷ c.1 ∷ []) (choices (members d)) (λ u v. record {
   asked = chosen_asked (I.means u) (codes "propertyDependencies") v W u (read_members (I.means u) ms) d;
   wants = refl;

@@ -10,7 +10,7 @@ use Rattle.olk_spec.specs.Reports.{fault_if, wrapped}
 use Rattle.olk_spec.specs.Tree.{plain, erring}
 use Rattle.olk_spec.proofs.Reading.{place, whole_read}
 use Rattle.olk_spec.proofs.Order.{∼_same}
-use Rattle.olk_meaning.specs.Told.{IsTold, each_name_told, no_name_told}
+use Rattle.olk_meaning.specs.Told.{IsKeywordTold, each_name_told, no_name_told}
 use Rattle.olk_meaning.specs.Members.{member_accepts, member_asks, member_report, member_child}
 use Rattle.olk_meaning.proofs.Facts.{names_ask_nothing, nothing_first}
 use Rattle.olk_spec.specs.{World.World, Vocabulary.property_names, Meanings.Meaning}
@@ -91,7 +91,7 @@ module _ {W : World} (I : Steps W) (ms : Members) (d : Data) (u : Bool) (v : Dat
 
 module _ {W : World} (I : Steps W) (ms : Members) (d : Data) where
   -- a schema for names, of which none asks a matcher
-  pub property_names_told : is_object d ≡ true → IsTold I ms (codes "propertyNames", d) property_names (each_name_told I d)
+  pub property_names_told : is_object d ≡ true → IsKeywordTold I ms (codes "propertyNames", d) property_names (each_name_told I d)
   unfolding meaning
   property_names_told names = record {
     verdict = λ u v. accepts_by I ms d u v true false names (object_is_not_false d names) ∙ and-true _;
@@ -100,7 +100,7 @@ module _ {W : World} (I : Steps W) (ms : Members) (d : Data) where
     shown = λ u alone v P Q. child_by I ms d u v true false names (object_is_not_false d names) P Q;
   }
 
-  pub no_names_told : is_truth false d ≡ true → IsTold I ms (codes "propertyNames", d) property_names no_name_told
+  pub no_names_told : is_truth false d ≡ true → IsKeywordTold I ms (codes "propertyNames", d) property_names no_name_told
   no_names_told none = record {
     verdict = λ u v. accepts_by I ms d u v false true (false_is_no_object d none) none;
     asked = λ free u v. no_schema_asks I ms d u v;

@@ -8,7 +8,7 @@ use Rattle.olk_spec.specs.Costs.{Cost, no_cost}
 use Rattle.olk_spec.specs.Schemas.{members, is_object}
 use Rattle.olk_spec.specs.Meanings.{matches, is_open}
 use Rattle.olk_meaning.specs.Steps.{Steps, accepts, asks, report, tree}
-use Rattle.olk_meaning.specs.Told.{Told}
+use Rattle.olk_meaning.specs.Told.{KeywordTold}
 use Rattle.olk_spec.specs.{Malformed.refusal, World.World, Tree.result}
 
 module _ (W : World) where
@@ -40,7 +40,7 @@ module _ (W : World) where
   names_asked fs d = record no_cost { table_asks = length fs * length (open_names d) }
 
 -- `patternProperties` of these entries, where it has a validator of its own: each matcher is asked each member's name, and where the pattern matches, its schema is asked
-abbrev pub patterns_told : {W : World} → Steps W → List (Name × Data) → Told
+abbrev pub patterns_told : {W : World} → Steps W → List (Name × Data) → KeywordTold
 patterns_told {W} I es = record {
   verdict = λ u v. list_all (λ e. list_all (λ x. accepts I u e.1 x.1) (matched_members W u e.0 v)) es;
   asked = λ u v. sum_by (λ e. sum_by (λ x. pattern_asks W e.0 + cond (matches W u e.0 x.0) (asks I u e.1 x.1) 0) (members v)) es;

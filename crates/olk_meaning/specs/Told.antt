@@ -14,7 +14,7 @@ use Rattle.olk_spec.specs.{World.World, Vocabulary.Keyword, Accepts.missing}
 use Rattle.olk_meaning.specs.{Conditions.is_restricted, Plans.tells_members}
 
 -- whether it accepts a value, how many matchers it may ask, and where it stands at L what it reports and shows
-pub record Told : Type 0 where
+pub record KeywordTold : Type 0 where
   pub verdict : Bool → Data → Bool
   pub asked : Bool → Data → ℕ
   pub faults : Bool → Data → Path → Path → List Fault
@@ -22,7 +22,7 @@ pub record Told : Type 0 where
 
 -- the member m of the schema object with the members ms answers so: its asks where `additionalProperties` doesn't take it over, and its child where that shows nothing of its neighbours
 module _ {W : World} (I : Steps W) (ms : Members) (m : Name × Data) (w : Keyword) where
-  pub record IsTold (t : Told) : Type 0 where
+  pub record IsKeywordTold (t : KeywordTold) : Type 0 where
     pub verdict : (u : Bool) (v : Data) → member_accepts I ms m w u v ≡ t.verdict u v
     pub asked : (is_restricted ms && tells_members m.0) ≡ false → (u : Bool) (v : Data) → member_asks I ms m w u v ≡ t.asked u v
     pub faults : (u : Bool) (v : Data) (P Q : Path) → t.faults u v (P // m.0) Q ∼ member_report I ms m w u v P Q
@@ -39,7 +39,7 @@ pub record EntryAnswers (X : Type 0) : Type 0 where
   pub placed : X → Path → List Placed
 
 module _ {X : Type 0} where
-  abbrev pub entries_told : EntryAnswers X → (Data → List X) → Told
+  abbrev pub entries_told : EntryAnswers X → (Data → List X) → KeywordTold
   entries_told w es = record {
     verdict = λ u v. list_all (λ e. w.verdict u e v) (es v);
     asked = λ u v. sum_by (λ e. w.asked u e v) (es v);
@@ -78,7 +78,7 @@ module _ {W : World} (I : Steps W) (u : Bool) (v : Data) where
   any_shown L Q es = cond (is_empty (accepting_branches es)) (result L Q None true [] (branches_shown L Q es)) (plain L Q (branches_shown L Q (accepting_branches es)))
 
 -- `anyOf` of these branches
-abbrev pub any_told : {W : World} → Steps W → List (Name × Data) → Told
+abbrev pub any_told : {W : World} → Steps W → List (Name × Data) → KeywordTold
 any_told I es = record {
   verdict = λ u v. list_any (λ e. accepts I u e.1 v) es;
   asked = λ u v. sum_by (λ e. asks I u e.1 v) es;
@@ -100,7 +100,7 @@ module _ {W : World} (I : Steps W) (u : Bool) (v : Data) where
       (result L Q None false (put_if (nat_lt 1 n) (codes "oneOf", codes "more than one subschema succeeded", false) []) (branches_shown I u v L Q (accepting_branches I u v es)))
 
 -- `oneOf` of these branches
-abbrev pub one_told : {W : World} → Steps W → List (Name × Data) → Told
+abbrev pub one_told : {W : World} → Steps W → List (Name × Data) → KeywordTold
 one_told I es = record {
   verdict = λ u v. accepting_count I u v es == 1;
   asked = λ u v. sum_by (λ e. asks I u e.1 v) es;
@@ -119,7 +119,7 @@ module _ {W : World} (I : Steps W) (u : Bool) (v : Data) (L Q : Path) where
   shown_declared es more =
       result L Q (cond (is_object v) (Some (map (λ m. m.0) (filter_once (λ m. is_among m.0 (map (λ e. e.0) es)) (members v)))) None) false [] (flat_map (shown_at es) (members v) ++ more)
 
-abbrev pub declared_told : {W : World} → Steps W → List (Name × Data) → Told
+abbrev pub declared_told : {W : World} → Steps W → List (Name × Data) → KeywordTold
 declared_told I es = record {
   verdict = λ u v. list_all (λ e. list_all (accepts I u e.1) (at e.0 v)) es;
   asked = λ u v. sum_by (λ e. sum_by (asks I u e.1) (at e.0 v)) es;
@@ -130,7 +130,7 @@ declared_told I es = record {
 -- ---- keywords that ask no subschema, or one
 
 -- `required` of these names
-abbrev pub names_told : List Name → Told
+abbrev pub names_told : List Name → KeywordTold
 names_told ns = record {
   verdict = λ u v. is_empty (missing ns v);
   asked = λ u v. 0;
@@ -139,7 +139,7 @@ names_told ns = record {
 }
 
 -- `not` of this schema
-abbrev pub negation_told : {W : World} → Steps W → Data → Told
+abbrev pub negation_told : {W : World} → Steps W → Data → KeywordTold
 negation_told I d = record {
   verdict = λ u v. not (accepts I u d v);
   asked = λ u v. asks I u d v;
@@ -148,7 +148,7 @@ negation_told I d = record {
 }
 
 -- the leaf k that finds these texts in a value
-abbrev pub faults_told : Name → (Data → List Text) → Told
+abbrev pub faults_told : Name → (Data → List Text) → KeywordTold
 faults_told k finds = record {
   verdict = λ u v. is_empty (finds v);
   asked = λ u v. 0;
@@ -157,7 +157,7 @@ faults_told k finds = record {
 }
 
 -- `propertyNames` that is this schema, asked of each name
-abbrev pub each_name_told : {W : World} → Steps W → Data → Told
+abbrev pub each_name_told : {W : World} → Steps W → Data → KeywordTold
 each_name_told I d = record {
   verdict = λ u v. list_all (λ m. accepts I u d (string m.0)) (members v);
   asked = λ u v. sum_by (λ m. asks I u d (string m.0)) (members v);
@@ -166,7 +166,7 @@ each_name_told I d = record {
 }
 
 -- `propertyNames` that is false
-abbrev pub no_name_told : Told
+abbrev pub no_name_told : KeywordTold
 no_name_told = record {
   verdict = λ u v. is_empty (members v);
   asked = λ u v. 0;

@@ -527,28 +527,30 @@ module _ (W : World) (u : Bool) (S : Keywords Meaning) (h : GoodKeywords TreeAgr
 
 -- ---- the recursion
 
-items_distinct : (ds : Items) → DistinctInItems ds → EachItem DistinctNames ds
+pub items_distinct : (ds : Items) → DistinctInItems ds → EachItem DistinctNames ds
 items_distinct no_items h = tt
 items_distinct (item d ds) h = (h.0, items_distinct ds h.1)
 
-members_distinct : (ms : Members) → DistinctInMembers ms → EachMember DistinctNames ms
+pub members_distinct : (ms : Members) → DistinctInMembers ms → EachMember DistinctNames ms
 members_distinct no_members h = tt
 members_distinct (member n d ms) h = (h.0, members_distinct ms h.1)
+
+-- the keywords of a schema object, and the entries of each, whatever a recursion answers
+module _ {X : Type 0} (step : Schema X → X) where
+  pub keywords_distinct : (ms : Members) → DistinctNames (object ms) → Distinct (read_members step ms)
+  keywords_distinct ms h = subst Distinct (sym (members_read step ms)) (Distinct-map (read step) (listed ms) (Distinct-from (listed ms) h.0))
+
+  pub entries_distinct_in : (ms : Members) → DistinctInMembers ms → Each (λ m. Distinct m.1.entries) (read_members step ms)
+  entries_distinct_in no_members h = tt
+  entries_distinct_in (member n d ms) h = (subst Distinct (sym (entries_read step d)) (Distinct-map (place step) (members d) (Distinct-members d h.0)), entries_distinct_in ms h.1)
 
 module _ (W : World) (u : Bool) where
   abbrev step : Schema Meaning → Meaning
   step = meaning_step W u
 
-  keywords_distinct : (ms : Members) → DistinctNames (object ms) → Distinct (read_members step ms)
-  keywords_distinct ms h = subst Distinct (sym (members_read step ms)) (Distinct-map (read step) (listed ms) (Distinct-from (listed ms) h.0))
-
-  entries_distinct_in : (ms : Members) → DistinctInMembers ms → Each (λ m. Distinct m.1.entries) (read_members step ms)
-  entries_distinct_in no_members h = tt
-  entries_distinct_in (member n d ms) h = (subst Distinct (sym (entries_read step d)) (Distinct-map (place step) (members d) (Distinct-members d h.0)), entries_distinct_in ms h.1)
-
   keep : (d : Data) → DistinctNames d → GoodSchema TreeAgrees (schema_read step d) → TreeAgrees d (step (schema_read step d))
   keep (boolean b) s h v P Q dv = is_valid-erring P Q (fault_if (not b) FalseSchema v P Q) ∙ none_where (not b) FalseSchema v P Q ∙ not-not b
-  keep (object ms) s h v P Q dv = object_row W u (read_members step ms) h (keywords_distinct ms s) (entries_distinct_in ms s.1) v dv P Q
+  keep (object ms) s h v P Q dv = object_row W u (read_members step ms) h (keywords_distinct step ms s) (entries_distinct_in step ms s.1) v dv P Q
   keep _ s h v P Q dv = refl
 
 pub verdict_of_trees : Verdict_of_trees
