@@ -138,8 +138,8 @@ fn compile_neighbour<'a, L: MakeLeaf, M: MakeRegex, N: BuiltNode<L::Leaf, M::Eng
     members: &'a Map<String, Value>,
     name: &'static str,
 ) -> Result<Option<Part<L::Leaf, M::Engine, N>>, Stop<'a>>
-    ensures built { IfOk result (λ p. IsNeighbour (layer L.Leaf.Leaf M.Engine.RegexEngine) N.answers
-        (members_view members.now.entries) p name.now place.now meter.old meter.new) }
+    ensures built { IfOk result (λ p. IsNeighbour (layer L.Leaf.Leaf M.Engine.RegexEngine)
+        N.answers (members_view members.now.entries) p name.now place.now meter.old meter.new) }
     ensures refused { IfErr result (RefusesNeighbour (layer L.Leaf.Leaf M.Engine.RegexEngine)
         (members_view members.now.entries) name.now place.now meter.old meter.new) }
 {
