@@ -21,7 +21,7 @@ use olk_tree::properties::{BigProperties, SmallProperties, SmallPropertiesWithRe
 use olk_tree::property_dependencies::PropertyDependencies;
 use olk_tree::property_names::PropertyNames;
 use olk_tree::{Means, Reports};
-use std::alloc::AllocError;
+use std::alloc::{AllocError, Global};
 
 /// A place of a schema.
 pub struct SchemaNode<K, R> {
@@ -66,7 +66,7 @@ impl<K: Leaf, R: RegexEngine> BuiltNode<K, R> for SchemaNode<K, R> {
 
     ghost answers = { answers (kit K.Leaf R.RegexEngine) };
 
-    fn new(location: Location, body: Body<Keyword<K, R>>) -> Self
+    fn new(_alloc: Global, location: Location, body: Body<Keyword<K, R>>) -> Self
         ensures { AnswersBy (kit K.Leaf R.RegexEngine) (answers (kit K.Leaf R.RegexEngine))
             location body result }
     {

@@ -15,8 +15,8 @@ pub mod PatternProperties
 pub mod AdditionalProperties
 pub mod Makes
 pub mod Choosing
-mod Member
+pub mod Member
 pub mod TakenParts
-mod Parts
+pub mod Parts
 pub mod Built
 mod CompiledPatterns

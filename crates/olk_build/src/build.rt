@@ -55,11 +55,11 @@ fn compile_schema<'a, L: MakeLeaf, M: MakeRegex, N: BuiltNode<L::Leaf, M::Engine
 {
     meter.tick_compiled();
     match schema {
-        Value::Bool(true) => Ok(N::new(location, Body::True)),
-        Value::Bool(false) => Ok(N::new(location, Body::False)),
+        Value::Bool(true) => Ok(N::new(alloc, location, Body::True)),
+        Value::Bool(false) => Ok(N::new(alloc, location, Body::False)),
         Value::Object(members) => {
             let keywords = compile_object(alloc, makers, meter, &location, members)?;
-            Ok(N::new(location, Body::Keywords(keywords)))
+            Ok(N::new(alloc, location, Body::Keywords(keywords)))
         }
         Value::Null | Value::Number(_) | Value::String(_) | Value::Array(_) => {
             Err(refuse(alloc, ValidationErrorKind::MultipleTypes, schema, &location))

@@ -273,7 +273,7 @@ fn node_of_list<K: Leaf, R: RegexEngine, N: BuiltNode<K, R>>(
         location: location.try_clone(alloc)?,
     };
     let place = location.try_clone(alloc)?;
-    Ok(N::new(place, Body::RequiredNames(Box::new(alloc, names)?)))
+    Ok(N::new(alloc, place, Body::RequiredNames(Box::new(alloc, names)?)))
 }
 
 /// The nodes of lists of names.

@@ -202,7 +202,7 @@ fn shape_of_branches<'a, K: Drop, R: Drop>(
 ///
 /// What is wrong with the keyword itself, apart from the schemas inside; else out of memory.
 #[inline(always)]
-pub(crate) fn read_keyword<'a, L: MakeLeaf, M: MakeRegex>(
+pub fn read_keyword<'a, L: MakeLeaf, M: MakeRegex>(
     alloc: Global,
     makers: &Makers<'_, L, M>,
     meter: &mut Meter,

@@ -13,7 +13,7 @@ use std::marker::Model;
 
 /// The refusal of what stands at a place; out of memory where there is none for the place.
 #[inline(never)]
-pub(crate) fn refuse<'a>(
+pub fn refuse<'a>(
     alloc: Global,
     kind: ValidationErrorKind<'a>,
     instance: &'a Value,
@@ -37,7 +37,7 @@ pub(crate) fn refuse<'a>(
 }
 
 /// The refusal of a value that is not of the type.
-pub(crate) fn refuse_type<'a>(
+pub fn refuse_type<'a>(
     alloc: Global,
     expected: JsonType,
     value: &'a Value,

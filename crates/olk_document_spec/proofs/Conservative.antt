@@ -1,5 +1,5 @@
 -- A schema in which no new name occurs means for a document what it means for the layer.
-use Rattle.std.proofs.Common.{◌≡◌, ℕ, ◌+◌, Bool, true, false, ◌&&◌, List, [], ◌∷◌, ◌++◌, refl, sym, ap, ◌∙◌, true≢false, arith}
+use Rattle.std.proofs.Common.{◌≡◌, ℕ, ◌+◌, Bool, true, false, ◌&&◌, List, [], ◌∷◌, ◌++◌, Option, refl, sym, ap, ◌∙◌, true≢false, arith}
 use Rattle.std.specs.Prelude.{cond, sum_by}
 use Rattle.std.specs.List.{flat_map, list_all}
 use Rattle.std.proofs.lemmas.List.Sums.{sum_by-cons}
@@ -20,7 +20,7 @@ use Rattle.olk_spec.specs.Malformed.{keyword_malformations, malformations_step, 
 use Rattle.olk_document_spec.specs.Keywords.{Document_keyword, prefix_items, items, contains, reference, bound, other, document_keyword, is_other_keyword, is_other, beneath, Targets}
 use Rattle.olk_document_spec.specs.Applied.{document_accepts, document_report, document_child, document_asks}
 use Rattle.olk_document_spec.specs.Steps.{with_children, document_step, meaning_under}
-use Rattle.olk_document_spec.specs.Documents.{references, targets}
+use Rattle.olk_document_spec.specs.Documents.{reference_limit, targets}
 use Rattle.olk_document_spec.specs.Plain.{is_plain}
 use Rattle.olk_document_spec.specs.Malformed.{member_malformed, document_malformed, document_malformations_step, malformations_under, malformed_targets}
 use Rattle.olk_document_spec.specs.Laws.{Conservative, Same_malformations}
@@ -37,7 +37,7 @@ nothing_behind (x ∷ xs) = ap (λ ys. x ∷ ys) (nothing_behind xs)
 none_more : (n : ℕ) → n + 0 ≡ n
 none_more n = omega arith
 
-is_other_one : (w : Document_keyword) → is_other_keyword w ≡ true → w ≡ other
+pub is_other_one : (w : Document_keyword) → is_other_keyword w ≡ true → w ≡ other
 is_other_one other e = refl
 is_other_one prefix_items e = absurd (true≢false (sym e))
 is_other_one items e = absurd (true≢false (sym e))
@@ -120,25 +120,25 @@ module _ (W : World) (u : Bool) (T : Targets) where
   same_under S e = plain_alike (document_step W u T) (meaning_step W u) (λ b. refl) (λ d. refl) step_alike S e
 
 pub conservative : Conservative
-conservative W u D e = same_under W u (targets W u D (references D)) D e
+conservative W u D e = same_under W u (targets W u D reference_limit) D e
 
-module _ (W : World) (D : Data) (M : Text → List Fault) where
+module _ (W : World) (M : Text → Option (List Fault)) where
   abbrev Refused : Type 0
   Refused = Path → List Fault
 
   abbrev is_old : Name × Part Refused → Bool
   is_old m = is_other m.0
 
-  member_alike : (S : Keywords Refused) (P : Path) (m : Name × Part Refused) → is_old m ≡ true → member_malformed W D M S m.0 m.1 P ≡ keyword_malformations W S m.0 m.1 P (keyword_named W m.0)
-  member_alike S P m e = ap (λ b. cond b (keyword_malformations (beneath W) S m.0 m.1 P (keyword_named (beneath W) m.0)) (document_malformed W D M m.0 m.1 P (document_keyword m.0))) e
+  member_alike : (S : Keywords Refused) (P : Path) (m : Name × Part Refused) → is_old m ≡ true → member_malformed W M S m.0 m.1 P ≡ keyword_malformations W S m.0 m.1 P (keyword_named W m.0)
+  member_alike S P m e = ap (λ b. cond b (keyword_malformations (beneath W) S m.0 m.1 P (keyword_named (beneath W) m.0)) (document_malformed M m.0 m.1 P (document_keyword m.0))) e
       ∙ ap (keyword_malformations W S m.0 m.1 P) (named_alike W true (λ t. []) m.0 e)
 
-  malformed_alike : (S : Keywords Refused) → list_all is_old S ≡ true → document_malformations_step W D M (keywords S) ≡ malformations_step W (keywords S)
-  malformed_alike S plain_names = λ i P. each_same is_old (λ m. member_malformed W D M S m.0 m.1 P) (λ m. keyword_malformations W S m.0 m.1 P (keyword_named W m.0)) (member_alike S P) S plain_names i
+  malformed_alike : (S : Keywords Refused) → list_all is_old S ≡ true → document_malformations_step W M (keywords S) ≡ malformations_step W (keywords S)
+  malformed_alike S plain_names = λ i P. each_same is_old (λ m. member_malformed W M S m.0 m.1 P) (λ m. keyword_malformations W S m.0 m.1 P (keyword_named W m.0)) (member_alike S P) S plain_names i
 
-  malformed_same : (S : Data) → is_plain S ≡ true → malformations_under W D M S ≡ malformations_at W S
+  malformed_same : (S : Data) → is_plain S ≡ true → malformations_under W M S ≡ malformations_at W S
   unfolding malformations_under malformations_at
-  malformed_same S e = plain_alike (document_malformations_step W D M) (malformations_step W) (λ b. refl) (λ d. refl) malformed_alike S e
+  malformed_same S e = plain_alike (document_malformations_step W M) (malformations_step W) (λ b. refl) (λ d. refl) malformed_alike S e
 
 pub same_malformations : Same_malformations
-same_malformations W D e = λ i. malformed_same W D (malformed_targets W D (references D)) D e i []
+same_malformations W D e = λ i. malformed_same W (malformed_targets W D reference_limit) D e i []

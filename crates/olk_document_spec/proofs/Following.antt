@@ -1,5 +1,5 @@
 -- Where references lead to no other one, following them more often means the same.
-use Rattle.std.specs.Prelude.{◌≡◌, ℕ, zero, suc, ◌+◌, Bool, true, false, not, ◌&&◌, ◌||◌, List, [], ◌∷◌, ◌++◌, map, drop, sum_by}
+use Rattle.std.specs.Prelude.{◌≡◌, ℕ, zero, suc, ◌+◌, Bool, true, false, not, ◌&&◌, ◌||◌, List, [], ◌∷◌, ◌++◌, map, drop, sum_by, option_to_list}
 use Rattle.std.specs.List.{flat_map, list_all, list_any}
 use Rattle.std.proofs.Common.{refl, sym, ap, subst, ◌∙◌, true≢false, arith}
 use Rattle.std.proofs.lemmas.List.Sums.{sum_by-cons}
@@ -15,7 +15,7 @@ use Rattle.olk_spec.proofs.Induction.{EachItem, EachMember}
 use Rattle.olk_spec.proofs.Reading.{schema_of_read}
 use Rattle.olk_spec.proofs.Walks.{list_all-alike}
 use Rattle.olk_document_spec.specs.Applied.{referred, document_accepts, document_report, document_child, document_asks}
-use Rattle.olk_document_spec.specs.Documents.{place_named, references, targets}
+use Rattle.olk_document_spec.specs.Documents.{place_named, reference_limit, targets}
 use Rattle.olk_document_spec.specs.Following.{referring_text, referring_texts, referring_items, referring_members, goes_on}
 use Rattle.olk_document_spec.specs.Keywords.{Document_keyword, reference, document_keyword, beneath, Target, Targets}
 use Rattle.olk_document_spec.specs.Laws.{Followed_more_often}
@@ -25,7 +25,7 @@ use Rattle.olk_document_spec.proofs.Alike.{answer_alike}
 -- ---- lists
 
 module _ {X : Type 0} (P : X → Type 0) where
-  Each-apart : (xs ys : List X) → Each P (xs ++ ys) → Each P xs × Each P ys
+  pub Each-apart : (xs ys : List X) → Each P (xs ++ ys) → Each P xs × Each P ys
   Each-apart [] ys h = (tt, h)
   Each-apart (x ∷ xs) ys h = let rest = Each-apart xs ys h.1 in ((h.0, rest.0), rest.1)
 
@@ -152,19 +152,19 @@ module _ (W : World) (u : Bool) (D : Data) where
     at_place : (t : Text) (d : Data) → goes_on D k d ≡ false → target_at (k + n) t d ≡ target_at k t d
     at_place t d e = ap (λ m. record { place = drop 1 t; meaning = m }) (under_same W u (targets W u D (k + n)) (targets W u D k) d (same d e))
 
-    at_text : (t : Text) → list_any (goes_on D k) (place_named D t) ≡ false → targets W u D (suc k + n) t ≡ targets W u D (suc k) t
+    at_text : (t : Text) → list_any (goes_on D k) (option_to_list (place_named D t)) ≡ false → targets W u D (suc k + n) t ≡ targets W u D (suc k) t
     unfolding targets
     at_text t e = let so : suc k + n ≡ suc (k + n) = omega arith in
         ap (λ m. targets W u D m t) so
-        ∙ map_same (target_at (k + n) t) (target_at k t) (place_named D t)
-        (Each-implies (λ d. goes_on D k d ≡ false) (λ d. target_at (k + n) t d ≡ target_at k t d) (at_place t) (place_named D t) (none_of (goes_on D k) (place_named D t) e))
+        ∙ map_same (target_at (k + n) t) (target_at k t) (option_to_list (place_named D t))
+        (Each-implies (λ d. goes_on D k d ≡ false) (λ d. target_at (k + n) t d ≡ target_at k t d) (at_place t) (option_to_list (place_named D t)) (none_of (goes_on D k) (option_to_list (place_named D t)) e))
 
   -- where references go on no more than k times, following them k times or more often is the same
   more_often : (n k : ℕ) (d : Data) → goes_on D k d ≡ false → Each (λ t. targets W u D (k + n) t ≡ targets W u D k t) (referring_texts d)
   unfolding goes_on
   more_often n zero d e = subst (Each (λ t. targets W u D (0 + n) t ≡ targets W u D 0 t)) (sym (nothing_left (referring_texts d) e)) tt
-  more_often n (suc k) d e = Each-implies (λ t. list_any (goes_on D k) (place_named D t) ≡ false) (λ t. targets W u D (suc k + n) t ≡ targets W u D (suc k) t)
-      (at_text n k (more_often n k)) (referring_texts d) (none_of (λ t. list_any (goes_on D k) (place_named D t)) (referring_texts d) e)
+  more_often n (suc k) d e = Each-implies (λ t. list_any (goes_on D k) (option_to_list (place_named D t)) ≡ false) (λ t. targets W u D (suc k + n) t ≡ targets W u D (suc k) t)
+      (at_text n k (more_often n k)) (referring_texts d) (none_of (λ t. list_any (goes_on D k) (option_to_list (place_named D t))) (referring_texts d) e)
 
 pub followed_more_often : Followed_more_often
-followed_more_often W u D n e = under_same W u (targets W u D (references D + n)) (targets W u D (references D)) D (more_often W u D n (references D) D e)
+followed_more_often W u D n e = under_same W u (targets W u D (reference_limit + n)) (targets W u D reference_limit) D (more_often W u D n reference_limit D e)

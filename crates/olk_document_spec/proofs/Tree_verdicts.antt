@@ -1,30 +1,32 @@
 -- The tree of a document is valid exactly where the document accepts.
-use Rattle.std.specs.Prelude.{◌≡◌, ℕ, zero, suc, Bool, true, false, ◌&&◌, List, [], ◌∷◌, map, codes, decimal, Option, None, option_to_list, cond}
+use Rattle.std.specs.Prelude.{◌≡◌, ⊤, ℕ, zero, suc, ◌==◌, Bool, true, false, not, ◌&&◌, ◌||◌, List, [], ◌∷◌, ◌++◌, map, Option, Some, None, option_and_then, option_to_list, cond, if◌then◌else◌}
 use Rattle.std.specs.List.{flat_map, list_all}
-use Rattle.std.proofs.Common.{refl, sym, ◌∙◌}
+use Rattle.std.proofs.Common.{refl, sym, subst, ◌∙◌}
 use Rattle.std.proofs.lemmas.List.Folds.{list_all-map}
 use Rattle.std.proofs.Math.Bool.{and-true}
-use Rattle.serde_json.specs.Data.{Data, boolean, array, object, Items, no_items, item, Members, no_members, member}
-use Rattle.olk_spec.specs.Names.{Text, Name, Path, ◌//◌, down, lookup_name}
+use Rattle.serde_json.specs.Data.{Data, boolean, array, object, Items, no_items, item}
+use Rattle.serde_json.specs.Find.{get_item, index_of, pointer, step as one_step, unescape, walk}
+use Rattle.olk_spec.specs.Names.{Text, Name, Path, ◌//◌, down}
 use Rattle.olk_spec.specs.World.{World}
-use Rattle.olk_spec.specs.Distinct.{DistinctNames, DistinctInItems, DistinctInMembers}
+use Rattle.olk_spec.specs.Distinct.{DistinctNames, DistinctInItems}
 use Rattle.olk_spec.specs.Faults.{Leaf}
 use Rattle.olk_spec.specs.Malformed.{items_list, items_of_array}
 use Rattle.olk_spec.specs.Meanings.{Meaning, holds}
-use Rattle.olk_spec.specs.Schemas.{Keywords, Part, Schema, read_members}
+use Rattle.olk_spec.specs.Schemas.{Keywords, Part, Schema, listed, read_members}
 use Rattle.olk_spec.specs.Tree.{Tree, Trees, trees_from, Described, is_valid, result_node, plain, erring}
 use Rattle.olk_spec.specs.Trees.{keyword_child}
 use Rattle.olk_spec.specs.Vocabulary.{keyword_named}
 use Rattle.olk_spec.proofs.Applied.{GoodAsked}
-use Rattle.olk_spec.proofs.Each.{Each, Each-append, Each-implies, Each-map, Each-option, On-lookup_name}
+use Rattle.olk_spec.proofs.Each.{Each, On, Each-implies, Each-map, Each-option, On-lookup_name}
 use Rattle.olk_spec.proofs.Induction.{GoodPart, GoodSchema, schema_read, sound_answer}
-use Rattle.olk_spec.proofs.Tree_verdicts.{TreeAgrees, is_valid-plain, is_valid-erring, object_row, items_distinct, members_distinct, keywords_distinct, entries_distinct_in}
+use Rattle.olk_spec.proofs.Reading.{lookup_listed}
+use Rattle.olk_spec.proofs.Tree_verdicts.{TreeAgrees, DistinctNames-members, is_valid-plain, is_valid-erring, object_row, items_distinct, members_distinct, keywords_distinct, entries_distinct_in}
 use Rattle.olk_spec.proofs.Verdicts.{none_if}
 use Rattle.olk_spec.proofs.Walks.{list_all-alike, list_all-flat_map}
 use Rattle.olk_document_spec.specs.Keywords.{Document_keyword, prefix_items, items, contains, reference, bound, other, document_keyword, beneath, Target, Targets}
 use Rattle.olk_document_spec.specs.Applied.{applied_to_items, referred, is_lacking, contains_text, document_own, document_accepts, document_child, item_trees}
 use Rattle.olk_document_spec.specs.Steps.{behind, with_children, document_step, meaning_under}
-use Rattle.olk_document_spec.specs.Documents.{place_named, places_below, item_places, member_places, has_percent, references, targets}
+use Rattle.olk_document_spec.specs.Documents.{place_named, has_percent, has_open_tilde, reference_limit, targets}
 use Rattle.olk_document_spec.specs.Laws.{Verdict_of_trees}
 use Rattle.olk_document_spec.proofs.Applied.{applied_to_items_good, referred_good}
 
@@ -50,26 +52,51 @@ items_of_distinct : (v : Data) → DistinctNames v → Each DistinctNames (items
 items_of_distinct (array ds) h = listed_distinct ds h
 items_of_distinct _ h = tt
 
-mutual
-  places_distinct : (P : Path) (d : Data) → DistinctNames d → Each (λ e. DistinctNames e.1) (places_below P d)
-  places_distinct P (array ds) h = (h, item_places_distinct P 0 ds h)
-  places_distinct P (object ms) h = (h, member_places_distinct P ms h.1)
-  places_distinct P _ h = (h, tt)
+-- ---- places that texts name
 
-  item_places_distinct : (P : Path) (i : ℕ) (ds : Items) → DistinctInItems ds → Each (λ e. DistinctNames e.1) (item_places P i ds)
-  item_places_distinct P i no_items h = tt
-  item_places_distinct P i (item d ds) h = Each-append (λ e. DistinctNames e.1) (places_below (P // decimal i) d) (item_places P (suc i) ds) (places_distinct (P // decimal i) d h.0) (item_places_distinct P (suc i) ds h.1)
+then_distinct : {X : Type 0} (f : X → Option Data) (P : X → Type 0) → ((x : X) → P x → On DistinctNames (f x)) → (o : Option X) → On P o → On DistinctNames (option_and_then f o)
+then_distinct f P h None k = tt
+then_distinct f P h (Some x) k = h x k
 
-  member_places_distinct : (P : Path) (ms : Members) → DistinctInMembers ms → Each (λ e. DistinctNames e.1) (member_places P ms)
-  member_places_distinct P no_members h = tt
-  member_places_distinct P (member n d ms) h = Each-append (λ e. DistinctNames e.1) (places_below (P // n) d) (member_places P ms) (places_distinct (P // n) d h.0) (member_places_distinct P ms h.1)
+some_any : {X : Type 0} (o : Option X) → On (λ x. ⊤) o
+some_any None = tt
+some_any (Some x) = tt
 
-named_distinct : (D : Data) → DistinctNames D → (t : Text) → Each DistinctNames (place_named D t)
-named_distinct D h t = by (has_percent t)
+item_distinct : (i : ℕ) (ds : Items) → DistinctInItems ds → On DistinctNames (get_item i ds)
+item_distinct i no_items h = tt
+item_distinct zero (item d ds) h = h.0
+item_distinct (suc i) (item d ds) h = item_distinct i ds h.1
+
+step_distinct : (part : Text) (d : Data) → DistinctNames d → On DistinctNames (one_step part d)
+step_distinct part (array ds) h = then_distinct (λ i. get_item i ds) (λ i. ⊤) (λ i k. item_distinct i ds h) (index_of part) (some_any (index_of part))
+step_distinct part (object ms) h = subst (On DistinctNames) (lookup_listed (unescape part) ms) (On-lookup_name DistinctNames (unescape part) (listed ms) (DistinctNames-members (object ms) h))
+step_distinct part _ h = tt
+
+walk_distinct : (part t : Text) (d : Data) → DistinctNames d → On DistinctNames (walk part t d)
+unfolding walk
+walk_distinct part [] d h = step_distinct part d h
+walk_distinct part (x ∷ t) d h = by (x == 47) (then_distinct (walk [] t) DistinctNames (walk_distinct [] t) (one_step part d) (step_distinct part d h)) (walk_distinct (part ++ x ∷ []) t d h)
   where
-    by : (b : Bool) → Each DistinctNames (cond b [] (option_to_list (lookup_name t (places_below (codes "#") D))))
-    by true = tt
-    by false = Each-option DistinctNames (lookup_name t (places_below (codes "#") D)) (On-lookup_name DistinctNames t (places_below (codes "#") D) (places_distinct (codes "#") D h))
+    by : (b : Bool) → On DistinctNames (option_and_then (walk [] t) (one_step part d)) → On DistinctNames (walk (part ++ x ∷ []) t d)
+        → On DistinctNames (if b then option_and_then (walk [] t) (one_step part d) else walk (part ++ x ∷ []) t d)
+    by true ended longer = ended
+    by false ended longer = longer
+
+pointed_distinct : (t : Text) (D : Data) → DistinctNames D → On DistinctNames (pointer t D)
+pointed_distinct [] D h = h
+pointed_distinct (x ∷ t) D h = by (x == 47)
+  where
+    by : (b : Bool) → On DistinctNames (if b then walk [] t D else None)
+    by true = walk_distinct [] t D h
+    by false = tt
+
+named_distinct : (D : Data) → DistinctNames D → (t : Text) → On DistinctNames (place_named D t)
+named_distinct D h [] = tt
+named_distinct D h (x ∷ t) = by (x == 35 && not (has_percent t || has_open_tilde t))
+  where
+    by : (b : Bool) → On DistinctNames (cond b (pointer t D) None)
+    by true = pointed_distinct t D h
+    by false = tt
 
 -- ---- the rows
 
@@ -127,8 +154,8 @@ module _ (W : World) (u : Bool) (T : Targets) (lawful : (t : Text) → Each Targ
 lawful_targets : (W : World) (u : Bool) (D : Data) → DistinctNames D → (n : ℕ) (t : Text) → Each TargetAgrees (targets W u D n t)
 unfolding targets
 lawful_targets W u D s zero t = tt
-lawful_targets W u D s (suc n) t = Each-map TargetAgrees _ (place_named D t)
-    (Each-implies DistinctNames (λ d. TreeAgrees d (meaning_under W u (targets W u D n) d)) (tree_under W u (targets W u D n) (lawful_targets W u D s n)) (place_named D t) (named_distinct D s t))
+lawful_targets W u D s (suc n) t = Each-map TargetAgrees _ (option_to_list (place_named D t))
+    (Each-implies DistinctNames (λ d. TreeAgrees d (meaning_under W u (targets W u D n) d)) (tree_under W u (targets W u D n) (lawful_targets W u D s n)) (option_to_list (place_named D t)) (Each-option DistinctNames (place_named D t) (named_distinct D s t)))
 
 pub verdict_of_trees : Verdict_of_trees
-verdict_of_trees W u D v P Q s dv = tree_under W u (targets W u D (references D)) (lawful_targets W u D s (references D)) D s v P Q dv
+verdict_of_trees W u D v P Q s dv = tree_under W u (targets W u D reference_limit) (lawful_targets W u D s reference_limit) D s v P Q dv

@@ -1,5 +1,5 @@
 -- A document accepts a value exactly where it finds no fault in it.
-use Rattle.std.specs.Prelude.{◌≡◌, ⊤, ℕ, zero, suc, Bool, true, ◌&&◌, List, ◌++◌}
+use Rattle.std.specs.Prelude.{◌≡◌, ⊤, ℕ, zero, suc, Bool, true, ◌&&◌, List, ◌++◌, option_to_list}
 use Rattle.std.proofs.Common.{refl, sym, ◌∙◌}
 use Rattle.serde_json.specs.Data.{Data}
 use Rattle.olk_spec.specs.Names.{Text, Name, Path, is_empty, ◌//◌}
@@ -15,7 +15,7 @@ use Rattle.olk_spec.proofs.Verdicts.{is_empty-append, all_empty, none_if, keywor
 use Rattle.olk_document_spec.specs.Keywords.{Document_keyword, contains, document_keyword, beneath, Target, Targets}
 use Rattle.olk_document_spec.specs.Applied.{applied_to_items, referred, is_lacking, contains_text, document_wanted, document_own, document_accepts, document_report}
 use Rattle.olk_document_spec.specs.Steps.{document_step, meaning_under}
-use Rattle.olk_document_spec.specs.Documents.{place_named, references, targets}
+use Rattle.olk_document_spec.specs.Documents.{place_named, reference_limit, targets}
 use Rattle.olk_document_spec.specs.Laws.{Verdict_of_reports}
 use Rattle.olk_document_spec.proofs.Applied.{applied_to_items_good, referred_good}
 
@@ -57,7 +57,7 @@ module _ (W : World) (u : Bool) (T : Targets) (lawful : (t : Text) → Each Targ
 lawful_targets : (W : World) (u : Bool) (D : Data) (n : ℕ) (t : Text) → Each TargetIsOne (targets W u D n t)
 unfolding targets
 lawful_targets W u D zero t = tt
-lawful_targets W u D (suc n) t = Each-map TargetIsOne _ (place_named D t) (Each-any (λ d. IsOne (meaning_under W u (targets W u D n) d)) (one_under W u (targets W u D n) (lawful_targets W u D n)) (place_named D t))
+lawful_targets W u D (suc n) t = Each-map TargetIsOne _ (option_to_list (place_named D t)) (Each-any (λ d. IsOne (meaning_under W u (targets W u D n) d)) (one_under W u (targets W u D n) (lawful_targets W u D n)) (option_to_list (place_named D t)))
 
 pub verdict_of_reports : Verdict_of_reports
-verdict_of_reports W u D = one_under W u (targets W u D (references D)) (lawful_targets W u D (references D)) D
+verdict_of_reports W u D = one_under W u (targets W u D reference_limit) (lawful_targets W u D reference_limit) D

@@ -1,10 +1,10 @@
 -- How often references can be followed, wherever they stand: also where no keyword reads them.
-use Rattle.std.specs.Prelude.{ℕ, zero, suc, Bool, not, List, [], ◌++◌}
+use Rattle.std.specs.Prelude.{ℕ, zero, suc, Bool, not, List, [], ◌++◌, option_to_list}
 use Rattle.std.specs.List.{list_any}
 use Rattle.serde_json.specs.Data.{Data, array, object, Items, no_items, item, Members, no_members, member}
 use Rattle.olk_spec.specs.Names.{Text, is_empty}
 use Rattle.olk_spec.specs.Schemas.{as_text}
-use Rattle.olk_document_spec.specs.Documents.{place_named, references}
+use Rattle.olk_document_spec.specs.Documents.{place_named, reference_limit}
 use Rattle.olk_document_spec.specs.Keywords.{Document_keyword, reference, document_keyword}
 
 -- the text of a reference; d is the value of a member
@@ -31,8 +31,8 @@ module _ (D : Data) where
   -- followed so many times, references still lead to another one
   unfoldable pub goes_on : ℕ → Data → Bool
   goes_on zero d = not (is_empty (referring_texts d))
-  goes_on (suc n) d = list_any (λ t. list_any (goes_on n) (place_named D t)) (referring_texts d)
+  goes_on (suc n) d = list_any (λ t. list_any (goes_on n) (option_to_list (place_named D t))) (referring_texts d)
 
-  -- followed as often as there are references, they still lead to another one, as those do that run in a circle
+  -- followed as often as they are, they still lead to another one, as those do that run in a circle
   abbrev pub runs_on : Bool
-  runs_on = goes_on (references D) D
+  runs_on = goes_on reference_limit D

@@ -7,7 +7,7 @@ use Rattle.olk_spec.specs.Distinct.{DistinctNames}
 use Rattle.olk_spec.specs.Tree.{is_valid}
 use Rattle.olk_spec.specs.Meaning.{meaning}
 use Rattle.olk_spec.specs.Malformed.{malformations}
-use Rattle.olk_document_spec.specs.Documents.{document_meaning, references, targets}
+use Rattle.olk_document_spec.specs.Documents.{document_meaning, reference_limit, targets}
 use Rattle.olk_document_spec.specs.Following.{runs_on}
 use Rattle.olk_document_spec.specs.Steps.{meaning_under}
 use Rattle.olk_document_spec.specs.Malformed.{document_malformations}
@@ -29,6 +29,6 @@ Verdict_of_reports = (W : World) (u : Bool) (D v : Data) (P Q : Path) → (docum
 abbrev pub Verdict_of_trees : Type 0
 Verdict_of_trees = (W : World) (u : Bool) (D v : Data) (P Q : Path) → DistinctNames D → DistinctNames v → is_valid ((document_meaning W u D).tree v P Q) ≡ (document_meaning W u D).accepts v
 
--- where references don't lead on and on, following them more often than there are references means the same
+-- where references don't lead on and on, following them more often means the same
 abbrev pub Followed_more_often : Type 0
-Followed_more_often = (W : World) (u : Bool) (D : Data) (n : ℕ) → runs_on D ≡ false → meaning_under W u (targets W u D (references D + n)) D ≡ document_meaning W u D
+Followed_more_often = (W : World) (u : Bool) (D : Data) (n : ℕ) → runs_on D ≡ false → meaning_under W u (targets W u D (reference_limit + n)) D ≡ document_meaning W u D

@@ -1,6 +1,6 @@
 -- What a document reads, and what makes it malformed.
-use Rattle.std.specs.Prelude.{ℕ, zero, suc, Bool, cond, not, ◌||◌, List, [], ◌∷◌, ◌++◌, drop}
-use Rattle.std.specs.List.{flat_map, list_any}
+use Rattle.std.specs.Prelude.{ℕ, zero, suc, cond, not, List, [], ◌∷◌, ◌++◌, drop, Option, Some, None, option_map}
+use Rattle.std.specs.List.{flat_map}
 use Rattle.serde_json.specs.Data.{Data}
 use Rattle.olk_spec.specs.Names.{Text, Name, Path, ◌//◌, down, is_empty}
 use Rattle.olk_spec.specs.World.{World}
@@ -10,7 +10,7 @@ use Rattle.olk_spec.specs.Schemas.{Sub, Part, Schema, truth, keywords, no_schema
 use Rattle.olk_spec.specs.Malformed.{itself, each, read_places, refusal, is_text, unless_kind, unless_array, keyword_malformations}
 use Rattle.olk_document_spec.specs.Keywords.{Document_keyword, prefix_items, items, contains, reference, bound, document_keyword, is_other, beneath}
 use Rattle.olk_document_spec.specs.Applied.{natural}
-use Rattle.olk_document_spec.specs.Documents.{place_named, references}
+use Rattle.olk_document_spec.specs.Documents.{place_named, reference_limit}
 
 -- the places that a keyword reads, each with its path below the schema object
 module _ {X : Type 0} (k : Name) (p : Part X) where
@@ -36,45 +36,42 @@ module _ (W : World) where
   unfoldable pub references_read : Data → List Text
   references_read = answer_for references_step
 
-  module _ (D : Data) where
-    -- followed so many times, references still lead to another one
-    unfoldable pub leads_on : ℕ → Data → Bool
-    leads_on zero d = not (is_empty (references_read d))
-    leads_on (suc n) d = list_any (λ t. list_any (leads_on n) (place_named D t)) (references_read d)
+-- what is wrong with a reference k of the value d at P: what is wrong at the place to which it leads, unless it can't be followed
+abbrev pub reference_refusals : Name → Data → Path → Option (List Fault) → List Fault
+reference_refusals k d P None = refusal (Unsupported k) d P ∷ []
+reference_refusals k d P (Some fs) = fs
 
-    -- it names no place, or it leads back to itself
-    abbrev pub is_lost : Text → Bool
-    is_lost t = is_empty (place_named D t) || list_any (leads_on (references D)) (place_named D t)
+-- M: what is wrong at the place that a text names, unless the text can't be followed
+module _ (M : Text → Option (List Fault)) where
+  -- what is wrong with a keyword itself; d is its value and P its path
+  abbrev pub document_refusals : Name → Data → Path → Document_keyword → List Fault
+  document_refusals k d P prefix_items = unless_array d P
+  document_refusals k d P bound = unless_kind (not (is_empty (natural d))) (LeafRefused k) d P
+  document_refusals k d P reference = unless_kind (is_text d) (SingleType string_type) d P ++ flat_map (λ t. reference_refusals k d P (M t)) (as_text d)
+  document_refusals k d P w = []
 
-    -- what is wrong at the places that texts name is M
-    module _ (M : Text → List Fault) where
-      -- what is wrong with a keyword itself; d is its value and P its path
-      abbrev pub document_refusals : Name → Data → Path → Document_keyword → List Fault
-      document_refusals k d P prefix_items = unless_array d P
-      document_refusals k d P bound = unless_kind (not (is_empty (natural d))) (LeafRefused k) d P
-      document_refusals k d P reference = unless_kind (is_text d) (SingleType string_type) d P ++ flat_map (λ t. cond (is_lost t) (refusal (Unsupported k) d P ∷ []) (M t)) (as_text d)
-      document_refusals k d P w = []
+  abbrev pub document_malformed : Name → Part (Path → List Fault) → Path → Document_keyword → List Fault
+  document_malformed k p P w = document_refusals k p.whole.schema (P // k) w ++ flat_map (λ r. r.0.answer (down P r.1)) (document_places k p w)
 
-      abbrev pub document_malformed : Name → Part (Path → List Fault) → Path → Document_keyword → List Fault
-      document_malformed k p P w = document_refusals k p.whole.schema (P // k) w ++ flat_map (λ r. r.0.answer (down P r.1)) (document_places k p w)
+module _ (W : World) (M : Text → Option (List Fault)) where
+  -- a keyword of the layer, or one of the document
+  abbrev pub member_malformed : Keywords (Path → List Fault) → Name → Part (Path → List Fault) → Path → List Fault
+  member_malformed S k p P = cond (is_other k) (keyword_malformations (beneath W) S k p P (keyword_named (beneath W) k)) (document_malformed M k p P (document_keyword k))
 
-      -- a keyword of the layer, or one of the document
-      abbrev pub member_malformed : Keywords (Path → List Fault) → Name → Part (Path → List Fault) → Path → List Fault
-      member_malformed S k p P = cond (is_other k) (keyword_malformations (beneath W) S k p P (keyword_named (beneath W) k)) (document_malformed k p P (document_keyword k))
+  abbrev pub document_malformations_step : Schema (Path → List Fault) → Path → List Fault
+  document_malformations_step (truth b) P = []
+  document_malformations_step (no_schema d) P = refusal MultipleTypes d P ∷ []
+  document_malformations_step (keywords S) P = flat_map (λ m. member_malformed S m.0 m.1 P) S
 
-      abbrev pub document_malformations_step : Schema (Path → List Fault) → Path → List Fault
-      document_malformations_step (truth b) P = []
-      document_malformations_step (no_schema d) P = refusal MultipleTypes d P ∷ []
-      document_malformations_step (keywords S) P = flat_map (λ m. member_malformed S m.0 m.1 P) S
+  unfoldable pub malformations_under : Data → Path → List Fault
+  malformations_under = answer_for document_malformations_step
 
-      unfoldable pub malformations_under : Data → Path → List Fault
-      malformations_under = answer_for document_malformations_step
+module _ (W : World) (D : Data) where
+  -- those of the place that a text names, where references are followed so many times
+  unfoldable pub malformed_targets : ℕ → Text → Option (List Fault)
+  malformed_targets zero t = None
+  malformed_targets (suc n) t = option_map (λ d. malformations_under W (malformed_targets n) d (drop 1 t)) (place_named D t)
 
-    -- those of a place that a text names, where references are followed so many times
-    unfoldable pub malformed_targets : ℕ → Text → List Fault
-    malformed_targets zero t = []
-    malformed_targets (suc n) t = flat_map (λ d. malformations_under (malformed_targets n) d (drop 1 t)) (place_named D t)
-
-    -- those of the document, and of each place that it refers to
-    abbrev pub document_malformations : List Fault
-    document_malformations = malformations_under (malformed_targets (references D)) D []
+  -- those of the document, and of each place to which it refers
+  abbrev pub document_malformations : List Fault
+  document_malformations = malformations_under W (malformed_targets reference_limit) D []

@@ -18,6 +18,9 @@ one_behind_another = "{\"$defs\":{\"a\":{\"type\":\"integer\"},\"b\":{\"$ref\":\
 abbrev pub beside_a_keyword : Quoted
 beside_a_keyword = "{\"$defs\":{\"reffed\":{\"type\":\"string\"}},\"properties\":{\"foo\":{\"$ref\":\"#/$defs/reffed\",\"maxLength\":2}}}"
 
+abbrev pub as_many_as_may_be : Quoted
+as_many_as_may_be = "{\"$ref\":\"#/$defs/1\",\"$defs\":{\"1\":{\"$ref\":\"#/$defs/2\"},\"2\":{\"$ref\":\"#/$defs/3\"},\"3\":{\"$ref\":\"#/$defs/4\"},\"4\":{\"$ref\":\"#/$defs/5\"},\"5\":{\"$ref\":\"#/$defs/6\"},\"6\":{\"$ref\":\"#/$defs/7\"},\"7\":{\"$ref\":\"#/$defs/8\"},\"8\":{\"$ref\":\"#/$defs/9\"},\"9\":{\"$ref\":\"#/$defs/10\"},\"10\":{\"$ref\":\"#/$defs/11\"},\"11\":{\"$ref\":\"#/$defs/12\"},\"12\":{\"$ref\":\"#/$defs/13\"},\"13\":{\"$ref\":\"#/$defs/14\"},\"14\":{\"$ref\":\"#/$defs/15\"},\"15\":{\"$ref\":\"#/$defs/16\"},\"16\":false}}"
+
 abbrev pub a_member_of_that_name : Quoted
 a_member_of_that_name = "{\"properties\":{\"$ref\":{\"type\":\"string\"}}}"
 
@@ -38,6 +41,11 @@ pub record Rows_references : Type 0 where
   pub both_hold : Holds beside_a_keyword "{\"foo\":\"ab\"}"
   pub the_keyword_beside_it_is_asked : Fails beside_a_keyword "{\"foo\":\"abc\"}" ("\"abc\" is longer than 2 characters @ /foo, /properties/foo/maxLength" ∷ [])
   pub it_is_asked_beside_a_keyword : Fails beside_a_keyword "{\"foo\":5}" ("5 is not of type \"string\" @ /foo, /$defs/reffed/type" ∷ [])
+  pub behind_as_many_as_may_be_it_is_wrong : Fails as_many_as_may_be "1" ("False schema does not allow 1 @ \"\", /$defs/16" ∷ [])
+  pub a_tilde_alone_names_no_place : Holds "{\"$ref\":\"#/a~b\",\"a~b\":false}" "1"
+  pub a_tilde_at_the_end_names_no_place : Holds "{\"$ref\":\"#/a~\",\"a~\":false}" "1"
+  pub a_position_has_no_zero_before_it : Holds "{\"$ref\":\"#/prefixItems/00\",\"prefixItems\":[false]}" "1"
+  pub the_empty_name : Fails "{\"$ref\":\"#/\",\"\":false}" "1" ("False schema does not allow 1 @ \"\", /" ∷ [])
   pub a_percent_sign_names_no_place : Holds "{\"$ref\":\"#/a%b\",\"a%b\":false}" "1"
   pub a_member_of_that_name_is_right : Holds a_member_of_that_name "{\"$ref\":\"a\"}"
   pub a_member_of_that_name_is_wrong : Fails a_member_of_that_name "{\"$ref\":2}" ("2 is not of type \"string\" @ /$ref, /properties/$ref/type" ∷ [])

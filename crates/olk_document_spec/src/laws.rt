@@ -21,8 +21,8 @@ pub fn tree_verdict()
     ensures { Verdict_of_trees }
 {}
 
-/// Where references, followed as often as the document has any, lead to no other one, wherever they
-/// stand, the document means the same if they are followed more often.
+/// Where references, followed as often as they are for the meaning of a document, lead to no other
+/// one, wherever they stand, the document means the same if they are followed more often.
 pub fn enough_followed()
     ensures { Followed_more_often }
 {}

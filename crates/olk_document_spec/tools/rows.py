@@ -18,6 +18,10 @@ spec.loader.exec_module(layer)
 PROOFS = {"Holds": "λ u. (refl, refl, refl)", "Fails": "λ u. (refl, refl, refl)", "Has_tree": "λ u. refl", "Asks": "λ u. refl", "Is_refused": "refl", "Builds": "refl"}
 
 
+# So many references are followed, one behind another.
+REFERENCE_LIMIT = 16
+
+
 class Group(layer.Group):
     def write(self):
         schemas = "".join(f"\nabbrev pub {n} : Quoted\n{n} = {layer.quote(t)}\n" for n, t in self.schemas.items())
@@ -150,6 +154,12 @@ def references():
     g.holds("both_hold", beside, '{"foo":"ab"}')
     g.fails("the_keyword_beside_it_is_asked", beside, '{"foo":"abc"}', ['"abc" is longer than 2 characters @ /foo, /properties/foo/maxLength'])
     g.fails("it_is_asked_beside_a_keyword", beside, '{"foo":5}', ['5 is not of type "string" @ /foo, /$defs/reffed/type'])
+    chain = g.schema("as_many_as_may_be", references_in_a_chain(REFERENCE_LIMIT, False))
+    g.fails("behind_as_many_as_may_be_it_is_wrong", chain, "1", [f'False schema does not allow 1 @ "", /$defs/{REFERENCE_LIMIT}'])
+    g.holds("a_tilde_alone_names_no_place", '{"$ref":"#/a~b","a~b":false}', "1")
+    g.holds("a_tilde_at_the_end_names_no_place", '{"$ref":"#/a~","a~":false}', "1")
+    g.holds("a_position_has_no_zero_before_it", '{"$ref":"#/prefixItems/00","prefixItems":[false]}', "1")
+    g.fails("the_empty_name", '{"$ref":"#/","":false}', "1", ['False schema does not allow 1 @ "", /'])
     g.holds("a_percent_sign_names_no_place", '{"$ref":"#/a%b","a%b":false}', "1")
     named = g.schema("a_member_of_that_name", '{"properties":{"$ref":{"type":"string"}}}')
     g.holds("a_member_of_that_name_is_right", named, '{"$ref":"a"}')
@@ -164,6 +174,12 @@ def references():
     return g
 
 
+def references_in_a_chain(count, last):
+    """So many references, each to the place of the next one, and the last of them to `last`."""
+    places = {str(n): {"$ref": f"#/$defs/{n + 1}"} for n in range(1, count)}
+    return {"$ref": "#/$defs/1", "$defs": {**places, str(count): last}}
+
+
 def refusals():
     g = Group("Rows_refusals", "Malformed documents.")
     for name, schema in (
@@ -171,6 +187,7 @@ def refusals():
         ("bounds_alone_build", '{"minContains":0,"maxContains":0}'),
         ("what_is_not_read_builds", '{"$defs":{"a":{"$ref":5,"items":5}},"const":"a"}'),
         ("a_member_of_that_name_builds", '{"properties":{"$ref":{"type":"string"}}}'),
+        ("as_many_as_may_be_build", references_in_a_chain(REFERENCE_LIMIT, True)),
         ("one_place_twice_builds", '{"prefixItems":[{"$ref":"#/$defs/a"},{"$ref":"#/$defs/a"}],"$defs":{"a":{}}}'),
     ):
         g.builds(name, schema)
@@ -190,8 +207,12 @@ def refusals():
         ("an_anchor_names_no_place", '{"items":{"$ref":"#a"},"$defs":{"a":{"$anchor":"a"}}}', [lost % "/items/$ref"]),
         ("another_document_is_not_read", '{"$ref":"other.json"}', [lost % "/$ref"]),
         ("a_percent_sign_is_not_read", '{"$ref":"#/a%25b","a%b":true}', [lost % "/$ref"]),
+        ("a_tilde_is_followed_by_a_digit", '{"$ref":"#/a~2","a~2":true}', [lost % "/$ref"]),
+        ("a_pointer_begins_with_a_slash", '{"$ref":"#$defs","$defs":true}', [lost % "/$ref"]),
+        ("a_reference_leads_to_itself", '{"$ref":"#/$defs/a","$defs":{"a":{"$ref":"#/$defs/a"}}}', [lost % "/$defs/a/$ref"]),
+        ("one_more_than_may_be", references_in_a_chain(REFERENCE_LIMIT + 1, True), [lost % f"/$defs/{REFERENCE_LIMIT}/$ref"]),
         ("the_root_leads_back_to_itself", '{"properties":{"foo":{"$ref":"#"}},"additionalProperties":false}', [lost % "/properties/foo/$ref"]),
-        ("two_lead_to_each_other", '{"$ref":"#/$defs/a","$defs":{"a":{"items":{"$ref":"#/$defs/b"}},"b":{"items":{"$ref":"#/$defs/a"}}}}', [lost % "/$ref"]),
+        ("two_lead_to_each_other", '{"$ref":"#/$defs/a","$defs":{"a":{"items":{"$ref":"#/$defs/b"}},"b":{"items":{"$ref":"#/$defs/a"}}}}', [lost % "/$defs/b/items/$ref"]),
         ("what_is_named_is_read", '{"$ref":"#/$defs/a","$defs":{"a":{"required":5}}}', [list_wanted % ("5", "/$defs/a/required")]),
         ("what_is_named_is_a_schema", '{"$ref":"#/$defs","$defs":[1]}', [schema_wanted % ("[1]", "/$defs")]),
     ):

@@ -45,7 +45,7 @@ fn truth<N: BuiltNode<NoText, EqualTo>>(alloc: Global, word: &str) -> N {
     } else {
         Body::False
     };
-    N::new(Location::new(alloc), body)
+    N::new(alloc, Location::new(alloc), body)
 }
 
 fn keyword<N: BuiltNode<NoText, EqualTo>>(
@@ -54,7 +54,7 @@ fn keyword<N: BuiltNode<NoText, EqualTo>>(
 ) -> Result<N, AllocError> {
     let mut keywords = Vec::new(alloc);
     keywords.push(keyword)?;
-    Ok(N::new(Location::new(alloc), Body::Keywords(keywords)))
+    Ok(N::new(alloc, Location::new(alloc), Body::Keywords(keywords)))
 }
 
 fn no_text<N: BuiltNode<NoText, EqualTo>>(alloc: Global) -> Result<N, AllocError> {

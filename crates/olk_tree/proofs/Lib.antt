@@ -16,7 +16,8 @@ pub mod Literals
 mod Bits
 pub mod Tables
 pub mod OneOf
-pub mod Branches
+pub mod Mapped
+pub mod Layers
 pub mod AdditionalMaps
 pub mod Answering
 pub mod AskedSchemas

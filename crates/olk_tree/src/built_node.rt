@@ -2,6 +2,7 @@
 use crate::node::{Body, KeywordOver};
 use olk_base::{Leaf, RegexEngine};
 use olk_reports::Location;
+use std::alloc::Global;
 
 /// A type of nodes that building makes: each answers as what it is made with does. Building knows no
 /// more of a node; `SchemaNode` implements it.
@@ -13,7 +14,7 @@ pub trait BuiltNode<K: Leaf, R: RegexEngine>: Drop {
     // what it answers
     ghost answers: { Self → Answers };
 
-    /// The node at the place, with what stands there.
-    fn new(location: Location, body: Body<KeywordOver<K, R, Self>>) -> Self
+    /// The node at the place, with what stands there. It takes no memory.
+    fn new(alloc: Global, location: Location, body: Body<KeywordOver<K, R, Self>>) -> Self
         ensures { AnswersBy (kit K.Leaf R.RegexEngine) answers location body result };
 }

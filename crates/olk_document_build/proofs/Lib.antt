@@ -1,0 +1,10 @@
+pub mod Arrays
+pub mod Nodes
+pub mod OwnKeywords
+pub mod Beside
+pub mod ReferenceKeyword
+pub mod Made
+pub mod ReadReferences
+pub mod NoObjects
+pub mod Leaving
+pub mod Object

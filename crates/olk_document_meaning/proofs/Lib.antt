@@ -1,0 +1,10 @@
+pub mod Names
+pub mod Document_steps
+pub mod Others
+pub mod Neighbours
+pub mod Objects
+pub mod Malformed_objects
+pub mod Plans
+pub mod Places_read
+pub mod References
+pub mod Escapes
