@@ -17,8 +17,7 @@ fn place(alloc: Global, text: &str) -> Result<String, Fail> {
 }
 
 /// Each row is a text and the value at the place that it names, by RFC 6901.
-const ROWS: &str = r##"~1 | /
-#/ | "empty"
+const ROWS: &str = r##"#/ | "empty"
 #/a~1b | "slash"
 #/m~0n | "tilde"
 #/~01 | "tilde one"
