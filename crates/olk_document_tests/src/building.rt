@@ -53,7 +53,9 @@ fn verdict_by_target(alloc: Global, row: &str) -> Result<String, Fail> {
     let schema = Value::from_str(alloc, schema)?;
     let value = Value::from_str(alloc, value)?;
     let mut targets = Targets::new(alloc);
-    let target = built_under(alloc, &Targets::new(alloc), &place).map_err(|_| "a place")?;
+    let target = built_under(alloc, &Targets::new(alloc), &place)
+        .ok()
+        .ok_or("a place")?;
     let target = Rc::new(alloc, target)?;
     targets
         .nodes
