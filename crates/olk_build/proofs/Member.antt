@@ -6,7 +6,7 @@ use Rattle.std.proofs.lemmas.List.Sorted.{IsPermutation-append_comm, length_perm
 use Rattle.serde_json.specs.Data.{Data, Members}
 use Rattle.olk_spec.specs.Names.{Name, lookup_name, is_among, filter_once, Path, ◌//◌, put_if}
 use Rattle.olk_spec.specs.Costs.{Cost, ◌⊕◌, total_cost, no_cost}
-use Rattle.olk_spec.proofs.CostSums.{sum_around, sum_last}
+use Rattle.olk_spec.proofs.CostSums.{sum_around, sum_last, sum_turned}
 use Rattle.olk_spec.proofs.Each.{Each, Each-implies}
 use Rattle.olk_spec.proofs.Order.{along_permutation}
 use Rattle.olk_spec.proofs.Truth.{and_first, and_second}
@@ -36,7 +36,7 @@ use Rattle.olk_build.proofs.Held.{unrestricted_if_untaken}
 use Rattle.olk_build.proofs.TakenParts.{same_takes, wrong, costs, there_known, nothing_later, first_refused, second_refused, both_spent, nothing, takes_nothing}
 use Rattle.std.specs.{List.flat_map, Result.result_transpose, declared.alloc.AllocError.AllocError}
 use Rattle.olk_spec.specs.{Schemas.listed, Malformed.has_repeat, Faults.Fault}
-use Rattle.olk_meaning.proofs.{PatternProperties.other_way, Rows.Rows, Conditions.restricted_read}
+use Rattle.olk_meaning.proofs.{Rows.Rows, Conditions.restricted_read}
 use Rattle.olk_meaning.proofs.Facts.{flat_map-flat_map, total_cost-flat_map}
 use Rattle.std.proofs.{lemmas.Grind.flat_map-append, lemmas.Slice.Zip.all_zipped_more, lemmas.List.nil_from_length}
 use Rattle.olk_base.specs.{Count.Counts, Kit.Kit}
@@ -49,15 +49,7 @@ use Rattle.olk_tree.specs.Steps.{StepsOf}
 
 module _ {X : Type 0} (c : X → Cost) where
   turned : (x y : X) (xs : List X) → total_cost c (x ∷ y ∷ xs) ≡ total_cost c (y ∷ x ∷ xs)
-  turned x y xs = sym (sum_around (c x) (c y) _) ∙ ap (λ z. z ⊕ total_cost c xs) (exchanged (c x) (c y)) ∙ sum_around (c y) (c x) _
-    where
-      exchanged : (a b : Cost) → a ⊕ b ≡ b ⊕ a
-      exchanged a b = λ i. record {
-        places = other_way a.places b.places i;
-        leaf_places = other_way a.leaf_places b.leaf_places i;
-        pattern_places = other_way a.pattern_places b.pattern_places i;
-        table_asks = other_way a.table_asks b.table_asks i;
-      }
+  turned x y xs = sym (sum_around (c x) (c y) _) ∙ ap (λ z. z ⊕ total_cost c xs) (sum_turned (c x) (c y)) ∙ sum_around (c y) (c x) _
 
   pub total_cost-permuted : (xs ys : List X) → IsPermutation xs ys → total_cost c xs ≡ total_cost c ys
   total_cost-permuted = along_permutation (λ xs ys. total_cost c xs ≡ total_cost c ys) (λ xs. refl) (λ x xs ys h. ap (λ z. c x ⊕ z) h) turned (λ xs ys zs h k. h ∙ k)

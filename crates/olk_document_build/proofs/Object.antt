@@ -11,7 +11,7 @@ use Rattle.olk_spec.specs.Costs.{Cost, no_cost, one_place, total_cost, ◌⊕◌
 use Rattle.olk_spec.specs.Faults.{Fault}
 use Rattle.olk_spec.specs.Malformed.{has_repeat}
 use Rattle.olk_spec.specs.Schemas.{listed}
-use Rattle.olk_spec.proofs.CostSums.{sum_around}
+use Rattle.olk_spec.proofs.CostSums.{sum_around, sum_turned}
 use Rattle.olk_spec.proofs.Reading.{schema_of_read}
 use Rattle.olk_base.specs.Count.{Counts, raised_by, count_compiled}
 use Rattle.olk_base.specs.Kit.{Kit}
@@ -21,7 +21,6 @@ use Rattle.olk_reports.specs.declared.error.BuildError.TheVariants.{Memory}
 use Rattle.olk_meaning.specs.Conditions.{Known, known_of}
 use Rattle.olk_meaning.specs.Plans.{Planned, plan_of}
 use Rattle.olk_meaning.specs.Steps.{cost}
-use Rattle.olk_meaning.proofs.PatternProperties.{other_way}
 use Rattle.olk_tree.specs.Steps.{StepsOf}
 use Rattle.olk_tree.specs.declared.node.Body.TheVariants.{Keywords}
 use Rattle.olk_tree.specs.declared.node.KeywordOver.{KeywordOver}
@@ -95,17 +94,9 @@ module _ {K R : Type 0} (T : Targets K R) (ms : Members) (k : Name) (d : Data) w
 
 -- ---- what is counted later may as well be counted before
 
-costs_turned : (c d : Cost) → c ⊕ d ≡ d ⊕ c
-costs_turned c d = λ i. record {
-  places = other_way c.places d.places i;
-  leaf_places = other_way c.leaf_places d.leaf_places i;
-  pattern_places = other_way c.pattern_places d.pattern_places i;
-  table_asks = other_way c.table_asks d.table_asks i;
-}
-
 module _ (a b c : Counts) (x y : Cost) where
   spends_before : Spends a b y → Spends b c x → Spends (raised_by a (counted x)) c y
-  spends_before h k = spends_append a b c y x h k ∙ ap (λ z. raised_by a (counted z)) (costs_turned y x) ∙ sym (raised_by_sum a (counted x) (counted y))
+  spends_before h k = spends_append a b c y x h k ∙ ap (λ z. raised_by a (counted z)) (sum_turned y x) ∙ sym (raised_by_sum a (counted x) (counted y))
 
 module _ {X N : Type 0} {wrong : X → List Fault} {costs : X → Cost} {Stand : List N → List X → Type 0} {all : List X} {a b c : Counts} {ns : List N} {left : List X} (x : Cost) where
   so_far_behind : SoFar wrong costs Stand all a ns left b → Spends b c x → SoFar wrong costs Stand all (raised_by a (counted x)) ns left c

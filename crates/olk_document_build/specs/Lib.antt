@@ -4,3 +4,4 @@ pub mod Own
 pub mod Targets
 pub mod Building
 pub mod References
+pub mod Documents

@@ -443,5 +443,25 @@ pub fn compile_under<'a, L: MakeLeaf, M: MakeRegex>(
     ensures same_meter { ctx.new.meter.ghost_name ≡ ctx.old.meter.ghost_name }
 {
     let location = ctx.place.try_clone(alloc)?;
+    compile_at(alloc, ctx, targets, location, schema)
+}
+
+/// The node of a schema, which takes its place over, where references name these targets.
+pub(crate) fn compile_at<'a, L: MakeLeaf, M: MakeRegex>(
+    alloc: Global,
+    ctx: &mut Context<'_, L, M>,
+    targets: &Targets<L::Leaf, M::Engine>,
+    location: Location,
+    schema: &'a Value,
+) -> Result<DocumentNode<L::Leaf, M::Engine>, BuildError<'a>>
+    ensures built { IfOk result (λ n. ByTargets L.Leaf.Leaf M.Engine.RegexEngine targets.now
+        (λ I. IsBuilt I (answers_by I) n (view schema.now) location
+        ctx.old.meter.now ctx.new.meter.now)) }
+    ensures refused { IfErr result (λ e. ByTargets L.Leaf.Leaf M.Engine.RegexEngine targets.now
+        (λ I. RefusesSchema I (view schema.now) location
+        ctx.old.meter.now ctx.new.meter.now e)) }
+    ensures place { ctx.new.place ≡ ctx.old.place }
+    ensures same_meter { ctx.new.meter.ghost_name ≡ ctx.old.meter.ghost_name }
+{
     Ok(compile_place(alloc, &ctx.makers, targets, ctx.meter, location, schema)?)
 }

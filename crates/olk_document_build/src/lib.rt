@@ -5,12 +5,14 @@
 #![tactic(auto)]
 
 mod build;
+pub mod document;
 mod own;
 pub mod reading;
 pub mod references;
 pub mod targets;
 
 pub use build::compile_under;
+pub use document::{REFERENCE_LIMIT, compile_document};
 pub use own::{OwnShape, read_own};
 pub use references::references_read;
 pub use targets::Targets;

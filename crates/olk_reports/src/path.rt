@@ -88,6 +88,17 @@ impl Location {
         }
     }
 
+    /// The place to which the text of a pointer leads.
+    ///
+    /// Without memory there is none.
+    pub fn of_pointer(alloc: Global, pointer: &str) -> Result<Location, AllocError>
+        ensures { IfOk result (λ l. l ≡ pointer.now) }
+    {
+        Ok(Location {
+            pointer: String::from_str(alloc, pointer)?,
+        })
+    }
+
     /// The place one segment further down, as a text of its own.
     ///
     /// Without memory there is none.

@@ -15,6 +15,9 @@ sum_first c = costs_alike (omega arith) (omega arith) (omega arith) (omega arith
 pub sum_last : (c : Cost) → c ⊕ no_cost ≡ c
 sum_last c = costs_alike (omega arith) (omega arith) (omega arith) (omega arith)
 
+pub sum_turned : (c d : Cost) → c ⊕ d ≡ d ⊕ c
+sum_turned c d = costs_alike (omega arith) (omega arith) (omega arith) (omega arith)
+
 pub total_cost-append : {X : Type 0} (f : X → Cost) (xs ys : List X) → total_cost f (xs ++ ys) ≡ total_cost f xs ⊕ total_cost f ys
 total_cost-append f [] ys = sym (sum_first _)
 total_cost-append f (x ∷ xs) ys = ap (λ c. f x ⊕ c) (total_cost-append f xs ys) ∙ sym (sum_around _ _ _)
