@@ -1,6 +1,7 @@
 pub mod Appending
 pub mod Sinks
 pub mod Own
+pub mod Kept
 mod Contexts
 mod Missing
 mod Members
