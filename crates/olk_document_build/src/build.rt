@@ -55,7 +55,7 @@ fn append_own<N: Drop>(
 }
 
 /// The node of a schema, which takes its place over.
-#[cycle(compile)]
+#[cycle(documents)]
 fn compile_place<'a, L: MakeLeaf, M: MakeRegex>(
     alloc: Global,
     makers: &Makers<'_, L, M>,
@@ -82,7 +82,7 @@ fn compile_place<'a, L: MakeLeaf, M: MakeRegex>(
 
 /// The node of a schema object, which takes its place over: the keywords of the layer, and then the
 /// document's own, both in the order of their names.
-#[cycle(compile)]
+#[cycle(documents)]
 fn compile_object<'a, L: MakeLeaf, M: MakeRegex>(
     alloc: Global,
     makers: &Makers<'_, L, M>,
@@ -141,7 +141,7 @@ fn compile_object<'a, L: MakeLeaf, M: MakeRegex>(
 }
 
 /// The keyword of the document of this shape, over the nodes in its value; none for a bound.
-#[cycle(compile)]
+#[cycle(documents)]
 fn compile_own<'a, L: MakeLeaf, M: MakeRegex>(
     alloc: Global,
     makers: &Makers<'_, L, M>,
@@ -189,7 +189,7 @@ fn compile_own<'a, L: MakeLeaf, M: MakeRegex>(
 
 /// What the keyword of a part of this shape takes of two neighbours, as far as they are there.
 /// Where it takes patterns, each is asked once of each name that is declared beside them.
-#[cycle(compile)]
+#[cycle(documents)]
 fn compile_taken<'a, L: MakeLeaf, M: MakeRegex>(
     alloc: Global,
     makers: &Makers<'_, L, M>,
@@ -218,7 +218,7 @@ fn compile_taken<'a, L: MakeLeaf, M: MakeRegex>(
 }
 
 /// The part of the member of this name, if there is one.
-#[cycle(compile)]
+#[cycle(documents)]
 fn compile_neighbour<'a, L: MakeLeaf, M: MakeRegex>(
     alloc: Global,
     makers: &Makers<'_, L, M>,
@@ -251,7 +251,7 @@ fn compile_neighbour<'a, L: MakeLeaf, M: MakeRegex>(
 }
 
 /// The part of a member of a schema object, by what it has to know of its neighbours.
-#[cycle(compile)]
+#[cycle(documents)]
 fn compile_part<'a, L: MakeLeaf, M: MakeRegex>(
     alloc: Global,
     makers: &Makers<'_, L, M>,
@@ -287,7 +287,7 @@ fn compile_part<'a, L: MakeLeaf, M: MakeRegex>(
 }
 
 /// The nodes of the places that are read in a value.
-#[cycle(compile)]
+#[cycle(documents)]
 fn compile_places<'a, L: MakeLeaf, M: MakeRegex>(
     alloc: Global,
     makers: &Makers<'_, L, M>,
@@ -338,7 +338,7 @@ fn compile_places<'a, L: MakeLeaf, M: MakeRegex>(
 }
 
 /// The nodes of the entries of an object that are read, each below the place under its name.
-#[cycle(compile)]
+#[cycle(documents)]
 fn compile_entries<'a, L: MakeLeaf, M: MakeRegex>(
     alloc: Global,
     makers: &Makers<'_, L, M>,
@@ -368,7 +368,7 @@ fn compile_entries<'a, L: MakeLeaf, M: MakeRegex>(
 }
 
 /// The nodes of the entries of each entry of an object, below the place under both names.
-#[cycle(compile)]
+#[cycle(documents)]
 fn compile_inner_entries<'a, L: MakeLeaf, M: MakeRegex>(
     alloc: Global,
     makers: &Makers<'_, L, M>,
@@ -395,7 +395,7 @@ fn compile_inner_entries<'a, L: MakeLeaf, M: MakeRegex>(
 }
 
 /// The nodes of the branches of an array, each below the place under its position.
-#[cycle(compile)]
+#[cycle(documents)]
 fn compile_branches<'a, L: MakeLeaf, M: MakeRegex>(
     alloc: Global,
     makers: &Makers<'_, L, M>,

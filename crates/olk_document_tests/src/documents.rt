@@ -1,5 +1,5 @@
 //! Places with one keyword, over places that accept everything or nothing.
-use olk_base::{Node, ValidationContext};
+use olk_base::{Leaf, Node, RegexEngine, ValidationContext};
 use olk_base_tests::doubles::{EqualTo, NoText};
 use olk_base_tests::tables::{expect_rows, three};
 use olk_check::IsValid;
@@ -124,7 +124,11 @@ fn word(verdict: bool) -> &'static str {
 }
 
 /// Whether `validate` finds nothing.
-fn passes(alloc: Global, place: &Place, node: Node<'_>) -> Result<bool, AllocError> {
+fn passes<K: Leaf, R: RegexEngine>(
+    alloc: Global,
+    place: &DocumentNode<K, R>,
+    node: Node<'_>,
+) -> Result<bool, AllocError> {
     let mut ctx = ValidationContext::new(false);
     let mut path = InstancePath::new(alloc);
     match place.validate(alloc, node, &mut path, &mut ctx) {
@@ -136,7 +140,11 @@ fn passes(alloc: Global, place: &Place, node: Node<'_>) -> Result<bool, AllocErr
 
 /// The verdict, where `validate` has another one both, and of each error where the value and the
 /// schema stand.
-fn told(alloc: Global, place: &Place, node: Node<'_>) -> Result<String, AllocError> {
+pub(crate) fn told<K: Leaf, R: RegexEngine>(
+    alloc: Global,
+    place: &DocumentNode<K, R>,
+    node: Node<'_>,
+) -> Result<String, AllocError> {
     let mut ctx = ValidationContext::new(false);
     let accepted = place.is_valid(node, &mut ctx);
     let mut text = String::from_str(alloc, word(accepted))?;

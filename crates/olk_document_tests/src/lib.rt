@@ -8,6 +8,8 @@
 #[cfg(test)]
 mod building;
 #[cfg(test)]
+mod compiling;
+#[cfg(test)]
 mod documents;
 #[cfg(test)]
 mod places;

@@ -22,7 +22,7 @@ use Rattle.olk_document_meaning.proofs.Plans.{found_in_layer, same_known}
 use Rattle.olk_document_build.specs.Kits.{document}
 use Rattle.olk_document_build.proofs.Leaving.{IfErr-weaker_by, IfOk-weaker_by, exit_by}
 use Rattle.olk_document_build.proofs.NoObjects.{no_schema_refused, truth_built}
-use Rattle.olk_document_build.proofs.build.+compile.Goals as goal
+use Rattle.olk_document_build.proofs.build.+documents.Goals as goal
 use Rattle.olk_document_build.proofs.Made.{own_refused, own_memory, prefix_items_built, items_built, contains_built, reference_built, bound_built}
 use Rattle.olk_document_build.specs.declared.own.OwnShape.TheVariants as shape
 use Rattle.serde_json.proofs.value.Value.TheLaws.{the_size}

@@ -4,7 +4,7 @@ use Rattle.olk_spec.specs.Schemas.{listed, numbered}
 use Rattle.olk_build.specs.Building.{entries_read}
 use Rattle.olk_build.proofs.Built.{EntriesSoFar, InnerSoFar, branches_from}
 use Rattle.olk_document_build.specs.Targets.{ByTargets, answers_by, TargetsStand}
-use Rattle.olk_document_build.proofs.build.+compile.Given as goal
+use Rattle.olk_document_build.proofs.build.+documents.Given as goal
 use Rattle.std.proofs.Common.{◌≡◌, ◌++◌, List, String, Global}
 use Rattle.serde_json.specs.declared.value.Value.{Value}
 use Rattle.olk_base.specs.Kit.{kit}
