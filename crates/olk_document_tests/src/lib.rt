@@ -15,3 +15,5 @@ mod documents;
 mod places;
 #[cfg(test)]
 mod references;
+#[cfg(test)]
+mod validators;
