@@ -4,9 +4,9 @@ use Rattle.serde_json.specs.Data.{Data}
 use Rattle.serde_json.specs.Read.{read}
 use Rattle.olk_spec.specs.Names.{Text}
 use Rattle.olk_spec.specs.World.{World}
-use Rattle.olk_spec.specs.Meaning.{accepts}
 use Rattle.olk_regexes.specs.Says.{builds, says}
 use Rattle.olk_vocabulary.specs.Vocabulary.{vocabulary_reads, vocabulary_fits, vocabulary_faults}
+use Rattle.olk.specs.Documents.{accepts}
 use Rattle.olk.specs.declared.console.Status.{Status}
 use Rattle.olk.specs.declared.console.Status.TheVariants.{Valid, Invalid, Failed, Memory}
 

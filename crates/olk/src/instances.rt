@@ -2,19 +2,19 @@
 ghost use Rattle.std.specs.Prelude.{◌≡◌, ◌∷◌, [], List, Option, length, false, OnOk};
 ghost use Rattle.serde_json.specs.View.{view};
 ghost use Rattle.olk_spec.specs.Names.{Text};
-ghost use Rattle.olk_spec.specs.Meaning.{accepts};
 ghost use Rattle.olk_base.specs.Kit.{kit, world};
-ghost use Rattle.object_logic.specs.Validators.{IsValidatorOf};
+ghost use Rattle.olk_document.specs.Validators.{IsDocumentValidatorOf};
+ghost use Rattle.olk.specs.Documents.{accepts};
 ghost use Rattle.olk.specs.Statuses.{worse, status_of, IsChecked};
 
-use crate::answer::{accepts, asked_errors};
+use crate::answer::{Question, accepts, asked_errors, tell_evaluation};
 use crate::console::{Console, Status};
 use crate::options::{Ask, Format, Options, STANDARD_INPUT};
 use crate::reading::{INPUT_LEN, is_blank, read_file, read_value, shown_name};
-use object_logic::{Leaf, RegexEngine, Validator};
 use olk_answers::refusal_text;
+use olk_base::{Leaf, RegexEngine};
+use olk_document::DocumentValidator;
 use olk_places::{Located, Place, error_lines, errors_text, first_text, placed};
-use olk_replies::{Question, tell_evaluation};
 use serde_json::Value;
 use std::alloc::{AllocError, Global};
 use std::io::{BufRead, BufReader};
@@ -29,7 +29,7 @@ pub struct Checker<'c, K, R> {
     /// The schema.
     pub schema: &'c Value,
     /// Its validator.
-    pub validator: &'c Validator<K, R>,
+    pub validator: &'c DocumentValidator<K, R>,
 }
 
 /// Checks each instance. One that can't be read is passed over, and that is said; it counts as
@@ -43,7 +43,7 @@ pub fn check_instances<
     K: Leaf,
     R: RegexEngine,
 >(rt: &T, console: &mut Console<'_, T>, checker: &Checker<'_, K, R>) -> io::Result<()>
-    requires stands { IsValidatorOf (kit K.Leaf R.RegexEngine) checker.now.validator.now
+    requires stands { IsDocumentValidatorOf (kit K.Leaf R.RegexEngine) checker.now.validator.now
         (view checker.now.schema.now) }
     ensures { OnOk result ((them : List (Option Text))
         × IsChecked (world K.Leaf R.RegexEngine) (view checker.now.schema.now)
@@ -68,7 +68,7 @@ fn check_path<T: Files + Input + Print + Eprint + AllocGlobal, K: Leaf, R: Regex
     checker: &Checker<'_, K, R>,
     path: &str,
 ) -> io::Result<()>
-    requires stands { IsValidatorOf (kit K.Leaf R.RegexEngine) checker.now.validator.now
+    requires stands { IsDocumentValidatorOf (kit K.Leaf R.RegexEngine) checker.now.validator.now
         (view checker.now.schema.now) }
     ensures { OnOk result ((them : List (Option Text))
         × IsChecked (world K.Leaf R.RegexEngine) (view checker.now.schema.now)
@@ -89,7 +89,7 @@ fn check_file<T: Files + Input + Print + Eprint + AllocGlobal, K: Leaf, R: Regex
     checker: &Checker<'_, K, R>,
     path: &str,
 ) -> io::Result<()>
-    requires stands { IsValidatorOf (kit K.Leaf R.RegexEngine) checker.now.validator.now
+    requires stands { IsDocumentValidatorOf (kit K.Leaf R.RegexEngine) checker.now.validator.now
         (view checker.now.schema.now) }
     ensures { OnOk result ((it : Option Text)
         × IsChecked (world K.Leaf R.RegexEngine) (view checker.now.schema.now)
@@ -109,7 +109,7 @@ fn check_lines<T: Files + Input + Print + Eprint + AllocGlobal, K: Leaf, R: Rege
     checker: &Checker<'_, K, R>,
     path: &str,
 ) -> io::Result<()>
-    requires stands { IsValidatorOf (kit K.Leaf R.RegexEngine) checker.now.validator.now
+    requires stands { IsDocumentValidatorOf (kit K.Leaf R.RegexEngine) checker.now.validator.now
         (view checker.now.schema.now) }
     ensures { OnOk result ((them : List (Option Text))
         × IsChecked (world K.Leaf R.RegexEngine) (view checker.now.schema.now)
@@ -135,7 +135,7 @@ fn check_each_line<T: Print + Eprint + AllocGlobal, K: Leaf, R: RegexEngine, I: 
     name: &str,
     reader: &mut I,
 ) -> io::Result<()>
-    requires stands { IsValidatorOf (kit K.Leaf R.RegexEngine) checker.now.validator.now
+    requires stands { IsDocumentValidatorOf (kit K.Leaf R.RegexEngine) checker.now.validator.now
         (view checker.now.schema.now) }
     ensures { OnOk result ((them : List (Option Text))
         × IsChecked (world K.Leaf R.RegexEngine) (view checker.now.schema.now)
@@ -168,7 +168,7 @@ fn check_text<T: Print + Eprint + AllocGlobal, K: Leaf, R: RegexEngine>(
     place: Place<'_>,
     text: &[u8],
 ) -> io::Result<()>
-    requires stands { IsValidatorOf (kit K.Leaf R.RegexEngine) checker.now.validator.now
+    requires stands { IsDocumentValidatorOf (kit K.Leaf R.RegexEngine) checker.now.validator.now
         (view checker.now.schema.now) }
     ensures { OnOk result (IsChecked (world K.Leaf R.RegexEngine)
         (view checker.now.schema.now) console.old.status (Some text.now ∷ [])
@@ -187,7 +187,7 @@ fn check_value<T: Print + Eprint + AllocGlobal, K: Leaf, R: RegexEngine>(
     given: Given<'_>,
     instance: &Value,
 ) -> io::Result<()>
-    requires stands { IsValidatorOf (kit K.Leaf R.RegexEngine) checker.now.validator.now
+    requires stands { IsDocumentValidatorOf (kit K.Leaf R.RegexEngine) checker.now.validator.now
         (view checker.now.schema.now) }
     ensures { console.new.status ≡ worse console.old.status
         (status_of (accepts (world K.Leaf R.RegexEngine) false
@@ -232,7 +232,7 @@ fn answer_text<K: Leaf, R: RegexEngine>(
     given: Given<'_>,
     question: &Question<'_>,
 ) -> Result<Vec<u8>, AllocError>
-    requires stands { IsValidatorOf (kit K.Leaf R.RegexEngine) checker.now.validator.now
+    requires stands { IsDocumentValidatorOf (kit K.Leaf R.RegexEngine) checker.now.validator.now
         (view question.now.schema.now) }
 {
     if checker.options.ask == Ask::Evaluate {

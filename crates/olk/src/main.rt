@@ -1,6 +1,6 @@
 //! Checks files of JSON values by a schema.
 //!
-//! Stands on `object_logic`, `olk_vocabulary`, `olk_regexes`, `olk_replies` and `olk_places`.
+//! Stands on `olk_document`, `olk_vocabulary`, `olk_regexes`, `olk_answers` and `olk_places`.
 //! Tested by its files `args`, `data` and `stdout`, and by `tools/checked_files` and
 //! `tools/positions`.
 #![tactic(auto)]

@@ -12,9 +12,11 @@ use crate::schema::{note_draft, read_schema, refuse_malformed, refuse_unsupporte
 use crate::words::first_no_text;
 use clap::Error;
 use clap::error::ErrorKind;
-use object_logic::{BuildError, Meter, Validator};
+use olk_base::Meter;
+use olk_document::DocumentValidator;
 use olk_places::Visible;
 use olk_regexes::Regexes;
+use olk_reports::BuildError;
 use olk_vocabulary::Vocabulary;
 use serde_json::Value;
 use std::alloc::AllocError;
@@ -149,7 +151,7 @@ fn check_by<'c, T: Files + Input + Print + Eprint + Clock + AllocGlobal>(
         return Ok(());
     }
     let mut meter = Meter::new();
-    match Validator::build(rt.alloc(), &Vocabulary, &Regexes, schema, &mut meter) {
+    match DocumentValidator::build(rt.alloc(), &Vocabulary, &Regexes, schema, &mut meter) {
         Ok(validator) => {
             let checker = Checker {
                 options: &*options,

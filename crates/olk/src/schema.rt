@@ -4,8 +4,9 @@ ghost use Rattle.olk.specs.Statuses.{worse};
 
 use crate::console::{Console, Status};
 use crate::reading::{read_file, read_value, shown_name};
-use object_logic::ValidationError;
+use olk_document_build::REFERENCE_LIMIT;
 use olk_places::{Limited, Place, SHOWN_LEN, Visible, shown_message, unsupported_lines};
+use olk_reports::ValidationError;
 use serde_json::Value;
 use std::alloc::{AllocError, Global};
 use std::io;
@@ -96,7 +97,7 @@ pub fn refuse_unsupported<T: Print + Eprint + AllocGlobal>(
     ensures { IfOk result (λ is_refused. console.new.status
         ≡ (if is_refused then worse console.old.status Status.Failed else console.old.status)) }
 {
-    let lines = unsupported_lines(console.alloc(), schema)?;
+    let lines = unsupported_lines(console.alloc(), schema, REFERENCE_LIMIT)?;
     if lines.is_empty() {
         return Ok(false);
     }

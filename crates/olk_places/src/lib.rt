@@ -1,7 +1,8 @@
 //! Places of errors in a text, and of what is not supported in a schema, and how they are told.
 //!
-//! Stands on `olk_reports`, `olk_answers`, `olk_regexes` and `olk_vocabulary`. Tested by the files
-//! of `olk`, and by `tools/checked_files` and `tools/positions`.
+//! Stands on `olk_reports`, `olk_answers`, `olk_regexes`, `olk_vocabulary` and
+//! `olk_document_meaning`. Tested by the files of `olk`, and by `tools/checked_files` and
+//! `tools/positions`.
 #![tactic(auto)]
 
 mod json;
@@ -13,6 +14,7 @@ mod numbers;
 mod place;
 mod pointer;
 mod positions;
+mod references;
 mod scanner;
 mod shown;
 mod support;

@@ -5,8 +5,8 @@ use std::alloc::{AllocError, Global};
 /// Where a subschema stands in a schema, by the segments that lead there, on the stack of a walk.
 #[derive(Clone, Copy)]
 pub enum Pointer<'p, 'n> {
-    /// The whole schema.
-    Root,
+    /// Where the text of a pointer leads: the whole schema, or a place that a reference names.
+    Named(&'n str),
     /// A member of what stands there.
     Member(&'p Pointer<'p, 'n>, &'n str),
     /// An item of what stands there.
@@ -27,9 +27,17 @@ impl Pointer<'_, '_> {
         Ok(text.into_text())
     }
 
+    /// Whether it leads to the whole schema.
+    pub fn is_root(&self) -> bool {
+        match self {
+            Pointer::Named(pointer) => pointer.is_empty(),
+            Pointer::Member(_, _) | Pointer::Item(_, _) => false,
+        }
+    }
+
     fn push_to(&self, alloc: Global, text: &mut Limited) -> Result<(), AllocError> {
         match self {
-            Pointer::Root => Ok(()),
+            Pointer::Named(pointer) => text.push_str(pointer),
             Pointer::Member(up, name) => {
                 up.push_to(alloc, text)?;
                 push_segment(text, name)

@@ -1,7 +1,7 @@
 //! What is supported of a keyword of JSON Schema, of 2020-12 and of older drafts.
 use olk_base::analyze_pattern;
 use olk_regexes::{Refusal, why_refused};
-use olk_vocabulary::{JsonNumber, Keyword, is_unread};
+use olk_vocabulary::{JsonNumber, Keyword};
 use serde_json::{Map, Number, Value};
 use std::alloc::{AllocError, Global};
 use std::fmt::{self, Display, Formatter};
@@ -26,6 +26,12 @@ pub enum Unsupported<'s> {
     Value(&'s str),
     /// A pattern, and why it is refused.
     Pattern(Refusal),
+    /// A reference to what the schema has not.
+    NoPlace,
+    /// A reference behind as many as are followed, which are so many.
+    TooFar(usize),
+    /// A reference in a schema that `$id` names.
+    BelowId,
 }
 
 impl Display for Unsupported<'_> {
@@ -37,6 +43,12 @@ impl Display for Unsupported<'_> {
                 write!(f, "{refusal}")
             }
             Unsupported::Pattern(refusal) => write!(f, "malformed pattern: {refusal}"),
+            Unsupported::NoPlace => write!(f, "\"$ref\" names no place of the schema"),
+            Unsupported::TooFar(limit) => write!(
+                f,
+                "\"$ref\" leads back to itself, or on more than {limit} times"
+            ),
+            Unsupported::BelowId => write!(f, "\"$ref\" below \"$id\" is not supported"),
         }
     }
 }
@@ -97,6 +109,14 @@ impl<'s> Member<'s> {
         }
     }
 
+    /// The text of a reference, if it is one.
+    pub fn reference(self) -> Option<&'s str> {
+        match self.name {
+            "$ref" => self.value.as_str(),
+            _ => None,
+        }
+    }
+
     /// Which schemas the keyword holds that are read.
     pub fn held(self) -> Held {
         match self.name {
@@ -104,8 +124,8 @@ impl<'s> Member<'s> {
                 Held::Entries
             }
             "propertyDependencies" => Held::EntriesOfEntries,
-            "allOf" | "anyOf" | "oneOf" => Held::Items,
-            "additionalProperties" | "propertyNames" | "not" => Held::Itself,
+            "allOf" | "anyOf" | "oneOf" | "prefixItems" => Held::Items,
+            "additionalProperties" | "propertyNames" | "not" | "items" | "contains" => Held::Itself,
             "if" if self.is_beside("then") || self.is_beside("else") => Held::Itself,
             "then" | "else" if self.is_beside("if") => Held::Itself,
             _ => Held::Nothing,
@@ -119,7 +139,7 @@ impl<'s> Member<'s> {
     /// Whether the keyword is supported with no value.
     fn is_unsupported(self) -> bool {
         match self.name {
-            "$ref" | "$dynamicRef" | "$recursiveRef" => true,
+            "$dynamicRef" | "$recursiveRef" => true,
             "unevaluatedProperties" | "unevaluatedItems" => true,
             // draft 3
             "disallow" | "divisibleBy" | "extends" => true,
@@ -128,7 +148,7 @@ impl<'s> Member<'s> {
                 .members
                 .get("items")
                 .is_some_and(|items| items.is_array()),
-            name => is_unread(name),
+            _ => false,
         }
     }
 
@@ -144,6 +164,8 @@ impl<'s> Member<'s> {
                 )
             }
             Value::String(_) => self.name == "type" && is_kind_of_draft_3(self.value),
+            // up to 2019-09
+            Value::Array(_) if self.name == "items" => true,
             Value::Array(kinds) => self.name == "type" && kinds.iter().any(is_kind_of_draft_3),
             Value::Number(number) => has_unsupported_number(self.name, number),
             Value::Null | Value::Object(_) => false,
@@ -173,9 +195,16 @@ fn has_unsupported_number(name: &str, number: &Number) -> bool {
     if number.as_u64().is_some() {
         return false;
     }
+    if is_limit(name) {
+        return float >= 0.0 && JsonNumber::of(number).is_integral();
+    }
+    name == "multipleOf" && float > 0.0
+}
+
+/// Whether a keyword wants a whole number that is not negative.
+fn is_limit(name: &str) -> bool {
     match Keyword::named(name) {
-        Some(Keyword::MultipleOf) => float > 0.0,
-        Some(Keyword::Limit(_)) => float >= 0.0 && JsonNumber::of(number).is_integral(),
-        _ => false,
+        Some(Keyword::Limit(_)) => true,
+        _ => matches!(name, "minContains" | "maxContains"),
     }
 }
