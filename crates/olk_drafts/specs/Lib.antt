@@ -1,0 +1,4 @@
+pub mod Drafts
+pub mod Keywords
+pub mod Translated
+pub mod Sources

@@ -1,0 +1,249 @@
+//! Schemas of older drafts as those of 2020-12.
+ghost use Rattle.std.specs.Prelude.{◌≡◌, IfOk, OnOk, option_map};
+ghost use Rattle.serde_json.specs.Data.{no_members, put};
+ghost use Rattle.serde_json.specs.View.{view, members_view, items_view};
+ghost use Rattle.olk_drafts.specs.Sources.{reference_read};
+ghost use Rattle.olk_drafts.specs.Translated.{held_by, reference_at, as_reference, put_as, translated_at, translated_members, translated_entries, translated_items, translated_value, translated_inside, translated};
+
+use crate::sources::Source;
+use olk_base::append;
+use serde_json::{Map, Value};
+use std::alloc::{AllocError, Global};
+
+/// The schemas that a keyword of 2020-12 holds.
+#[derive(Clone, Copy)]
+pub enum Held {
+    /// No schema.
+    Nothing,
+    /// Its value is one.
+    Itself,
+    /// Its members or items are.
+    Entries,
+    /// The members or items of each of these are.
+    EntriesOfEntries,
+}
+
+fn held_by(keyword: &str) -> Held
+    ensures { result ≡ held_by keyword.now }
+{
+    match keyword {
+        "additionalProperties"
+        | "propertyNames"
+        | "not"
+        | "items"
+        | "contains"
+        | "if"
+        | "then"
+        | "else" => Held::Itself,
+        "properties"
+        | "patternProperties"
+        | "dependentSchemas"
+        | "dependencies"
+        | "$defs"
+        | "definitions"
+        | "allOf"
+        | "anyOf"
+        | "oneOf"
+        | "prefixItems" => Held::Entries,
+        "propertyDependencies" => Held::EntriesOfEntries,
+        _ => Held::Nothing,
+    }
+}
+
+/// The schema of 2020-12 that means what a file's schema means by its draft, with the file's
+/// references as they are read in the document. What is no keyword stays as it is.
+///
+/// # Errors
+///
+/// Out of memory.
+pub fn translate(alloc: Global, source: &Source<'_>, schema: &Value) -> Result<Value, AllocError>
+    ensures { IfOk result (λ v. view v ≡ translated source.now.draft
+        (reference_read source.now.file.now) (view schema.now)) }
+{
+    translate_at(alloc, source, Held::Itself, schema)
+}
+
+/// A value that holds schemas so far down, with these translated.
+#[cycle(translate)]
+fn translate_at(
+    alloc: Global,
+    source: &Source<'_>,
+    held: Held,
+    value: &Value,
+) -> Result<Value, AllocError>
+    ensures { IfOk result (λ v. view v ≡ translated_at source.now.draft
+        (reference_read source.now.file.now) held (view value.now)) }
+{
+    match held {
+        Held::Nothing => value.clone(),
+        Held::Itself => translate_schema(alloc, source, value),
+        Held::Entries => translate_inside(alloc, source, Held::Itself, value),
+        Held::EntriesOfEntries => translate_inside(alloc, source, Held::Entries, value),
+    }
+}
+
+#[cycle(translate)]
+fn translate_schema(alloc: Global, source: &Source<'_>, schema: &Value) -> Result<Value, AllocError>
+    ensures { IfOk result (λ v. view v ≡ translated source.now.draft
+        (reference_read source.now.file.now) (view schema.now)) }
+{
+    match schema {
+        Value::Object(members) => Ok(Value::Object(translate_members(alloc, source, members)?)),
+        _ => schema.clone(),
+    }
+}
+
+/// A value whose entries hold schemas so far down.
+#[cycle(translate)]
+fn translate_inside(
+    alloc: Global,
+    source: &Source<'_>,
+    held: Held,
+    value: &Value,
+) -> Result<Value, AllocError>
+    ensures { IfOk result (λ v. view v ≡ translated_inside source.now.draft
+        (reference_read source.now.file.now) held (view value.now)) }
+{
+    match value {
+        Value::Object(entries) => {
+            Ok(Value::Object(translate_entries(alloc, source, held, entries)?))
+        }
+        Value::Array(items) => Ok(Value::Array(translate_items(alloc, source, held, items)?)),
+        _ => value.clone(),
+    }
+}
+
+/// The members of a schema object, each under the keyword as which it is read.
+#[cycle(translate)]
+fn translate_members(
+    alloc: Global,
+    source: &Source<'_>,
+    members: &Map<String, Value>,
+) -> Result<Map<String, Value>, AllocError>
+    ensures { IfOk result (λ m. members_view m.entries ≡ translated_members source.now.draft
+        (reference_read source.now.file.now) (members_view members.now.entries)
+        (members_view members.now.entries) no_members) }
+{
+    let mut translation = Map::new(alloc);
+    for (name, value) in members {
+        let keyword = source.draft.keyword(members, name.as_str());
+        put_translation(alloc, source, keyword, value, &mut translation)?;
+    }
+    Ok(translation)
+}
+
+/// Puts the translation of a value at the keyword as which it is read.
+#[cycle(translate)]
+fn put_translation(
+    alloc: Global,
+    source: &Source<'_>,
+    keyword: Option<&str>,
+    value: &Value,
+    translation: &mut Map<String, Value>,
+) -> Result<(), AllocError>
+    ensures { OnOk result (members_view translation.new.entries
+        ≡ put_as (option_map (λ k. k.now) keyword.entry) (translated_value source.now.draft
+        (reference_read source.now.file.now) (view value.now))
+        (members_view translation.old.entries)) }
+{
+    match keyword {
+        Some(keyword) => {
+            let value = translate_value(alloc, source, keyword, value)?;
+            put(alloc, translation, keyword, value)
+        }
+        None => Ok(()),
+    }
+}
+
+/// The value of a keyword.
+#[cycle(translate)]
+fn translate_value(
+    alloc: Global,
+    source: &Source<'_>,
+    keyword: &str,
+    value: &Value,
+) -> Result<Value, AllocError>
+    ensures { IfOk result (λ v. view v ≡ translated_value source.now.draft
+        (reference_read source.now.file.now) (view value.now) keyword.now) }
+{
+    let translation = translate_at(alloc, source, held_by(keyword), value)?;
+    read_reference(alloc, source, keyword, translation)
+}
+
+/// The value of a keyword, if it is a reference, as it is read in the document.
+fn read_reference(
+    alloc: Global,
+    source: &Source<'_>,
+    keyword: &str,
+    value: Value,
+) -> Result<Value, AllocError>
+    ensures { IfOk result (λ v. view v
+        ≡ reference_at (reference_read source.now.file.now) keyword.now (view value)) }
+{
+    if keyword == "$ref" {
+        reference_of(alloc, source, value)
+    } else {
+        Ok(value)
+    }
+}
+
+fn reference_of(alloc: Global, source: &Source<'_>, value: Value) -> Result<Value, AllocError>
+    ensures { IfOk result (λ v. view v
+        ≡ as_reference (reference_read source.now.file.now) (view value)) }
+{
+    match value.as_str() {
+        Some(text) => Ok(Value::String(source.reference(alloc, text)?)),
+        None => Ok(value),
+    }
+}
+
+/// The entries of an object, which hold schemas so far down.
+#[cycle(translate)]
+fn translate_entries(
+    alloc: Global,
+    source: &Source<'_>,
+    held: Held,
+    entries: &Map<String, Value>,
+) -> Result<Map<String, Value>, AllocError>
+    ensures { IfOk result (λ m. members_view m.entries ≡ translated_entries source.now.draft
+        (reference_read source.now.file.now) held (members_view entries.now.entries) no_members) }
+{
+    let mut translation = Map::new(alloc);
+    for (name, value) in entries {
+        let value = translate_at(alloc, source, held, value)?;
+        put(alloc, &mut translation, name.as_str(), value)?;
+    }
+    Ok(translation)
+}
+
+/// The items of an array, which hold schemas so far down.
+#[cycle(translate)]
+fn translate_items(
+    alloc: Global,
+    source: &Source<'_>,
+    held: Held,
+    items: &Vec<Value>,
+) -> Result<Vec<Value>, AllocError>
+    ensures { IfOk result (λ v. items_view v.items ≡ translated_items source.now.draft
+        (reference_read source.now.file.now) held (items_view items.now.items)) }
+{
+    let mut translation = Vec::with_capacity(alloc, items.len())?;
+    for value in items {
+        append(&mut translation, translate_at(alloc, source, held, value)?)?;
+    }
+    Ok(translation)
+}
+
+/// Puts a value at a name.
+fn put(
+    alloc: Global,
+    members: &mut Map<String, Value>,
+    name: &str,
+    value: Value,
+) -> Result<(), AllocError>
+    ensures { OnOk result (members_view members.new.entries
+        ≡ put name.now (view value) (members_view members.old.entries)) }
+{
+    members.insert(String::from_str(alloc, name)?, value)?;
+    Ok(())
+}
