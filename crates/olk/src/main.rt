@@ -7,6 +7,7 @@
 
 mod answer;
 mod console;
+mod document;
 mod instances;
 mod options;
 mod program;

@@ -5,10 +5,11 @@ ghost use Rattle.serde_json.specs.View.{view};
 ghost use Rattle.olk.specs.Statuses.{IsRunBy, IsFailure};
 
 use crate::console::{Console, Status};
+use crate::document::read_document;
 use crate::instances::{Checker, check_instances};
 use crate::options::{Format, Options, read_options};
 use crate::reading::shown_name;
-use crate::schema::{note_draft, read_schema, refuse_malformed, refuse_unsupported};
+use crate::schema::{refuse_malformed, refuse_unsupported};
 use crate::words::first_no_text;
 use clap::Error;
 use clap::error::ErrorKind;
@@ -127,8 +128,8 @@ fn check_by_file<T: Files + Input + Print + Eprint + Clock + AllocGlobal>(
     ensures { OnOk result ((S : Data) × IsRunBy S options.now.has_lines
         (length options.now.instances.items) console.new.status) }
 {
-    match read_schema(rt, console, options.schema)? {
-        Some(schema) => check_by(rt, console, options, &schema),
+    match read_document(rt, console, options)? {
+        Some(document) => check_by(rt, console, options, &document),
         None => Ok(()),
     }
 }
@@ -144,9 +145,6 @@ fn check_by<'c, T: Files + Input + Print + Eprint + Clock + AllocGlobal>(
     ensures { OnOk result (IsRunBy (view schema.now) options.now.has_lines
         (length options.now.instances.items) console.new.status) }
 {
-    if !options.is_quiet {
-        note_draft(console, options.schema, schema)?;
-    }
     if refuse_unsupported(console, options.schema, schema)? {
         return Ok(());
     }

@@ -5,15 +5,13 @@ ghost use Rattle.olk.specs.Statuses.{worse};
 use crate::console::{Console, Status};
 use crate::reading::{read_file, read_value, shown_name};
 use olk_document_build::REFERENCE_LIMIT;
+use olk_drafts::Draft;
 use olk_places::{Limited, Place, SHOWN_LEN, Visible, shown_message, unsupported_lines};
 use olk_reports::ValidationError;
 use serde_json::Value;
 use std::alloc::{AllocError, Global};
 use std::io;
 use std::rt::Files;
-
-/// The draft by which schemas are read, as `$schema` names it behind `https://`.
-const DRAFT: &str = "json-schema.org/draft/2020-12/schema";
 
 /// How many bytes are shown of the path to what is malformed.
 const PATH_LEN: usize = 150;
@@ -45,7 +43,7 @@ pub fn read_schema<T: Files + Input + Print + Eprint + AllocGlobal>(
     }
 }
 
-/// Says of a schema that names another draft by `$schema` that it is read as one of 2020-12.
+/// Says of a schema that names no draft that is known by `$schema` that it is read as one of 2020-12.
 ///
 /// # Errors
 ///
@@ -60,21 +58,12 @@ pub fn note_draft<T: Print + Eprint + AllocGlobal>(
     let Some(Value::String(draft)) = schema.get("$schema") else {
         return Ok(());
     };
-    if is_draft(draft.as_str()) {
+    if Draft::named(draft.as_str()).is_some() {
         return Ok(());
     }
     let name = Visible(shown_name(path));
     let draft = cut(console.alloc(), draft.as_str(), SHOWN_LEN)?;
     console.note(format_args!("{name}: /$schema: read as 2020-12, not as {draft}"))
-}
-
-/// Whether a text names the draft by which schemas are read.
-fn is_draft(text: &str) -> bool {
-    let text = text.strip_suffix("#").unwrap_or(text);
-    let text = text
-        .strip_prefix("https://")
-        .or(text.strip_prefix("http://"));
-    text == Some(DRAFT)
 }
 
 fn cut(alloc: Global, text: &str, most: usize) -> Result<String, AllocError> {

@@ -1,2 +1,5 @@
 pub mod Values
 pub mod Translations
+pub mod Paths
+pub mod Referring
+pub mod Naming

@@ -2,3 +2,4 @@ pub mod Drafts
 pub mod Keywords
 pub mod Translated
 pub mod Sources
+pub mod References

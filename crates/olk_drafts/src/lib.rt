@@ -1,14 +1,17 @@
 //! Schemas of older drafts, and of several files, as one document of JSON Schema 2020-12.
 //!
-//! Stands on `serde_json`, `olk_spec` and `olk_base`. Tested in its modules, by tables and worked
-//! rows.
+//! Stands on `olk_reports`. Tested by `olk_drafts_tests`, and by the worked rows of `rows`, as
+//! computed facts.
 #![tactic(auto)]
 
 mod drafts;
+mod files;
 mod keywords;
+mod references;
 mod sources;
 mod translation;
 
 pub use drafts::Draft;
+pub use files::add_file;
 pub use sources::Source;
 pub use translation::translate;

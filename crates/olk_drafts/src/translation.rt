@@ -1,5 +1,5 @@
 //! Schemas of older drafts as those of 2020-12.
-ghost use Rattle.std.specs.Prelude.{◌≡◌, IfOk, OnOk, option_map};
+ghost use Rattle.std.specs.Prelude.{◌≡◌, IfOk, OnOk, OnErr, option_map};
 ghost use Rattle.serde_json.specs.Data.{no_members, put};
 ghost use Rattle.serde_json.specs.View.{view, members_view, items_view};
 ghost use Rattle.olk_drafts.specs.Sources.{reference_read};
@@ -23,7 +23,7 @@ pub enum Held {
     EntriesOfEntries,
 }
 
-fn held_by(keyword: &str) -> Held
+pub(crate) fn held_by(keyword: &str) -> Held
     ensures { result ≡ held_by keyword.now }
 {
     match keyword {
@@ -58,7 +58,7 @@ fn held_by(keyword: &str) -> Held
 /// Out of memory.
 pub fn translate(alloc: Global, source: &Source<'_>, schema: &Value) -> Result<Value, AllocError>
     ensures { IfOk result (λ v. view v ≡ translated source.now.draft
-        (reference_read source.now.file.now) (view schema.now)) }
+        (reference_read source.now) (view schema.now)) }
 {
     translate_at(alloc, source, Held::Itself, schema)
 }
@@ -72,7 +72,7 @@ fn translate_at(
     value: &Value,
 ) -> Result<Value, AllocError>
     ensures { IfOk result (λ v. view v ≡ translated_at source.now.draft
-        (reference_read source.now.file.now) held (view value.now)) }
+        (reference_read source.now) held (view value.now)) }
 {
     match held {
         Held::Nothing => value.clone(),
@@ -85,7 +85,7 @@ fn translate_at(
 #[cycle(translate)]
 fn translate_schema(alloc: Global, source: &Source<'_>, schema: &Value) -> Result<Value, AllocError>
     ensures { IfOk result (λ v. view v ≡ translated source.now.draft
-        (reference_read source.now.file.now) (view schema.now)) }
+        (reference_read source.now) (view schema.now)) }
 {
     match schema {
         Value::Object(members) => Ok(Value::Object(translate_members(alloc, source, members)?)),
@@ -102,7 +102,7 @@ fn translate_inside(
     value: &Value,
 ) -> Result<Value, AllocError>
     ensures { IfOk result (λ v. view v ≡ translated_inside source.now.draft
-        (reference_read source.now.file.now) held (view value.now)) }
+        (reference_read source.now) held (view value.now)) }
 {
     match value {
         Value::Object(entries) => {
@@ -121,7 +121,7 @@ fn translate_members(
     members: &Map<String, Value>,
 ) -> Result<Map<String, Value>, AllocError>
     ensures { IfOk result (λ m. members_view m.entries ≡ translated_members source.now.draft
-        (reference_read source.now.file.now) (members_view members.now.entries)
+        (reference_read source.now) (members_view members.now.entries)
         (members_view members.now.entries) no_members) }
 {
     let mut translation = Map::new(alloc);
@@ -143,7 +143,7 @@ fn put_translation(
 ) -> Result<(), AllocError>
     ensures { OnOk result (members_view translation.new.entries
         ≡ put_as (option_map (λ k. k.now) keyword.entry) (translated_value source.now.draft
-        (reference_read source.now.file.now) (view value.now))
+        (reference_read source.now) (view value.now))
         (members_view translation.old.entries)) }
 {
     match keyword {
@@ -164,7 +164,7 @@ fn translate_value(
     value: &Value,
 ) -> Result<Value, AllocError>
     ensures { IfOk result (λ v. view v ≡ translated_value source.now.draft
-        (reference_read source.now.file.now) (view value.now) keyword.now) }
+        (reference_read source.now) (view value.now) keyword.now) }
 {
     let translation = translate_at(alloc, source, held_by(keyword), value)?;
     read_reference(alloc, source, keyword, translation)
@@ -178,7 +178,7 @@ fn read_reference(
     value: Value,
 ) -> Result<Value, AllocError>
     ensures { IfOk result (λ v. view v
-        ≡ reference_at (reference_read source.now.file.now) keyword.now (view value)) }
+        ≡ reference_at (reference_read source.now) keyword.now (view value)) }
 {
     if keyword == "$ref" {
         reference_of(alloc, source, value)
@@ -189,7 +189,7 @@ fn read_reference(
 
 fn reference_of(alloc: Global, source: &Source<'_>, value: Value) -> Result<Value, AllocError>
     ensures { IfOk result (λ v. view v
-        ≡ as_reference (reference_read source.now.file.now) (view value)) }
+        ≡ as_reference (reference_read source.now) (view value)) }
 {
     match value.as_str() {
         Some(text) => Ok(Value::String(source.reference(alloc, text)?)),
@@ -206,7 +206,7 @@ fn translate_entries(
     entries: &Map<String, Value>,
 ) -> Result<Map<String, Value>, AllocError>
     ensures { IfOk result (λ m. members_view m.entries ≡ translated_entries source.now.draft
-        (reference_read source.now.file.now) held (members_view entries.now.entries) no_members) }
+        (reference_read source.now) held (members_view entries.now.entries) no_members) }
 {
     let mut translation = Map::new(alloc);
     for (name, value) in entries {
@@ -225,7 +225,7 @@ fn translate_items(
     items: &Vec<Value>,
 ) -> Result<Vec<Value>, AllocError>
     ensures { IfOk result (λ v. items_view v.items ≡ translated_items source.now.draft
-        (reference_read source.now.file.now) held (items_view items.now.items)) }
+        (reference_read source.now) held (items_view items.now.items)) }
 {
     let mut translation = Vec::with_capacity(alloc, items.len())?;
     for value in items {
@@ -234,15 +234,16 @@ fn translate_items(
     Ok(translation)
 }
 
-/// Puts a value at a name.
-fn put(
+/// Puts a value at a name. Without memory the members stay.
+pub(crate) fn put(
     alloc: Global,
     members: &mut Map<String, Value>,
     name: &str,
     value: Value,
 ) -> Result<(), AllocError>
-    ensures { OnOk result (members_view members.new.entries
+    ensures put { OnOk result (members_view members.new.entries
         ≡ put name.now (view value) (members_view members.old.entries)) }
+    ensures memory { OnErr result (members.new.entries ≡ members.old.entries) }
 {
     members.insert(String::from_str(alloc, name)?, value)?;
     Ok(())

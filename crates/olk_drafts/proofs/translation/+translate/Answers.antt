@@ -29,7 +29,7 @@ pub translate_at-returns-in-EntriesOfEntries : goal.translate_at-returns-in-Entr
 translate_at-returns-in-EntriesOfEntries t c = rw (c.in-EntriesOfEntries.is, entries_of_entries_held) c.translate_inside-in-EntriesOfEntries.ensures
 
 pub translate_schema-returns-in_default : goal.translate_schema-returns-in_default
-translate_schema-returns-in_default t c = rw (no_object_translated c.args.source.now.draft (reference_read c.args.source.now.file.now) (view c.args.schema.now) (no_object _ c.in_default.not-Object))
+translate_schema-returns-in_default t c = rw (no_object_translated c.args.source.now.draft (reference_read c.args.source.now) (view c.args.schema.now) (no_object _ c.in_default.not-Object))
     (cloned c.clone.result (view c.args.schema.now) c.clone.ensures.cases)
 
 pub translate_members-loop-name-preserved : goal.translate_members-loop-name-preserved
@@ -37,9 +37,9 @@ translate_members-loop-name-preserved t c =
     let source = c.args.source.now in
     let all = members_view c.args.members.now.entries in
     let done = members_view c.loop-name.translation.entries in
-    let value = translated_value source.draft (reference_read source.file.now) (view c.in-Some.value.now) in
+    let value = translated_value source.draft (reference_read source) (view c.in-Some.value.now) in
     record {
-      so_far = one_more_member source.draft (reference_read source.file.now) c.in-Some.ensures.steps all done
+      so_far = one_more_member source.draft (reference_read source) c.in-Some.ensures.steps all done
           (c.in_ok-put_translation.ensures ∙ ap (λ k. put_as k value done) (c.keyword-keyword.ensures ∙ ap (read_as source.draft all) c.as_str.ensures.value))
           ∙ c.loop-name.invariant.so_far;
       next = tt;
@@ -48,7 +48,7 @@ translate_members-loop-name-preserved t c =
 
 pub translate_members-returns : goal.translate_members-returns
 translate_members-returns t c =
-    no_more_members c.args.source.now.draft (reference_read c.args.source.now.file.now) c.in-None.ensures.steps.0 (members_view c.args.members.now.entries) (members_view c.loop-name.translation.entries)
+    no_more_members c.args.source.now.draft (reference_read c.args.source.now) c.in-None.ensures.steps.0 (members_view c.args.members.now.entries) (members_view c.loop-name.translation.entries)
     ∙ c.loop-name.invariant.so_far
 
 pub translate_entries-loop-name-preserved : goal.translate_entries-loop-name-preserved
@@ -56,8 +56,8 @@ translate_entries-loop-name-preserved t c =
     let source = c.args.source.now in
     let done = members_view c.loop-name.translation.entries in
     record {
-      so_far = one_more_entry source.draft (reference_read source.file.now) c.in-Some.ensures.steps c.args.held done
-          (c.in_ok-put.ensures ∙ (λ i. put (c.as_str.ensures.value i) (c.in_ok-value.ensures i) done))
+      so_far = one_more_entry source.draft (reference_read source) c.in-Some.ensures.steps c.args.held done
+          (c.in_ok-put.ensures.put ∙ (λ i. put (c.as_str.ensures.value i) (c.in_ok-value.ensures i) done))
           ∙ c.loop-name.invariant.so_far;
       next = tt;
       ends = tt;
@@ -65,11 +65,11 @@ translate_entries-loop-name-preserved t c =
 
 pub translate_entries-returns : goal.translate_entries-returns
 translate_entries-returns t c =
-    no_more_entries c.args.source.now.draft (reference_read c.args.source.now.file.now) c.in-None.ensures.steps.0 c.args.held (members_view c.loop-name.translation.entries)
+    no_more_entries c.args.source.now.draft (reference_read c.args.source.now) c.in-None.ensures.steps.0 c.args.held (members_view c.loop-name.translation.entries)
     ∙ c.loop-name.invariant.so_far
 
 pub translate_items-returns : goal.translate_items-returns
 translate_items-returns t c =
     let source = c.args.source.now in
-    all_items source.draft (reference_read source.file.now) c.args.held c.loop-value.translation.items c.deref-value-items.result.now c.loop-value.value-index c.loop-value.invariant c.loop-value-test.false
-    ∙ ap (λ vs. translated_items source.draft (reference_read source.file.now) c.args.held (items_view vs)) c.deref-value-items.ensures.value
+    all_items source.draft (reference_read source) c.args.held c.loop-value.translation.items c.deref-value-items.result.now c.loop-value.value-index c.loop-value.invariant c.loop-value-test.false
+    ∙ ap (λ vs. translated_items source.draft (reference_read source) c.args.held (items_view vs)) c.deref-value-items.ensures.value

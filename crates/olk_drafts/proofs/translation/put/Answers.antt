@@ -4,6 +4,6 @@ use Rattle.serde_json.specs.View.{view, members_view}
 use Rattle.serde_json.proofs.Views.{members_view-insert_entry}
 use Rattle.olk_drafts.proofs.translation.put.Goals as goal
 
-pub returns : goal.returns
-returns c = ap members_view c.in_ok-insert.ensures.entries ∙ members_view-insert_entry c.args.members.now.entries c.in_ok-from_str.field-0 c.args.value
+pub returns-clause-put : goal.returns-clause-put
+returns-clause-put c = ap members_view c.in_ok-insert.ensures.entries ∙ members_view-insert_entry c.args.members.now.entries c.in_ok-from_str.field-0 c.args.value
     ∙ ap (λ k. put k (view c.args.value) (members_view c.args.members.now.entries)) c.in_ok-from_str.ensures.ok
