@@ -187,10 +187,11 @@ fn expect_each(alloc: Global, way: Way) -> Result<(), Fail> {
     Ok(())
 }
 
-// A document, an instance, and each error: where it is in the instance, where what refuses it stands,
-// and the message. Documents and instances are mostly those of JSON Schema's own test suite; which
-// errors there are, and where, is what Python's `jsonschema` 4.26 tells, with `{"not":{}}` for false.
-// What a reference leads to refuses at its own place (JSON Schema 2020-12 Core, 12.3.2).
+// A document, an instance, and each error: where it is in the instance, where what refuses it
+// stands, and the message. Documents and instances are mostly those of JSON Schema's own test
+// suite. Which errors there are, and where, is what Python's `jsonschema` 4.26 tells, with
+// `{"not":{}}` for false. What a reference leads to refuses at its own place (JSON Schema 2020-12
+// Core, 12.3.2).
 const ERRORS: &str =
     r##"{"properties":{"foo":{"type":"integer"},"bar":{"$ref":"#/properties/foo"}}} | {"bar":3} | 
 {"properties":{"foo":{"type":"integer"},"bar":{"$ref":"#/properties/foo"}}} | {"bar":true} | #/bar by #/properties/foo/type: true is not of type "integer"
