@@ -99,7 +99,7 @@ impl Reader<'_> {
             .main
             .source(&none)
             .files_named(rt.alloc(), schema)?;
-        for _ in 0..REFERENCE_LIMIT {
+        for _layer in 0..REFERENCE_LIMIT {
             match self.read_layer(rt, console, &names)? {
                 Some(behind) => names = behind,
                 None => return Ok(false),
