@@ -95,10 +95,7 @@ impl Reader<'_> {
             ≡ (if is_read then console.old.status else worse console.old.status Status.Failed)) }
     {
         let none = BTreeSet::new(rt.alloc());
-        let mut names = self
-            .main
-            .source(&none)
-            .files_named(rt.alloc(), schema)?;
+        let mut names = self.main.source(&none).files_named(rt.alloc(), schema)?;
         for _layer in 0..REFERENCE_LIMIT {
             match self.read_layer(rt, console, &names)? {
                 Some(behind) => names = behind,
@@ -177,7 +174,11 @@ impl Reader<'_> {
             schema,
         };
         let none = BTreeSet::new(alloc);
-        behind.append(&mut file.source(self.main, &none).files_named(alloc, &file.schema)?)?;
+        behind.append(
+            &mut file
+                .source(self.main, &none)
+                .files_named(alloc, &file.schema)?,
+        )?;
         self.files.push(file)?;
         Ok(())
     }
