@@ -3,3 +3,6 @@ pub mod Keywords
 pub mod Translated
 pub mod Sources
 pub mod References
+pub mod Rows_drafts
+pub mod Rows_paths
+pub mod Written

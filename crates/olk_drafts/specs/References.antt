@@ -1,11 +1,11 @@
 -- The references of a file's schema, at the places where it is translated, and the files to which they lead.
-use Rattle.std.specs.Prelude.{◌≡◌, Bool, not, ◌||◌, List, [], ◌∷◌, ◌++◌, map, cond, codes, bytes_eq, Option, Some, None, option_to_list, option_and_then}
+use Rattle.std.specs.Prelude.{◌≡◌, Bool, not, ◌&&◌, List, [], ◌∷◌, ◌++◌, map, cond, codes, bytes_eq, Option, Some, None, option_to_list, option_and_then}
 use Rattle.std.specs.Borrow.{Bor}
 use Rattle.std.specs.List.{flat_map}
 use Rattle.serde_json.specs.Data.{Data, null, boolean, number, string, array, object, Items, no_items, item, Members, no_members, member}
-use Rattle.olk_spec.specs.Names.{Text, Name, is_empty}
+use Rattle.olk_spec.specs.Names.{Text, Name}
 use Rattle.olk_drafts.specs.Keywords.{read_as}
-use Rattle.olk_drafts.specs.Sources.{path_of, place_of, leads_down, file_at}
+use Rattle.olk_drafts.specs.Sources.{path_of, place_of, leads_down, file_at, is_apart, is_main}
 use Rattle.olk_drafts.specs.Translated.{held_by}
 use Rattle.olk_drafts.specs.declared.drafts.Draft.{Draft}
 use Rattle.olk_drafts.specs.declared.sources.Source.{Source}
@@ -63,12 +63,12 @@ module _ (draft : Draft) where
 -- ---- files
 
 -- another file than the main one
-abbrev pub other_than_main : Source → Text → Option Text
-other_than_main s f = cond (is_empty f || bytes_eq f s.main.now) None (Some f)
+abbrev pub other_file : Source → Text → Option Text
+other_file s f = cond (not (is_main s f) && is_apart f) (Some f) None
 
 -- the file other than the main one to which a reference leads
 abbrev pub file_named : Source → Text → Option Text
-file_named s t = cond (leads_down (place_of t)) (option_and_then (other_than_main s) (file_at s.file.now (path_of t))) None
+file_named s t = cond (leads_down (place_of t)) (option_and_then (other_file s) (file_at s.file.now (path_of t))) None
 
 -- those of all references, in their order
 abbrev pub files_named : Source → Data → List Text

@@ -61,9 +61,16 @@ file_at f p = cond (is_empty p) (Some f) (file_below f (without_dot p))
 abbrev pub has_file : Source → Text → Bool
 has_file s f = contains_by (λ k. slice_cmp nat_cmp f (string_bytes k)) s.files.now
 
+-- `.` or `/`: no keyword has one, so that a schema under such a name is read by references alone
+abbrev pub is_apart : Text → Bool
+is_apart f = list_any (λ b. b == 46 || b == 47) f
+
+abbrev pub is_main : Source → Text → Bool
+is_main s f = is_empty f || bytes_eq f s.main.now
+
 -- where the schema of a file stands
 abbrev pub root_of : Source → Text → Option Path
-root_of s f = cond (is_empty f || bytes_eq f s.main.now) (Some []) (cond (has_file s f) (Some (pointer (f ∷ []))) None)
+root_of s f = cond (is_main s f) (Some []) (cond (is_apart f && has_file s f) (Some (pointer (f ∷ []))) None)
 
 abbrev pub root_at : Source → Text → Option Path
 root_at s p = option_and_then (root_of s) (file_at s.file.now p)

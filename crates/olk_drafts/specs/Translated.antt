@@ -10,19 +10,21 @@ use Rattle.olk_drafts.specs.declared.translation.Held.TheVariants.{Nothing, Itse
 
 -- ---- the schemas that a keyword of 2020-12 holds: its value, or its entries, which are members or items, or their entries
 
-abbrev pub holding_itself : List Name
-holding_itself = codes "additionalProperties" ∷ codes "propertyNames" ∷ codes "not" ∷ codes "items" ∷ codes "contains" ∷ codes "if" ∷ codes "then" ∷ codes "else" ∷ []
-
 abbrev pub holding_entries : List Name
 holding_entries = codes "properties" ∷ codes "patternProperties" ∷ codes "dependentSchemas" ∷ codes "dependencies" ∷ codes "$defs" ∷ codes "definitions"
     ∷ codes "allOf" ∷ codes "anyOf" ∷ codes "oneOf" ∷ codes "prefixItems" ∷ []
 
+-- what is data, whatever it looks like
+abbrev pub holding_nothing : List Name
+holding_nothing = codes "const" ∷ codes "enum" ∷ codes "default" ∷ codes "examples" ∷ codes "dependentRequired" ∷ []
+
+-- a name that is no keyword's may hold a schema too, as a reference may lead there
 abbrev pub held_by : Name → Held
 held_by k =
-    if is_among k holding_itself then Itself
-    else if is_among k holding_entries then Entries
+    if is_among k holding_entries then Entries
     else if bytes_eq k (codes "propertyDependencies") then EntriesOfEntries
-    else Nothing
+    else if is_among k holding_nothing then Nothing
+    else Itself
 
 -- ---- the translation; R is how a reference is read
 

@@ -1,7 +1,8 @@
 //! The drafts of JSON Schema, and how `$schema` names them.
-ghost use Rattle.std.specs.Prelude.{◌≡◌};
+ghost use Rattle.std.specs.Prelude.{◌≡◌, codes};
 ghost use Rattle.serde_json.specs.View.{view};
-ghost use Rattle.olk_drafts.specs.Drafts.{draft_named, draft_of, is_up_to_7, is_up_to_2019};
+ghost use Rattle.olk_spec.specs.Names.{is_among};
+ghost use Rattle.olk_drafts.specs.Drafts.{spellings, draft_named, draft_of, is_up_to_7, is_up_to_2019};
 
 use serde_json::Value;
 
@@ -21,28 +22,18 @@ impl Draft {
     pub fn named(text: &str) -> Option<Draft>
         ensures { result ≡ draft_named text.now }
     {
-        match text {
-            "http://json-schema.org/draft-04/schema"
-            | "http://json-schema.org/draft-04/schema#"
-            | "https://json-schema.org/draft-04/schema"
-            | "https://json-schema.org/draft-04/schema#" => Some(Draft::Draft4),
-            "http://json-schema.org/draft-06/schema"
-            | "http://json-schema.org/draft-06/schema#"
-            | "https://json-schema.org/draft-06/schema"
-            | "https://json-schema.org/draft-06/schema#" => Some(Draft::Draft6),
-            "http://json-schema.org/draft-07/schema"
-            | "http://json-schema.org/draft-07/schema#"
-            | "https://json-schema.org/draft-07/schema"
-            | "https://json-schema.org/draft-07/schema#" => Some(Draft::Draft7),
-            "http://json-schema.org/draft/2019-09/schema"
-            | "http://json-schema.org/draft/2019-09/schema#"
-            | "https://json-schema.org/draft/2019-09/schema"
-            | "https://json-schema.org/draft/2019-09/schema#" => Some(Draft::Draft201909),
-            "http://json-schema.org/draft/2020-12/schema"
-            | "http://json-schema.org/draft/2020-12/schema#"
-            | "https://json-schema.org/draft/2020-12/schema"
-            | "https://json-schema.org/draft/2020-12/schema#" => Some(Draft::Draft202012),
-            _ => None,
+        if names_draft_4(text) {
+            Some(Draft::Draft4)
+        } else if names_draft_6(text) {
+            Some(Draft::Draft6)
+        } else if names_draft_7(text) {
+            Some(Draft::Draft7)
+        } else if names_draft_2019_09(text) {
+            Some(Draft::Draft201909)
+        } else if names_draft_2020_12(text) {
+            Some(Draft::Draft202012)
+        } else {
+            None
         }
     }
 
@@ -74,4 +65,64 @@ impl Draft {
             _ => true,
         }
     }
+}
+
+fn names_draft_4(text: &str) -> bool
+    ensures { result ≡ is_among text.now (spellings (codes "draft-04/schema")) }
+{
+    matches!(
+        text,
+        "http://json-schema.org/draft-04/schema"
+            | "http://json-schema.org/draft-04/schema#"
+            | "https://json-schema.org/draft-04/schema"
+            | "https://json-schema.org/draft-04/schema#"
+    )
+}
+
+fn names_draft_6(text: &str) -> bool
+    ensures { result ≡ is_among text.now (spellings (codes "draft-06/schema")) }
+{
+    matches!(
+        text,
+        "http://json-schema.org/draft-06/schema"
+            | "http://json-schema.org/draft-06/schema#"
+            | "https://json-schema.org/draft-06/schema"
+            | "https://json-schema.org/draft-06/schema#"
+    )
+}
+
+fn names_draft_7(text: &str) -> bool
+    ensures { result ≡ is_among text.now (spellings (codes "draft-07/schema")) }
+{
+    matches!(
+        text,
+        "http://json-schema.org/draft-07/schema"
+            | "http://json-schema.org/draft-07/schema#"
+            | "https://json-schema.org/draft-07/schema"
+            | "https://json-schema.org/draft-07/schema#"
+    )
+}
+
+fn names_draft_2019_09(text: &str) -> bool
+    ensures { result ≡ is_among text.now (spellings (codes "draft/2019-09/schema")) }
+{
+    matches!(
+        text,
+        "http://json-schema.org/draft/2019-09/schema"
+            | "http://json-schema.org/draft/2019-09/schema#"
+            | "https://json-schema.org/draft/2019-09/schema"
+            | "https://json-schema.org/draft/2019-09/schema#"
+    )
+}
+
+fn names_draft_2020_12(text: &str) -> bool
+    ensures { result ≡ is_among text.now (spellings (codes "draft/2020-12/schema")) }
+{
+    matches!(
+        text,
+        "http://json-schema.org/draft/2020-12/schema"
+            | "http://json-schema.org/draft/2020-12/schema#"
+            | "https://json-schema.org/draft/2020-12/schema"
+            | "https://json-schema.org/draft/2020-12/schema#"
+    )
 }

@@ -1,18 +1,20 @@
 //! The other files to which a file refers, and their schemas in the document.
-ghost use Rattle.std.specs.Prelude.{◌≡◌, ◌++◌, map, option_map, option_to_list, is_none, string_bytes, IfOk, OnOk, OnErr, OnTrue, OnFalse};
+ghost use Rattle.std.specs.Prelude.{◌≡◌, ◌++◌, map, option_map, option_to_list, is_some, not, string_bytes, IfOk, OnOk, OnErr};
+ghost use Rattle.std.specs.Bool.{OnTrue, OnFalse};
 ghost use Rattle.serde_json.specs.Data.{put};
 ghost use Rattle.serde_json.specs.Find.{get_member};
 ghost use Rattle.serde_json.specs.View.{view, members_view};
 
+use crate::keywords::has_member;
 use crate::references::append_references;
-use crate::sources::{Source, cut, file_at, leads_down};
+use crate::sources::{Source, cut, file_at, is_apart, leads_down};
 use crate::translation::{Held, put};
 use olk_base::append;
 use serde_json::{Map, Value};
 use std::alloc::{AllocError, Global};
 
 impl Source<'_> {
-    ghost use Rattle.olk_drafts.specs.References.{file_named, files_named, other_than_main};
+    ghost use Rattle.olk_drafts.specs.References.{file_named, files_named, other_file};
 
     /// The names of the other files to which the references of the file's schema lead, in their
     /// order, as often as they are named. The references are those that `translate` reads.
@@ -43,19 +45,18 @@ impl Source<'_> {
             return Ok(None);
         }
         match file_at(alloc, self.file, path)? {
-            Some(file) => Ok(self.other_than_main(file)),
+            Some(file) => Ok(self.other_file(file)),
             None => Ok(None),
         }
     }
 
-    fn other_than_main(&self, file: String) -> Option<String>
-        ensures { option_map string_bytes result
-            ≡ other_than_main self.now (string_bytes file) }
+    fn other_file(&self, file: String) -> Option<String>
+        ensures { option_map string_bytes result ≡ other_file self.now (string_bytes file) }
     {
-        if file.is_empty() || file.as_str() == self.main {
-            None
-        } else {
+        if !self.is_main(file.as_str()) && is_apart(file.as_str()) {
             Some(file)
+        } else {
+            None
         }
     }
 }
@@ -83,14 +84,14 @@ pub fn add_file(
     schema: Value,
 ) -> Result<bool, AllocError>
     ensures free { IfOk result (λ added. added
-        ≡ is_none (get_member file.now (members_view document.old.entries))) }
+        ≡ not (is_some (get_member file.now (members_view document.old.entries)))) }
     ensures put { IfOk result (λ added. OnTrue added (members_view document.new.entries
         ≡ put file.now (view schema) (members_view document.old.entries))) }
     ensures kept { IfOk result (λ added. OnFalse added
         (document.new.entries ≡ document.old.entries)) }
     ensures memory { OnErr result (document.new.entries ≡ document.old.entries) }
 {
-    if document.contains_key(file) {
+    if has_member(document, file) {
         return Ok(false);
     }
     put(alloc, document, file, schema)?;

@@ -1,5 +1,5 @@
 //! As which keyword of 2020-12 a member of a schema object is read.
-ghost use Rattle.std.specs.Prelude.{◌≡◌, Some, option_map, cond};
+ghost use Rattle.std.specs.Prelude.{◌≡◌, option_map, is_some, cond};
 ghost use Rattle.serde_json.specs.Find.{get_member};
 ghost use Rattle.serde_json.specs.View.{view, members_view};
 ghost use Rattle.olk_spec.specs.Names.{is_among};
@@ -118,6 +118,15 @@ fn member<'v>(members: &'v Map<String, Value>, name: &str) -> Option<&'v Value>
     members.get(name)
 }
 
+pub(crate) fn has_member(members: &Map<String, Value>, name: &str) -> bool
+    ensures { result ≡ is_some (get_member name.now (members_view members.now.entries)) }
+{
+    match member(members, name) {
+        Some(_) => true,
+        None => false,
+    }
+}
+
 fn has_text(members: &Map<String, Value>, name: &str) -> bool
     ensures { result ≡ has_text name.now (members_view members.now.entries) }
 {
@@ -198,19 +207,19 @@ impl Draft {
         self.is_up_to_7() && has_text(members, "$ref")
     }
 
-    fn lists_items(self, members: &Map<String, Value>) -> bool
+    pub(crate) fn lists_items(self, members: &Map<String, Value>) -> bool
         ensures { result ≡ lists_items self (members_view members.now.entries) }
     {
         self.is_up_to_2019() && has_array(members, "items")
     }
 
-    fn excludes(self, members: &Map<String, Value>, name: &str) -> bool
+    pub(crate) fn excludes(self, members: &Map<String, Value>, name: &str) -> bool
         ensures { result ≡ excludes self (members_view members.now.entries) name.now }
     {
         self.is_4() && truth_at(members, name).unwrap_or(false)
     }
 
-    fn has_id(self, members: &Map<String, Value>) -> bool
+    pub(crate) fn has_id(self, members: &Map<String, Value>) -> bool
         ensures { result ≡ has_id self (members_view members.now.entries) }
     {
         self.is_4() && has_text(members, "id")
@@ -252,7 +261,7 @@ impl Draft {
     }
 }
 
-fn choose<'n>(condition: bool, one: &'n str, other: &'n str) -> &'n str
+pub(crate) fn choose<'n>(condition: bool, one: &'n str, other: &'n str) -> &'n str
     ensures { result.now ≡ cond condition one.now other.now }
 {
     if condition { one } else { other }

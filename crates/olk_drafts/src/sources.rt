@@ -2,7 +2,7 @@
 ghost use Rattle.std.specs.Prelude.{◌≡◌, ◌<◌, ◌==◌, ◌++◌, ◌∷◌, [], Some, None, map, option_map, cond, IfOk, OnOk, string_bytes};
 ghost use Rattle.std.specs.List.{list_any, list_all, before_first, after_first};
 ghost use Rattle.olk_spec.specs.Names.{pointer};
-ghost use Rattle.olk_drafts.specs.Sources.{leads_down, segments, is_odd, is_name, without_dot, with_slashes, fronts, folder_of, file_below, file_at};
+ghost use Rattle.olk_drafts.specs.Sources.{leads_down, segments, is_odd, is_name, without_dot, with_slashes, fronts, folder_of, file_below, file_at, is_apart};
 
 use crate::drafts::Draft;
 use olk_reports::Location;
@@ -24,13 +24,13 @@ pub struct Source<'a> {
 }
 
 impl Source<'_> {
-    ghost use Rattle.olk_drafts.specs.Sources.{root_of, root_at, reference_read};
+    ghost use Rattle.olk_drafts.specs.Sources.{is_main, root_of, root_at, reference_read};
 
     /// A reference of the file as it is read in the document (RFC 3986, 5.2). A path leads from the
     /// folder of the file to another one, and without a path it leads to the file itself. Behind
     /// `#` a JSON pointer leads on. What leads to no file of the document stays as it is, and so
     /// does a path with a scheme, a query, a percent sign, a backslash, or a segment that is empty,
-    /// `..`, or `.` behind the first.
+    /// `..`, or `.` behind the first. A name with neither a dot nor a slash is none of another file.
     ///
     /// # Errors
     ///
@@ -58,18 +58,31 @@ impl Source<'_> {
         }
     }
 
+    pub(crate) fn is_main(&self, file: &str) -> bool
+        ensures { result ≡ is_main self.now file.now }
+    {
+        file.is_empty() || file == self.main
+    }
+
     /// Where the schema of a file stands.
     fn root_of(&self, alloc: Global, file: &str) -> Result<Option<Location>, AllocError>
         ensures { IfOk result (λ o. o ≡ root_of self.now file.now) }
     {
-        if file.is_empty() || file == self.main {
+        if self.is_main(file) {
             return Ok(Some(Location::new(alloc)));
         }
-        if !self.files.contains(file) {
+        if !is_apart(file) || !self.files.contains(file) {
             return Ok(None);
         }
         Ok(Some(Location::new(alloc).join(alloc, file)?))
     }
+}
+
+/// Whether a name can be no keyword's: none has a dot or a slash.
+pub(crate) fn is_apart(file: &str) -> bool
+    ensures { result ≡ is_apart file.now }
+{
+    file.as_bytes().iter().any(|b| matches!(*b, b'.' | b'/'))
 }
 
 /// A reference to a place below another.
@@ -148,7 +161,7 @@ fn are_names(segments: &Vec<&str>) -> bool
     true
 }
 
-fn segments<'t>(alloc: Global, path: &'t str) -> Result<Vec<&'t str>, AllocError>
+pub(crate) fn segments<'t>(alloc: Global, path: &'t str) -> Result<Vec<&'t str>, AllocError>
     ensures { IfOk result (λ v. map (λ s. s.now) v.items ≡ segments path.now) }
 {
     path.split('/').collect(alloc)

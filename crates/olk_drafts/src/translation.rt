@@ -27,14 +27,6 @@ pub(crate) fn held_by(keyword: &str) -> Held
     ensures { result ≡ held_by keyword.now }
 {
     match keyword {
-        "additionalProperties"
-        | "propertyNames"
-        | "not"
-        | "items"
-        | "contains"
-        | "if"
-        | "then"
-        | "else" => Held::Itself,
         "properties"
         | "patternProperties"
         | "dependentSchemas"
@@ -46,7 +38,8 @@ pub(crate) fn held_by(keyword: &str) -> Held
         | "oneOf"
         | "prefixItems" => Held::Entries,
         "propertyDependencies" => Held::EntriesOfEntries,
-        _ => Held::Nothing,
+        "const" | "enum" | "default" | "examples" | "dependentRequired" => Held::Nothing,
+        _ => Held::Itself,
     }
 }
 

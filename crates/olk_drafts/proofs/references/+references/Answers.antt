@@ -1,4 +1,4 @@
-use Rattle.std.proofs.Common.{◌++◌, ◌+◌, drop, string_bytes, refl, sym, ◌∙◌, ap}
+use Rattle.std.proofs.Common.{◌++◌, ◌+◌, drop, string_bytes, option_map, sym, ◌∙◌, ap}
 use Rattle.serde_json.specs.Data.{object}
 use Rattle.serde_json.specs.View.{view, members_view, items_view}
 use Rattle.serde_json.proofs.Views.{view-Object, view-Array}
@@ -99,4 +99,5 @@ pub append_of_items-returns : goal.append_of_items-returns
 append_of_items-returns t c = all_appended (as_texts c.loop-value.texts.items) (no_item_left c.args.draft c.args.held c.loop-value.value-index c.deref-value-items.result.now c.loop-value-test.false) c.loop-value.invariant
 
 pub append_of_member-returns-in-None : goal.append_of_member-returns-in-None
-append_of_member-returns-in-None t c = none_appended c.args.texts.now.items refl
+append_of_member-returns-in-None t c =
+    none_appended c.args.texts.now.items (ap (λ o. references_by (option_map (λ k. k.now) o) (references_of_value c.args.draft (view c.args.value.now))) c.in-None.is)
