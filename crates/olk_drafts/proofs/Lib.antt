@@ -5,4 +5,3 @@ pub mod Referring
 pub mod Naming
 pub mod Rows_drafts
 pub mod Rows_paths
-pub mod Writing

@@ -5,4 +5,3 @@ pub mod Sources
 pub mod References
 pub mod Rows_drafts
 pub mod Rows_paths
-pub mod Written

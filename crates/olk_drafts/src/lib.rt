@@ -7,7 +7,6 @@
 mod drafts;
 mod files;
 mod keywords;
-mod places;
 mod references;
 pub mod rows;
 mod sources;
@@ -15,6 +14,5 @@ mod translation;
 
 pub use drafts::Draft;
 pub use files::add_file;
-pub use places::written_place;
 pub use sources::Source;
 pub use translation::translate;
