@@ -96,8 +96,8 @@ impl Reader<'_> {
     {
         let none = BTreeSet::new(rt.alloc());
         let mut names = self.main.source(&none).files_named(rt.alloc(), schema)?;
-        for _layer in 0..REFERENCE_LIMIT {
-            match self.read_layer(rt, console, &names)? {
+        for _round in 0..REFERENCE_LIMIT {
+            match self.read_round(rt, console, &names)? {
                 Some(behind) => names = behind,
                 None => return Ok(false),
             }
@@ -107,7 +107,7 @@ impl Reader<'_> {
 
     /// Reads the files of these names, but for those that were looked for. Gives the names of the
     /// files to which they refer.
-    fn read_layer<T: Files + Input + Print + Eprint + AllocGlobal>(
+    fn read_round<T: Files + Input + Print + Eprint + AllocGlobal>(
         &mut self,
         rt: &T,
         console: &mut Console<'_, T>,

@@ -1,4 +1,4 @@
--- A document, and the places that its references name, layer by layer: what stands for each, and what is told of it.
+-- A document, and the places that its references name, round by round: what stands for each, and what is told of it.
 use Rattle.std.proofs.Common.{◌≡◌, ◌≢◌, ℕ, zero, suc, ◌+◌, ◌<◌, ◌≤◌, ◌⊎◌, inl, inr, ⊎_elim, Bool, true, false, cond, List, [], ◌∷◌, ◌++◌, map, drop, length, Contains, Option, Some, None, option_map, option_to_list, refl, sym, ◌∙◌, ap, subst, arith, append-nil}
 use Rattle.std.specs.List.{flat_map}
 use Rattle.std.proofs.lemmas.List.Elements.{Contains-append_left, Contains-append_right, Contains-append_cases}

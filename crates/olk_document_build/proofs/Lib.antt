@@ -8,5 +8,5 @@ pub mod ReadReferences
 pub mod NoObjects
 pub mod Leaving
 pub mod Object
-pub mod Layers
+pub mod Rounds
 pub mod Documents

@@ -73,10 +73,10 @@ fn compile_targets<'a, L: MakeLeaf, M: MakeRegex>(
     if texts.is_empty() {
         return Ok(Targets::new(alloc));
     }
-    let layer = without_repeats(texts);
-    let behind = references_behind(alloc, document, &layer)?;
+    let round = without_repeats(texts);
+    let behind = references_behind(alloc, document, &round)?;
     let mut targets = compile_targets(alloc, ctx, document, behind, limit - 1)?;
-    let nodes = compile_layer(alloc, ctx, &targets, document, &layer)?;
+    let nodes = compile_round(alloc, ctx, &targets, document, &round)?;
     targets.append(alloc, nodes)?;
     Ok(targets)
 }
@@ -109,7 +109,7 @@ fn references_behind<'a>(
 }
 
 /// The nodes of the places that these texts name, but for those that there are already.
-fn compile_layer<'a, L: MakeLeaf, M: MakeRegex>(
+fn compile_round<'a, L: MakeLeaf, M: MakeRegex>(
     alloc: Global,
     ctx: &mut Context<'_, L, M>,
     targets: &Targets<L::Leaf, M::Engine>,

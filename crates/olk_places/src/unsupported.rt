@@ -25,12 +25,12 @@ pub fn unsupported_lines(
     reference_limit: usize,
 ) -> Result<Vec<String>, AllocError> {
     let mut found = Found::new(alloc, schema, reference_limit);
-    let mut layer = BTreeSet::new(alloc);
-    layer.insert("#")?;
+    let mut round = BTreeSet::new(alloc);
+    round.insert("#")?;
     for _ in 0..reference_limit {
-        layer = found.look_at_layer(&layer)?;
+        round = found.look_at_round(&round)?;
     }
-    found.look_at_last(&layer)?;
+    found.look_at_last(&round)?;
     Ok(found.lines)
 }
 
@@ -77,12 +77,12 @@ impl<'s> Found<'s> {
 
     /// Looks at the places that these texts name, but for those at which it has looked. Gives the
     /// texts of the references that are read there.
-    fn look_at_layer(
+    fn look_at_round(
         &mut self,
-        layer: &BTreeSet<&'s str>,
+        round: &BTreeSet<&'s str>,
     ) -> Result<BTreeSet<&'s str>, AllocError> {
         let mut behind = BTreeSet::new(self.alloc);
-        for text in layer {
+        for text in round {
             if !self.behind.contains_key(text) {
                 self.look_at_named(text, false)?;
                 let read = mem::replace(&mut self.read, BTreeSet::new(self.alloc));
@@ -96,8 +96,8 @@ impl<'s> Found<'s> {
     }
 
     /// Looks at the places that these texts name, behind as many references as are followed.
-    fn look_at_last(&mut self, layer: &BTreeSet<&'s str>) -> Result<(), AllocError> {
-        for text in layer {
+    fn look_at_last(&mut self, round: &BTreeSet<&'s str>) -> Result<(), AllocError> {
+        for text in round {
             self.look_at_named(text, true)?;
         }
         Ok(())

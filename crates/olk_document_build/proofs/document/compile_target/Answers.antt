@@ -3,7 +3,7 @@ use Rattle.serde_json.specs.View.{view}
 use Rattle.olk_base.specs.Kit.{kit}
 use Rattle.olk_build.proofs.Spending.{exit_with}
 use Rattle.olk_document_spec.specs.Documents.{place_named}
-use Rattle.olk_document_build.proofs.Layers.{made_there, refused_there}
+use Rattle.olk_document_build.proofs.Rounds.{made_there, refused_there}
 use Rattle.olk_document_build.proofs.document.compile_target.Goals as goal
 
 pub returns-in_err-node-in-Some-clause-refused : goal.returns-in_err-node-in-Some-clause-refused

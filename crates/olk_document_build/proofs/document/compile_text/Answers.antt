@@ -2,7 +2,7 @@ use Rattle.std.proofs.Common.{◌∙◌, ◌∷◌, [], ◌++◌, sym, ap, subst
 use Rattle.serde_json.specs.View.{view}
 use Rattle.olk_base.specs.Kit.{kit}
 use Rattle.olk_document_build.specs.Documents.{AreMadeUnder, with_texts}
-use Rattle.olk_document_build.proofs.Layers.{had, one_had, one_nowhere, one_made, with_texts_more}
+use Rattle.olk_document_build.proofs.Rounds.{had, one_had, one_nowhere, one_made, with_texts_more}
 use Rattle.olk_document_build.proofs.document.compile_text.Goals as goal
 
 pub returns-then-is_some-clause-built : goal.returns-then-is_some-clause-built

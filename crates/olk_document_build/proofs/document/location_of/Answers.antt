@@ -1,7 +1,7 @@
 use Rattle.std.proofs.Common.{◌∙◌, ap, arith}
 use Rattle.std.proofs.lemmas.Result.{IfOk-weaker}
 use Rattle.std.proofs.lemmas.Str.Pattern.{strip_prefix_char}
-use Rattle.olk_document_build.proofs.Layers.{behind_hash}
+use Rattle.olk_document_build.proofs.Rounds.{behind_hash}
 use Rattle.olk_document_build.proofs.document.location_of.Goals as goal
 
 pub returns : goal.returns

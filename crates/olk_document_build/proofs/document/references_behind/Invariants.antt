@@ -1,7 +1,7 @@
 use Rattle.std.proofs.Common.{[]}
 use Rattle.serde_json.specs.View.{view}
 use Rattle.olk_document_build.specs.Documents.{references_behind}
-use Rattle.olk_document_build.proofs.Layers.{texts_from}
+use Rattle.olk_document_build.proofs.Rounds.{texts_from}
 use Rattle.olk_document_build.proofs.ReadReferences.{AppendsSoFar}
 use Rattle.olk_document_build.specs.References.{as_texts}
 use Rattle.olk_document_build.proofs.document.references_behind.Given as goal

@@ -1,4 +1,4 @@
-use Rattle.olk_document_build.proofs.Layers.{same_without_repeats}
+use Rattle.olk_document_build.proofs.Rounds.{same_without_repeats}
 use Rattle.olk_document_build.proofs.document.without_repeats.Goals as goal
 
 pub returns : goal.returns

@@ -3,7 +3,7 @@ use Rattle.std.specs.Str.{bytes_eq}
 use Rattle.std.specs.BTreeMap.{get_by_text}
 use Rattle.std.proofs.Common.{string_bytes}
 use Rattle.std.proofs.lemmas.Map.Text.{btree_map_updates_text}
-use Rattle.olk_document_build.proofs.Layers.{one_put}
+use Rattle.olk_document_build.proofs.Rounds.{one_put}
 use Rattle.olk_document_build.specs.Targets.{target_of}
 use Rattle.olk_document_build.proofs.targets.Targets.add.Goals as goal
 

@@ -1,6 +1,6 @@
 use Rattle.std.proofs.Common.{◌∙◌, ap, subst, [], arith}
 use Rattle.olk_document_build.specs.Documents.{with_texts}
-use Rattle.olk_document_build.proofs.Layers.{MoreSoFar, all_added, one_added, with_texts_more, none_of_none}
+use Rattle.olk_document_build.proofs.Rounds.{MoreSoFar, all_added, one_added, with_texts_more, none_of_none}
 use Rattle.olk_document_build.proofs.targets.Targets.append.Goals as goal
 
 pub loop-text-preserved : goal.loop-text-preserved

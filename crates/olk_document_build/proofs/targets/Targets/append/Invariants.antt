@@ -1,6 +1,6 @@
 use Rattle.std.proofs.Common.{vec_len}
 use Rattle.olk_document_build.specs.Documents.{with_texts}
-use Rattle.olk_document_build.proofs.Layers.{MoreSoFar}
+use Rattle.olk_document_build.proofs.Rounds.{MoreSoFar}
 use Rattle.olk_document_build.proofs.targets.Targets.append.Given as goal
 
 -- the targets so far, and the nodes that are left

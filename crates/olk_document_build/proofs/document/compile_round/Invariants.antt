@@ -2,8 +2,8 @@ use Rattle.std.proofs.Common.{◌≡◌}
 use Rattle.serde_json.specs.View.{view}
 use Rattle.olk_base.specs.Kit.{kit}
 use Rattle.olk_document_build.specs.Documents.{AreMadeUnder, with_texts}
-use Rattle.olk_document_build.proofs.Layers.{texts_to}
-use Rattle.olk_document_build.proofs.document.compile_layer.Given as goal
+use Rattle.olk_document_build.proofs.Rounds.{texts_to}
+use Rattle.olk_document_build.proofs.document.compile_round.Given as goal
 
 -- nodes for the texts so far
 abbrev pub invariant-loop-text : goal.invariant-loop-text

@@ -5,8 +5,8 @@ use Rattle.olk_base.specs.Kit.{kit}
 use Rattle.olk_build.proofs.Spending.{exit_with}
 use Rattle.olk_document_build.specs.Documents.{AreMadeUnder, with_texts}
 use Rattle.olk_document_build.specs.References.{as_texts}
-use Rattle.olk_document_build.proofs.Layers.{text_passed, text_among, all_texts, refused_one}
-use Rattle.olk_document_build.proofs.document.compile_layer.Goals as goal
+use Rattle.olk_document_build.proofs.Rounds.{text_passed, text_among, all_texts, refused_one}
+use Rattle.olk_document_build.proofs.document.compile_round.Goals as goal
 
 -- the text at a position
 abbrev nowhere : Bor Text

@@ -1,4 +1,4 @@
--- Texts and nodes, layer by layer: lists that grow, and targets that are added.
+-- Texts and nodes, round by round: lists that grow, and targets that are added.
 use Rattle.std.proofs.Common.{◌≡◌, ℕ, zero, suc, ◌+◌, ◌<◌, ◌≤◌, ◌⊎◌, inl, inr, ⊎_elim, Bool, true, false, cond, List, [], ◌∷◌, ◌++◌, map, take, drop, length, Contains, Bor, Option, Some, None, option_map, option_to_list, is_some, ◌≢◌, not, ◌&&◌, ◌||◌, ◌==◌, MatchOption, unwrap_or, refl, sym, ◌∙◌, ap, subst, arith, append-nil, true≢false, eqb-true}
 use Rattle.std.proofs.Common.{slice_index_or as get_or}
 use Rattle.std.specs.List.{flat_map, Any, dedup}
@@ -122,13 +122,13 @@ module _ (W : World) (D : Data) (k : ℕ) where
       (Each-implies (Contains us) _ (λ t c f. Contains-flat_map (λ t. told (malformed_targets W D k t)) ts t f (among t c)) us (Each-contains us))
 
 module _ (W : World) (D : Data) {ts us : List Text} (same : HaveTheSame ts us) (k : ℕ) where
-  pub refused_layer : (e : BuildError) → TellsOneOf (faults_behind W D k us) e → TellsOneOf (faults_behind W D k ts) e
-  refused_layer = tells _ _ (told_among W D k ts us same.back)
+  pub refused_round : (e : BuildError) → TellsOneOf (faults_behind W D k us) e → TellsOneOf (faults_behind W D k ts) e
+  refused_round = tells _ _ (told_among W D k ts us same.back)
 
   pub refused_behind : (e : BuildError) → TellsOneOf (faults_behind W D k (references_behind W D us)) e → TellsOneOf (faults_behind W D (suc k) ts) e
   refused_behind = tells _ _ (λ f c. told_among W D (suc k) ts us same.back f (told_before W D k us f c))
 
--- ---- nodes of a layer
+-- ---- nodes of a round
 
 module _ {K R : Type 0} where
   pub with_texts_more : (ns : List (Bor Text × DocumentNode K R)) (t : Bor Text) (n : DocumentNode K R) → with_texts (ns ++ (t, n) ∷ []) ≡ with_texts ns ++ (t.now, n) ∷ []
@@ -203,10 +203,10 @@ module _ {K R : Type 0} (o : Kit K R) (D : Data) where
   pub no_targets_for_none : (k : ℕ) {T : Targets K R} → ((t : Text) → target_of T t ≡ None) → AreTargets o D k [] T
   no_targets_for_none k none = record { stand = λ t n e. let q : None ≡ Some n = sym (none t) ∙ e in cc; others = λ t c. absurd (nothing_there t c) }
 
-  -- with the nodes of a layer beside those behind it
-  pub layer_added : (k : ℕ) {ts us : List Text} {T new : Targets K R} {ns : List (Text × DocumentNode K R)} → HaveTheSame ts us → AreTargets o D k (references_behind o.world D us) T
+  -- with the nodes of a round beside those behind it
+  pub round_added : (k : ℕ) {ts us : List Text} {T new : Targets K R} {ns : List (Text × DocumentNode K R)} → HaveTheSame ts us → AreTargets o D k (references_behind o.world D us) T
       → AreMadeUnder o D T us ns → HasMore T ns new → AreTargets o D (suc k) ts new
-  layer_added k {us} same h made more =
+  round_added k {us} same h made more =
       let m = made k (references_behind o.world D us) h in
       record {
         stand = λ t n e i l. ⊎_elim (λ old. h.stand t n old i (omega arith)) (λ c. m.stand t n c i l) (more.among t n e);
