@@ -23,6 +23,8 @@ rows_drafts = record {
   draft_7_has_no_dependent_schemas = refl;
   prefix_items_came_last = refl;
   what_is_no_schema_stays = refl;
+  and_so_do_names_that_are_required = refl;
+  a_name_of_no_keyword_may_hold_a_schema = refl;
   entries_of_entries_are_schemas = refl;
   branches_are_schemas = refl;
 }
