@@ -66,7 +66,7 @@ pub fn read_document<T: Files + Input + Print + Eprint + AllocGlobal>(
         files: Vec::new(rt.alloc()),
     };
     if reader.read_files(rt, console, &schema)? {
-        compound(console, &reader, &schema)
+        compound_document(console, &reader, &schema)
     } else {
         Ok(None)
     }
@@ -242,9 +242,9 @@ fn read_if_there<T: Files + AllocGlobal>(rt: &T, path: &str) -> io::Result<Optio
     }
 }
 
-/// One document of 2020-12: the schema, and each file under its name. Where the schema has a member
-/// of such a name, that is said.
-fn compound<T: Print + Eprint + AllocGlobal>(
+/// One document of 2020-12 (Core, 9.3): the schema, and each file under its name. Where it has a
+/// member of such a name, that is said.
+fn compound_document<T: Print + Eprint + AllocGlobal>(
     console: &mut Console<'_, T>,
     reader: &Reader<'_>,
     schema: &Value,
@@ -261,7 +261,7 @@ fn compound<T: Print + Eprint + AllocGlobal>(
     };
     for file in &reader.files {
         let name = file.name.as_str();
-        let schema = part(alloc, &file.source(reader.main, &names), &file.schema)?;
+        let schema = embedded_schema(alloc, &file.source(reader.main, &names), &file.schema)?;
         if !add_file(alloc, &mut members, name, schema)? {
             let name = Visible(name);
             console.fail(format_args!("the schema has a member with the name of the file {name}"))?;
@@ -281,7 +281,11 @@ fn names_of(alloc: Global, files: &Vec<OtherFile>) -> Result<BTreeSet<String>, A
 
 /// The schema of a file as it stands in a document. A name that it gives itself is left out, since
 /// references to it and in it go by the file's name.
-fn part(alloc: Global, source: &Source<'_>, schema: &Value) -> Result<Value, AllocError> {
+fn embedded_schema(
+    alloc: Global,
+    source: &Source<'_>,
+    schema: &Value,
+) -> Result<Value, AllocError> {
     let mut schema = translate(alloc, source, schema)?;
     if let Value::Object(members) = &mut schema {
         members.remove("$id");
