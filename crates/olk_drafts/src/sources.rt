@@ -32,6 +32,9 @@ impl Source<'_> {
     /// does a path with a scheme, a query, a percent sign, a backslash, or a segment that is empty,
     /// `..`, or `.` behind the first. A name with neither a dot nor a slash is none of another file.
     ///
+    /// A pointer is not translated: one through a keyword that is read under another name, such as
+    /// `#/items/0` into a list, does not lead there in the document.
+    ///
     /// # Errors
     ///
     /// Out of memory.

@@ -44,7 +44,9 @@ pub(crate) fn held_by(keyword: &str) -> Held
 }
 
 /// The schema of 2020-12 that means what a file's schema means by its draft, with the file's
-/// references as they are read in the document. What is no keyword stays as it is.
+/// references as they are read in the document (draft 4 Validation, 5.1.2 and 5.1.3; draft 7 Core,
+/// 8.3; 2019-09 Core, 9.3.1). What a name holds that is no keyword's is translated as well, since a
+/// reference may lead there.
 ///
 /// # Errors
 ///
