@@ -1,5 +1,5 @@
 -- Paths as their segments.
-use Rattle.std.proofs.Common.{◌≡◌, ℕ, ◌==◌, ◌+◌, ◌<◌, ◌≤◌, Bool, true, false, ◌&&◌, ◌-◌, List, [], ◌∷◌, ◌++◌, map, take, drop, length, slice_index_or as get_or, Bor, refl, sym, ap, ◌∙◌, arith}
+use Rattle.std.proofs.Common.{◌≡◌, ℕ, ◌+◌, ◌<◌, ◌≤◌, Bool, true, false, ◌&&◌, ◌-◌, List, [], ◌∷◌, map, take, drop, length, slice_index_or as get_or, Bor, sym, ap, ◌∙◌, arith}
 use Rattle.std.specs.List.{list_all, before_first, after_first, position_or_len}
 use Rattle.std.proofs.lemmas.List.{drop_more, drop_all, take_all, take-map, length-map}
 use Rattle.olk_spec.specs.Names.{Text}

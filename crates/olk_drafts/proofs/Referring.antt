@@ -1,12 +1,12 @@
 -- The references of a value, one step at a time, and lists of texts that grow by them.
-use Rattle.std.proofs.Common.{◌≡◌, ℕ, ◌+◌, ◌<◌, ◌≤◌, Bool, true, false, List, [], ◌∷◌, ◌++◌, map, drop, length, cond, slice_index_or as get_or, Bor, String, string_bytes, Global, refl, sym, ap, ◌∙◌, append-nil, append_assoc, true≢false}
-use Rattle.std.proofs.lemmas.List.{drop_more, drop_all, map-append}
+use Rattle.std.proofs.Common.{◌≡◌, ℕ, ◌+◌, ◌<◌, ◌≤◌, false, List, [], ◌∷◌, ◌++◌, drop, length, slice_index_or as get_or, Bor, String, string_bytes, Global, refl, sym, ap, ◌∙◌, append-nil, append_assoc, true≢false}
+use Rattle.std.proofs.lemmas.List.{drop_more, drop_all}
 use Rattle.serde_json.specs.Data.{Data, object, array, string, Members}
 use Rattle.serde_json.specs.Find.{as_str}
-use Rattle.serde_json.specs.View.{view, members_view, items_view, items_of}
+use Rattle.serde_json.specs.View.{view, members_view, items_view}
 use Rattle.serde_json.specs.declared.value.Value.{Value}
-use Rattle.std.specs.Prelude.{Option, Some, None, unwrap_or, is_some}
-use Rattle.olk_spec.specs.Names.{Text, Name}
+use Rattle.std.specs.Prelude.{Some, None, unwrap_or, is_some}
+use Rattle.olk_spec.specs.Names.{Text}
 use Rattle.olk_spec.specs.Schemas.{is_object, is_array}
 use Rattle.olk_drafts.specs.Keywords.{read_as}
 use Rattle.olk_drafts.specs.References.{as_texts, text_of, references_by, references_at, references_of_members, references_of_entries, references_of_items, references_of_value, references_inside}

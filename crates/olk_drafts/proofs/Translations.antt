@@ -1,10 +1,10 @@
 -- One step of a translation.
-use Rattle.std.proofs.Common.{◌≡◌, ℕ, zero, suc, ◌≤◌, Bool, true, false, List, [], ◌∷◌, map, take, length, Option, Some, None, String, string_bytes, Global, refl, sym, ap, ◌∙◌, true≢false}
+use Rattle.std.proofs.Common.{◌≡◌, ℕ, ◌≤◌, false, List, [], ◌∷◌, map, take, length, String, string_bytes, Global, refl, sym, ap, ◌∙◌, true≢false}
 use Rattle.std.proofs.lemmas.List.{take_all}
-use Rattle.serde_json.specs.Data.{Data, object, array, Members, no_members, member, put, item}
+use Rattle.serde_json.specs.Data.{Data, object, array, Members, no_members, put, item}
 use Rattle.serde_json.specs.View.{view, members_view, items_view, items_of}
 use Rattle.serde_json.specs.declared.value.Value.{Value}
-use Rattle.olk_spec.specs.Names.{Text, Name}
+use Rattle.olk_spec.specs.Names.{Text}
 use Rattle.olk_spec.specs.Schemas.{is_array, is_object}
 use Rattle.olk_drafts.specs.Keywords.{read_as}
 use Rattle.olk_drafts.specs.Translated.{put_as, translated_at, translated_members, translated_entries, translated_items, translated_value, translated_inside}

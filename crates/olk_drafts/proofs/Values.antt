@@ -1,5 +1,5 @@
 -- Values that are no object and no array, and members by their names.
-use Rattle.std.proofs.Common.{◌≡◌, List, [], ◌∷◌, Option, Some, None, option_map, option_copied, Bor, Bool, false, String, string_bytes, Global, BTreeMap, Vec, refl, sym, ap, ◌∙◌, subst, rules}
+use Rattle.std.proofs.Common.{◌≡◌, List, Option, Some, None, option_map, option_copied, Bor, false, String, string_bytes, Global, BTreeMap, Vec, refl, ap, ◌∙◌, subst, rules}
 use Rattle.std.specs.{Map.lookup, Cmp.Lexicographic.slice_cmp, BTreeMap.is_at}
 use Rattle.std.specs.Ordering.{nat_cmp}
 use Rattle.std.specs.Prelude.{Result, Ok, Err, MatchResult, IfOk}

@@ -1,6 +1,6 @@
 -- The drafts of JSON Schema, and the texts by which `$schema` names them.
 use Rattle.std.specs.Prelude.{Bool, true, false, List, [], ◌∷◌, ◌++◌, Option, Some, None, codes, if◌then◌else◌}
-use Rattle.serde_json.specs.Data.{Data, null, boolean, number, string, array, object}
+use Rattle.serde_json.specs.Data.{Data, string}
 use Rattle.serde_json.specs.Find.{get}
 use Rattle.olk_spec.specs.Names.{Text, is_among}
 use Rattle.olk_drafts.specs.declared.drafts.Draft.{Draft}

@@ -1,6 +1,6 @@
 -- As which keyword of 2020-12 a member of a schema object is read, by the draft and by the members beside it.
-use Rattle.std.specs.Prelude.{Bool, true, false, not, ◌&&◌, ◌||◌, List, [], ◌∷◌, ◌++◌, Option, Some, None, option_and_then, is_some, unwrap_or, codes, bytes_eq, cond, if◌then◌else◌}
-use Rattle.serde_json.specs.Data.{Data, Members}
+use Rattle.std.specs.Prelude.{Bool, false, not, ◌&&◌, ◌||◌, List, [], ◌∷◌, Option, Some, None, option_and_then, is_some, unwrap_or, codes, bytes_eq, cond, if◌then◌else◌}
+use Rattle.serde_json.specs.Data.{Members}
 use Rattle.serde_json.specs.Find.{get_member, as_array, as_bool, as_str}
 use Rattle.olk_spec.specs.Names.{Name, is_among}
 use Rattle.olk_drafts.specs.Drafts.{is_4, is_up_to_7, is_up_to_2019}

@@ -1,8 +1,8 @@
 -- The references of a file's schema, at the places where it is translated, and the files to which they lead.
-use Rattle.std.specs.Prelude.{◌≡◌, Bool, not, ◌&&◌, List, [], ◌∷◌, ◌++◌, map, cond, codes, bytes_eq, Option, Some, None, option_to_list, option_and_then}
+use Rattle.std.specs.Prelude.{not, ◌&&◌, List, [], ◌∷◌, ◌++◌, map, cond, codes, bytes_eq, Option, Some, None, option_to_list, option_and_then}
 use Rattle.std.specs.Borrow.{Bor}
 use Rattle.std.specs.List.{flat_map}
-use Rattle.serde_json.specs.Data.{Data, null, boolean, number, string, array, object, Items, no_items, item, Members, no_members, member}
+use Rattle.serde_json.specs.Data.{Data, string, array, object, Items, no_items, item, Members, no_members, member}
 use Rattle.olk_spec.specs.Names.{Text, Name}
 use Rattle.olk_drafts.specs.Keywords.{read_as}
 use Rattle.olk_drafts.specs.Sources.{path_of, place_of, leads_down, file_at, is_apart, is_main}
@@ -10,7 +10,7 @@ use Rattle.olk_drafts.specs.Translated.{held_by}
 use Rattle.olk_drafts.specs.declared.drafts.Draft.{Draft}
 use Rattle.olk_drafts.specs.declared.sources.Source.{Source}
 use Rattle.olk_drafts.specs.declared.translation.Held.{Held}
-use Rattle.olk_drafts.specs.declared.translation.Held.TheVariants.{Nothing, Itself, Entries, EntriesOfEntries}
+use Rattle.olk_drafts.specs.declared.translation.Held.TheVariants.{Itself, Entries, EntriesOfEntries}
 
 abbrev pub as_texts : List (Bor Text) → List Text
 as_texts ts = map (λ t. t.now) ts

@@ -1,5 +1,5 @@
 -- How the references of a file are read in a document of several files: there the schema of another file stands under its name.
-use Rattle.std.specs.Prelude.{ℕ, ◌==◌, ◌-◌, Bool, true, false, not, ◌&&◌, ◌||◌, List, [], ◌∷◌, ◌++◌, map, take, length, cond, codes, bytes_eq, Option, Some, None, option_and_then, string_bytes}
+use Rattle.std.specs.Prelude.{ℕ, ◌==◌, ◌-◌, Bool, true, not, ◌&&◌, ◌||◌, List, [], ◌∷◌, ◌++◌, take, length, cond, codes, bytes_eq, Option, Some, None, option_and_then, string_bytes}
 use Rattle.std.specs.BTreeSet.{contains_by}
 use Rattle.std.specs.Cmp.Lexicographic.{slice_cmp}
 use Rattle.std.specs.List.{flat_map, list_all, list_any, before_first, after_first, slice_split}

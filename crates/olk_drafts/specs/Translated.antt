@@ -1,6 +1,6 @@
 -- What a schema of an older draft means: what this schema of 2020-12 means.
-use Rattle.std.specs.Prelude.{Bool, Option, Some, None, codes, bytes_eq, cond, ◌||◌, if◌then◌else◌}
-use Rattle.serde_json.specs.Data.{Data, null, boolean, number, string, array, object, Items, no_items, item, Members, no_members, member, put}
+use Rattle.std.specs.Prelude.{Option, Some, None, codes, bytes_eq, cond, if◌then◌else◌}
+use Rattle.serde_json.specs.Data.{Data, string, array, object, Items, no_items, item, Members, no_members, member, put}
 use Rattle.olk_spec.specs.Names.{Text, Name, is_among}
 use Rattle.std.specs.Prelude.{List, [], ◌∷◌}
 use Rattle.olk_drafts.specs.Keywords.{read_as}

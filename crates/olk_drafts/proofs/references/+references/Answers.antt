@@ -1,12 +1,10 @@
-use Rattle.std.proofs.Common.{◌++◌, ◌+◌, drop, string_bytes, option_map, sym, ◌∙◌, ap}
-use Rattle.serde_json.specs.Data.{object}
+use Rattle.std.proofs.Common.{◌++◌, ◌+◌, drop, string_bytes, option_map, ◌∙◌, ap}
 use Rattle.serde_json.specs.View.{view, members_view, items_view}
 use Rattle.serde_json.proofs.Views.{view-Object, view-Array}
 use Rattle.olk_drafts.specs.Keywords.{read_as}
-use Rattle.olk_drafts.specs.References.{as_texts, own_reference, references_by, references_at, references_of_members, references_of_entries, references_of_items, references_of_value}
-use Rattle.olk_drafts.specs.Translated.{held_by}
+use Rattle.olk_drafts.specs.References.{as_texts, references_by, references_at, references_of_members, references_of_entries, references_of_items, references_of_value}
 use Rattle.olk_drafts.proofs.Values.{no_object, no_array}
-use Rattle.olk_drafts.proofs.Referring.{none_appended, both_appended, one_more, all_appended, none_held, entries_referring, entries_of_entries_referring, object_referring, no_object_referring, none_inside, member_left, entry_left, no_member_left, no_entry_left, item_left, no_item_left}
+use Rattle.olk_drafts.proofs.Referring.{none_appended, one_more, all_appended, none_held, entries_referring, entries_of_entries_referring, object_referring, no_object_referring, none_inside, member_left, entry_left, no_member_left, no_entry_left, item_left, no_item_left}
 use Rattle.olk_drafts.proofs.references.+references.Goals as goal
 
 pub append_references-returns-in-Nothing : goal.append_references-returns-in-Nothing

@@ -1,10 +1,10 @@
-use Rattle.std.proofs.Common.{sym, ◌∙◌, ap}
-use Rattle.serde_json.specs.Data.{object, array, no_members, put}
+use Rattle.std.proofs.Common.{◌∙◌, ap}
+use Rattle.serde_json.specs.Data.{object, array, put}
 use Rattle.serde_json.specs.View.{view, members_view, items_view}
 use Rattle.serde_json.proofs.Views.{view-Object, view-Array}
 use Rattle.olk_drafts.specs.Sources.{reference_read}
 use Rattle.olk_drafts.specs.Keywords.{read_as}
-use Rattle.olk_drafts.specs.Translated.{put_as, translated_value, translated_members, translated_entries, translated_items, translated_inside}
+use Rattle.olk_drafts.specs.Translated.{put_as, translated_value, translated_items}
 use Rattle.olk_drafts.proofs.Values.{no_object, cloned}
 use Rattle.olk_drafts.proofs.Translations.{nothing_held, entries_held, entries_of_entries_held, object_translated, no_object_translated, one_more_member, one_more_entry, no_more_members, no_more_entries, all_items}
 use Rattle.olk_drafts.proofs.translation.+translate.Goals as goal

@@ -1,4 +1,4 @@
-use Rattle.std.proofs.Common.{◌++◌, ◌+◌, map, string_bytes, slice_index_or as get_or, ap, sym, ◌∙◌}
+use Rattle.std.proofs.Common.{◌++◌, ◌+◌, map, string_bytes, slice_index_or as get_or, ap, ◌∙◌}
 use Rattle.std.specs.Prelude.{option_to_list}
 use Rattle.std.specs.List.{flat_map}
 use Rattle.serde_json.specs.View.{view}
