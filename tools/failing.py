@@ -67,6 +67,13 @@ def cases():
         "p": {"pattern": "^[a-z]+(b|\\d){2,}$"},
         "t": {"type": ["null", "integer"]},
     }
+    lists_of_lists = {
+        "$defs": {
+            "a": {"contains": {"const": 9}, "items": {"type": "integer"}, "prefixItems": [{"minimum": 3}, True]},
+            "b": {"items": {"$ref": "#/$defs/a"}, "minItems": 4},
+        },
+        "properties": {"x": {"$ref": "#/$defs/b"}, "y": {"$ref": "#/$defs/a"}},
+    }
     return [
         ("two patterns that refuse, beside declared names", of_patterns, {"bar": 4, "spam": 11, "foo": 3, "faz": 1}),
         ("a pattern that refuses a declared name", of_patterns, {"barbaz": 3}),
@@ -88,6 +95,8 @@ def cases():
             {**of_names, "additionalProperties": {"type": "integer"}, "patternProperties": matched},
             dict.fromkeys(names, 1),
         ),
+        ("a document", lists_of_lists, {"x": [[1, 2, "z"], [9]], "y": [3]}),
+        ("a document with a reference to nothing", {"items": {"$ref": "#/$defs/a~1b"}}, [1]),
         ("a malformed keyword", {"properties": 5}, 1),
         ("a malformed pattern", {"patternProperties": {"a/b~(": {}}}, 1),
     ]

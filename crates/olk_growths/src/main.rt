@@ -3,17 +3,21 @@
 //! A line names a call, with what it has to leave as it was, and the lines behind it say what was
 //! answered. `tools/refused_growths` refuses each growth in turn and compares the lines.
 //!
-//! Stands on `object_logic`, `olk_vocabulary` and the matcher of `olk_bench`. Tested by its files `stdin` and `stdout`.
+//! Stands on `object_logic`, `olk_document`, `olk_vocabulary` and the matcher of `olk_bench`. Tested
+//! by its files `stdin` and `stdout`.
 #![tactic(auto)]
 
+mod asking;
 mod at_path;
 
+use asking::Asking;
 use at_path::ask_at_path;
 use object_logic::{
-    AnnotationEntry, BuildError, Context, ErrorEntry, Evaluation, Leaf, Meter, RegexEngine,
-    ValidateError, ValidationContext, ValidationError, Validator, compile,
+    AnnotationEntry, BuildError, Context, ErrorEntry, Evaluation, Meter, ValidateError,
+    ValidationContext, ValidationError, Validator, compile,
 };
 use olk_bench::BenchRegexes;
+use olk_document::DocumentValidator;
 use olk_vocabulary::Vocabulary;
 use serde_json::Value;
 use std::alloc::Global;
@@ -44,7 +48,8 @@ fn ask(rt: &HostRuntime, schema: &Value, instance: &Value) -> io::Result<()> {
     if let Ok(node) = compile(rt.alloc(), &mut ctx, schema) {
         ask_at_path(rt, &node, instance)?;
     }
-    build(rt, schema, instance)
+    build(rt, schema, instance)?;
+    build_document(rt, schema, instance)
 }
 
 fn build(rt: &HostRuntime, schema: &Value, instance: &Value) -> io::Result<()> {
@@ -60,9 +65,28 @@ fn build(rt: &HostRuntime, schema: &Value, instance: &Value) -> io::Result<()> {
     Ok(())
 }
 
-fn ask_validator<'a, K: Leaf, R: RegexEngine>(
+fn build_document(rt: &HostRuntime, document: &Value, instance: &Value) -> io::Result<()> {
+    for _ in 0..TRIES {
+        println!(rt; "build a document")?;
+        let mut meter = Meter::new();
+        match DocumentValidator::build(
+            rt.alloc(),
+            &Vocabulary,
+            &BenchRegexes,
+            document,
+            &mut meter,
+        ) {
+            Ok(validator) => return ask_validator(rt, &validator, instance),
+            Err(BuildError::Refused(error)) => return print_error(rt, &error),
+            Err(BuildError::Memory(_)) => println!(rt; "out of memory")?,
+        }
+    }
+    Ok(())
+}
+
+fn ask_validator<'a, V: Asking>(
     rt: &HostRuntime,
-    validator: &'a Validator<K, R>,
+    validator: &'a V,
     instance: &'a Value,
 ) -> io::Result<()> {
     is_valid(rt, validator, instance)?;
@@ -76,25 +100,17 @@ fn ask_validator<'a, K: Leaf, R: RegexEngine>(
     evaluate(rt, validator, instance)
 }
 
-fn is_valid<K: Leaf, R: RegexEngine>(
-    rt: &HostRuntime,
-    validator: &Validator<K, R>,
-    instance: &Value,
-) -> io::Result<()> {
+fn is_valid<V: Asking>(rt: &HostRuntime, validator: &V, instance: &Value) -> io::Result<()> {
     println!(rt; "is_valid")?;
-    let valid = validator.is_valid(instance, &mut ValidationContext::new(true));
+    let valid = validator.accepts(instance, &mut ValidationContext::new(true));
     println!(rt; "{valid}")
 }
 
-fn validate<K: Leaf, R: RegexEngine>(
-    rt: &HostRuntime,
-    validator: &Validator<K, R>,
-    instance: &Value,
-) -> io::Result<()> {
+fn validate<V: Asking>(rt: &HostRuntime, validator: &V, instance: &Value) -> io::Result<()> {
     let mut ctx = ValidationContext::new(true);
     for _ in 0..TRIES {
         println!(rt; "validate")?;
-        match validator.validate(rt.alloc(), instance, &mut ctx) {
+        match validator.first_error(rt.alloc(), instance, &mut ctx) {
             Ok(()) => return println!(rt; "valid"),
             Err(ValidateError::Invalid(error)) => return print_error(rt, &error),
             Err(ValidateError::Memory(_)) => println!(rt; "out of memory")?,
@@ -103,16 +119,16 @@ fn validate<K: Leaf, R: RegexEngine>(
     Ok(())
 }
 
-fn collect_errors<'a, K: Leaf, R: RegexEngine>(
+fn collect_errors<'a, V: Asking>(
     rt: &HostRuntime,
-    validator: &'a Validator<K, R>,
+    validator: &'a V,
     instance: &'a Value,
     errors: &mut Vec<ValidationError<'a>>,
 ) -> io::Result<()> {
     let mut ctx = ValidationContext::new(true);
     for _ in 0..TRIES {
         println!(rt; "collect_errors, behind {} errors", errors.len())?;
-        match validator.collect_errors(rt.alloc(), instance, &mut ctx, errors) {
+        match validator.append_errors(rt.alloc(), instance, &mut ctx, errors) {
             Ok(()) => return Ok(()),
             Err(_) => println!(rt; "out of memory")?,
         }
@@ -136,15 +152,11 @@ fn print_message(rt: &HostRuntime, error: &ValidationError<'_>, message: &str) -
     println!(rt; "{instance:?}: {message} ({schema})")
 }
 
-fn evaluate<K: Leaf, R: RegexEngine>(
-    rt: &HostRuntime,
-    validator: &Validator<K, R>,
-    instance: &Value,
-) -> io::Result<()> {
+fn evaluate<V: Asking>(rt: &HostRuntime, validator: &V, instance: &Value) -> io::Result<()> {
     let mut ctx = ValidationContext::new(true);
     for _ in 0..TRIES {
         println!(rt; "evaluate")?;
-        match validator.evaluate(rt.alloc(), instance, &mut ctx) {
+        match validator.shown(rt.alloc(), instance, &mut ctx) {
             Ok(evaluation) => return print_entries(rt, &evaluation),
             Err(_) => println!(rt; "out of memory")?,
         }
