@@ -78,7 +78,8 @@ const NAMED: &str = r##"{"$ref":"c.json"} | a/c.json
 {"$ref":5} | none
 {"items":[{"$ref":"c.json#/definitions/x"},{"$ref":"d.json"}],"not":{"$ref":"c.json"}} | a/c.json a/d.json a/c.json
 {"definitions":{"x":{"$ref":"d/e.json#"}}} | a/d/e.json
-{"enum":[{"$ref":"c.json"}],"x":{"$ref":"c.json"}} | none
+{"enum":[{"$ref":"c.json"}],"default":{"$ref":"c.json"}} | none
+{"x":{"$ref":"c.json"}} | a/c.json
 {"$ref":"../c.json"} | none
 {"$ref":"./c"} | a/c
 {"$ref":"c.json#a"} | none
