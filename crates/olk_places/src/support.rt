@@ -1,7 +1,8 @@
 //! What is supported of a keyword of JSON Schema, of 2020-12 and of older drafts.
 use olk_base::analyze_pattern;
 use olk_regexes::{Refusal, why_refused};
-use olk_vocabulary::{JsonNumber, Keyword};
+use olk_numbers::JsonNumber;
+use olk_vocabulary::Keyword;
 use serde_json::{Map, Number, Value};
 use std::alloc::{AllocError, Global};
 use std::fmt::{self, Display, Formatter};

@@ -21,12 +21,12 @@ use Rattle.serde_json.specs.declared.number.Number.{Number}
 use Rattle.serde_json.specs.declared.number.N.{N}
 use Rattle.serde_json.specs.declared.number.N.TheVariants.{PosInt, NegInt, Float as Double}
 use Rattle.serde_json.specs.Number.{is_valid, num_of as json_num}
-use Rattle.olk_vocabulary.specs.Numbers.{exact, num_of}
+use Rattle.olk_numbers.specs.Numbers.{exact, num_of}
 use Rattle.olk_vocabulary.specs.Same.{same_value, is_number, is_text}
 use Rattle.olk_vocabulary.specs.Candidates.{rank, is_among, is_kept}
 use Rattle.olk_vocabulary.specs.declared.candidates.Kept.{Kept}
 use Rattle.olk_vocabulary.specs.declared.ranked.RankedNumber.{RankedNumber}
-use Rattle.olk_vocabulary.proofs.Comparisons.{eq_by_rank, of_whole-number}
+use Rattle.olk_numbers.proofs.Comparisons.{eq_by_rank, of_whole-number}
 use Rattle.olk_vocabulary.proofs.Sameness.{at_item}
 
 -- ---- one more key

@@ -1,9 +1,7 @@
 pub mod Blocks
-pub mod Comparisons
 pub mod Findings
 pub mod Kept
 pub mod Lists
 pub mod Orders
-pub mod Remainders
 pub mod Sameness
 pub mod Uniques

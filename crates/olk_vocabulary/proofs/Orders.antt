@@ -16,12 +16,12 @@ use Rattle.serde_json.specs.Find.{as_bool, as_number, as_str}
 use Rattle.olk_spec.specs.Names.{Name}
 use Rattle.olk_spec.specs.Malformed.{items_list}
 use Rattle.olk_spec.specs.Schemas.{listed}
-use Rattle.olk_vocabulary.specs.Numbers.{exact, num_of, is_same_number}
+use Rattle.olk_numbers.specs.Numbers.{exact, num_of, is_same_number}
 use Rattle.olk_vocabulary.specs.Candidates.{rank}
 use Rattle.olk_vocabulary.specs.declared.ranked.RankedNumber.{RankedNumber}
 use Rattle.olk_vocabulary.specs.Order.{kind_rank, value_cmp, items_cmp, members_cmp}
 use Rattle.olk_vocabulary.specs.Same.{same_value, same_items, same_members}
-use Rattle.olk_vocabulary.proofs.Comparisons.{eq_by_rank}
+use Rattle.olk_numbers.proofs.Comparisons.{eq_by_rank}
 
 -- ---- one level, and then one more
 

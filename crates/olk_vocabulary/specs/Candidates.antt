@@ -8,7 +8,7 @@ use Rattle.serde_json.specs.Data.{Data, number, string}
 use Rattle.serde_json.specs.View.{items_view}
 use Rattle.serde_json.specs.declared.value.Value.{Value}
 use Rattle.olk_spec.specs.Malformed.{items_list}
-use Rattle.olk_vocabulary.specs.Numbers.{num_of, exact}
+use Rattle.olk_numbers.specs.Numbers.{num_of, exact}
 use Rattle.olk_vocabulary.specs.Same.{same_value}
 use Rattle.olk_vocabulary.specs.declared.ranked.RankedNumber.{RankedNumber}
 use Rattle.olk_vocabulary.specs.declared.candidates.Kept.{Kept}

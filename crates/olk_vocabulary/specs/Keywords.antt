@@ -10,7 +10,7 @@ use Rattle.olk_spec.specs.Malformed.{items_list}
 use Rattle.olk_spec.specs.Schemas.{listed}
 use Rattle.olk_spec.specs.Bench.{names_kind, is_natural_from, shown, unless}
 use Rattle.olk_spec.specs.Bench as bench
-use Rattle.olk_vocabulary.specs.Numbers.{exact, is_below, is_at_most, is_integral, is_multiple_of}
+use Rattle.olk_numbers.specs.Numbers.{exact, is_below, is_at_most, is_integral, is_multiple_of}
 use Rattle.olk_vocabulary.specs.Patterns.{takes_pattern, pattern_faults}
 use Rattle.olk_vocabulary.specs.Same.{same_value}
 use Rattle.olk_vocabulary.specs.Unique.{unique_faults}

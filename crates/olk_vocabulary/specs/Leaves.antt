@@ -8,7 +8,7 @@ use Rattle.olk_spec.specs.Json.{arr}
 use Rattle.olk_spec.specs.Bench.{shown}
 use Rattle.olk_bench.specs.Leaves.{kind_name}
 use Rattle.olk_bench.specs.declared.leaf.ValueKind.{ValueKind}
-use Rattle.olk_vocabulary.specs.Numbers.{num_of}
+use Rattle.olk_numbers.specs.Numbers.{num_of}
 use Rattle.olk_vocabulary.specs.Patterns.{pattern_text}
 use Rattle.olk_vocabulary.specs.Unique.{unique_text}
 use Rattle.olk_vocabulary.specs.Keywords.{keyword_name, takes, finds, kinds_text, candidates, multiple_text, bound_text, limit_text}

@@ -2,7 +2,6 @@ pub mod Blocks
 pub mod Candidates
 pub mod Keywords
 pub mod Leaves
-pub mod Numbers
 pub mod Order
 pub mod Patterns
 pub mod Same

@@ -5,7 +5,7 @@ use Rattle.std.specs.declared.cmp.Ordering.{Ordering}
 use Rattle.std.specs.declared.cmp.Ordering.TheVariants.{Less, Equal, Greater}
 use Rattle.std.specs.Cmp.Lexicographic.{slice_cmp}
 use Rattle.serde_json.specs.Data.{Data, null, boolean, number, string, array, object, Items, no_items, item, Members, no_members, member}
-use Rattle.olk_vocabulary.specs.Numbers.{exact}
+use Rattle.olk_numbers.specs.Numbers.{exact}
 
 abbrev pub kind_rank : Data → ℕ
 kind_rank null = 0

@@ -2,7 +2,7 @@
 use Rattle.std.specs.Prelude.{Bool, true, false, not, cond, ◌&&◌, bytes_eq}
 use Rattle.serde_json.specs.Data.{Num, Data, null, boolean, number, string, array, object, Items, no_items, item, Members, no_members, member}
 use Rattle.olk_spec.specs.Names.{Text}
-use Rattle.olk_vocabulary.specs.Numbers.{is_same_number}
+use Rattle.olk_numbers.specs.Numbers.{is_same_number}
 
 abbrev pub is_bool : Bool → Data → Bool
 is_bool b (boolean c) = cond b c (not c)

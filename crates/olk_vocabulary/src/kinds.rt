@@ -8,7 +8,7 @@ ghost use Rattle.olk_bench.specs.Leaves.{kind_name};
 ghost use Rattle.olk_vocabulary.specs.Keywords.{is_integer, is_of_kind, is_short, name_kinds};
 ghost use Rattle.olk_vocabulary.specs.Leaves.{kind_value};
 
-use crate::numbers::JsonNumber;
+use olk_numbers::JsonNumber;
 use olk_base::Node;
 use olk_bench::ValueKind;
 use serde_json::Value;

@@ -5,7 +5,7 @@ ghost use Rattle.serde_json.specs.Find.{as_number};
 ghost use Rattle.olk_base.specs.Nodes.{data_of};
 ghost use Rattle.olk_spec.specs.Names.{is_empty};
 ghost use Rattle.olk_vocabulary.specs.Keywords.{is_within};
-ghost use Rattle.olk_vocabulary.specs.Numbers.{num_of, exact, is_multiple_of};
+ghost use Rattle.olk_numbers.specs.Numbers.{num_of, exact, is_multiple_of};
 ghost use Rattle.olk_vocabulary.specs.Leaves.{leaf_keyword, leaf_name, leaf_finds, leaf_text};
 
 use crate::candidates::Candidates;
@@ -13,7 +13,7 @@ use crate::equality::is_value;
 use crate::keyword::{Bound, Keyword, Limit};
 use crate::kinds::{is_of_kind, is_of_some_kind};
 use crate::lengths::is_allowed;
-use crate::numbers::JsonNumber;
+use olk_numbers::JsonNumber;
 use crate::text_pattern::TextPattern;
 use crate::texts::{
     bound_text, candidates_text, constant_text, kind_text, kinds_text, limit_text, multiple_text,

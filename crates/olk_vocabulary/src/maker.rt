@@ -9,7 +9,7 @@ use crate::candidates::Candidates;
 use crate::keyword::{Bound, Keyword, Limit};
 use crate::kinds::{is_short, kind_of, kinds_of};
 use crate::leaf::VocabularyLeaf;
-use crate::numbers::JsonNumber;
+use olk_numbers::JsonNumber;
 use crate::text_pattern::TextPattern;
 use olk_base::{MakeError, MakeLeaf, Meter};
 use olk_bench::Divisor;

@@ -7,9 +7,9 @@ ghost use Rattle.std.specs.Cmp.{on_total, eq_by_cmp_equiv, partial_order_from_to
 ghost use Rattle.std.proofs.lemmas.Float.{nan_last};
 ghost use Rattle.std.proofs.Common.{rules};
 ghost use Rattle.serde_json.specs.View.{number_view};
-ghost use Rattle.olk_vocabulary.specs.Numbers.{num_of, exact};
+ghost use Rattle.olk_numbers.specs.Numbers.{num_of, exact};
 
-use crate::numbers::JsonNumber;
+use olk_numbers::JsonNumber;
 use serde_json::Number;
 use std::cmp::Ordering;
 

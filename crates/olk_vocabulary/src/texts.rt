@@ -7,12 +7,12 @@ ghost use Rattle.olk_base.specs.Nodes.{data_of};
 ghost use Rattle.olk_spec.specs.Bench.{shown};
 ghost use Rattle.olk_vocabulary.specs.Keywords.{bound_words, limit_words, one_thing, many_things, bound_text, limit_text, multiple_text, led, separated, candidates};
 ghost use Rattle.olk_vocabulary.specs.Leaves.{kind_value};
-ghost use Rattle.olk_vocabulary.specs.Numbers.{num_of};
+ghost use Rattle.olk_numbers.specs.Numbers.{num_of};
 ghost use Rattle.olk_vocabulary.specs.Patterns.{pattern_text};
 ghost use Rattle.olk_vocabulary.specs.Unique.{unique_text};
 
 use crate::keyword::{Bound, Limit};
-use crate::numbers::JsonNumber;
+use olk_numbers::JsonNumber;
 use olk_base::Node;
 use olk_bench::{Divisor, ValueKind, shown_text};
 use serde_json::Value;

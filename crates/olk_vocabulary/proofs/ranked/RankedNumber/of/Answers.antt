@@ -1,6 +1,6 @@
 use Rattle.std.proofs.Common.{sym, subst}
 use Rattle.std.specs.Float.{NotNan}
-use Rattle.olk_vocabulary.specs.Numbers.{exact}
+use Rattle.olk_numbers.specs.Numbers.{exact}
 use Rattle.olk_vocabulary.proofs.Kept.{number_known}
 use Rattle.olk_vocabulary.proofs.ranked.RankedNumber.of.Goals as goal
 

@@ -1,7 +1,7 @@
 use Rattle.std.proofs.Common.{Equal, refl, ap, sym, subst, ◌∙◌}
 use Rattle.std.specs.Option.{IsSome, unwrap_or}
 use Rattle.olk_vocabulary.specs.Candidates.{rank}
-use Rattle.olk_vocabulary.proofs.Comparisons.{ranked}
+use Rattle.olk_numbers.proofs.Comparisons.{ranked}
 use Rattle.olk_vocabulary.proofs.ranked.RankedNumberOrd.cmp.Goals as goal
 
 pub unwrap-requires : goal.unwrap-requires

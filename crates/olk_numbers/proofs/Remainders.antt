@@ -8,8 +8,8 @@ use Rattle.std.specs.Float.{Float, fin, binary64, two_to, float_with_sign, float
 use Rattle.std.specs.Float.Ieee.{of_int, up, down, eq, lt, round, fits, to_unsigned}
 use Rattle.std.specs.Float.Ieee.Exact.{HasValue, round_exact}
 use Rattle.std.specs.Float.Ieee.Fits.{and_l, and_r, down_pos}
-use Rattle.olk_vocabulary.specs.Numbers.{is_multiple_of, is_integral}
-use Rattle.olk_vocabulary.proofs.Comparisons.{same_eq, to_unsigned-whole}
+use Rattle.olk_numbers.specs.Numbers.{is_multiple_of, is_integral}
+use Rattle.olk_numbers.proofs.Comparisons.{same_eq, to_unsigned-whole}
 
 -- each whole number up to 2 ^ 53 is a double
 of_int-exact : (k : ℕ) → k ≤ 2 ^ 53 → HasValue (of_int binary64 (pos k)) false k 1

@@ -1,8 +1,8 @@
 use Rattle.std.proofs.Common.{◌≡◌, ap, ◌∙◌, rules}
 use Rattle.std.specs.Ordering.{is_some_and, is_eq}
-use Rattle.olk_vocabulary.specs.Numbers.{exact, num_of}
-use Rattle.olk_vocabulary.proofs.Comparisons.{is_eq-compared}
-use Rattle.olk_vocabulary.proofs.numbers.JsonNumber.equals.Goals as goal
+use Rattle.olk_numbers.specs.Numbers.{exact, num_of}
+use Rattle.olk_numbers.proofs.Comparisons.{is_eq-compared}
+use Rattle.olk_numbers.proofs.numbers.JsonNumber.equals.Goals as goal
 
 pub returns : goal.returns
 returns c =

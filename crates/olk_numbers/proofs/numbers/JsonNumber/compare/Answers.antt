@@ -1,8 +1,8 @@
 use Rattle.std.proofs.Common.{◌≡◌, pos, ap, ◌∙◌, arith, rules, to_z-of_z, SFits, w64}
 use Rattle.std.specs.Option.{option_map}
 use Rattle.std.specs.Ordering.{int_cmp, ordering_reverse}
-use Rattle.olk_vocabulary.proofs.Comparisons.{unsigned_order, signed_order, reverse-compared}
-use Rattle.olk_vocabulary.proofs.numbers.JsonNumber.compare.Goals as goal
+use Rattle.olk_numbers.proofs.Comparisons.{unsigned_order, signed_order, reverse-compared}
+use Rattle.olk_numbers.proofs.numbers.JsonNumber.compare.Goals as goal
 
 pub returns-in-Unsigned-Unsigned : goal.returns-in-Unsigned-Unsigned
 returns-in-Unsigned-Unsigned c = rw (c.in-Unsigned-Unsigned.is-0, c.in-Unsigned-Unsigned.is-1, c.cmp.ensures) (unsigned_order _ _)

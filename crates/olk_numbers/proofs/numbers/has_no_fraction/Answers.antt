@@ -1,8 +1,8 @@
 use Rattle.std.proofs.Common.{T, ap, ◌∙◌, rules}
 use Rattle.std.specs.Float.{binary64}
 use Rattle.std.specs.Float.Ieee.{fits, of_bits, eq}
-use Rattle.olk_vocabulary.proofs.Remainders.{integral_below, integral_past}
-use Rattle.olk_vocabulary.proofs.numbers.has_no_fraction.Goals as goal
+use Rattle.olk_numbers.proofs.Remainders.{integral_below, integral_past}
+use Rattle.olk_numbers.proofs.numbers.has_no_fraction.Goals as goal
 
 pub returns-then-size : goal.returns-then-size
 unfolding of_bits

@@ -1,10 +1,10 @@
 -- Numbers of JSON by their values: whole numbers of 64 bits as they are, and every other number as the double that was read.
-use Rattle.std.specs.Prelude.{ℕ, suc, ◌*◌, ◌%◌, ◌^◌, ◌==◌, ◌&&◌, ◌||◌, nat_lt, Bool, true, false, ℤ, pos, negsuc}
-use Rattle.std.specs.Float.{Float, nan, inf, fin}
-use Rattle.std.specs.Float.Ieee.{up, down, lt, eq}
+use Rattle.std.specs.Prelude.{ℕ, suc, ◌*◌, ◌/◌, ◌%◌, ◌^◌, ◌==◌, ◌&&◌, ◌||◌, nat_lt, Bool, true, false, ℤ, pos, negsuc, Option, Some, None, if◌then◌else◌}
+use Rattle.std.specs.Float.{Float, nan, inf, fin, two_to, float_zero}
+use Rattle.std.specs.Float.Ieee.{up, down, lt, le, eq}
 use Rattle.serde_json.specs.Data.{Num, unsigned, negative, float}
-use Rattle.olk_vocabulary.specs.declared.numbers.JsonNumber.{JsonNumber}
-use Rattle.olk_vocabulary.specs.declared.numbers.JsonNumber.TheVariants.{Unsigned, Negative, Float as Double}
+use Rattle.olk_numbers.specs.declared.numbers.JsonNumber.{JsonNumber}
+use Rattle.olk_numbers.specs.declared.numbers.JsonNumber.TheVariants.{Unsigned, Negative, Float as Double}
 
 abbrev pub num_of : JsonNumber → Num
 num_of (Unsigned n) = unsigned n
@@ -35,6 +35,25 @@ abbrev pub is_integral : Float → Bool
 is_integral nan = false
 is_integral (inf s) = false
 is_integral (fin s m e) = (m * up e) % down e == 0
+
+-- a whole number from 0 to 2 ^ 64 - 1
+abbrev pub is_natural : Float → Bool
+is_natural x = le float_zero x && (lt x (two_to 64) && is_integral x)
+
+-- the whole part of a double, without its sign
+abbrev pub whole_part : Float → ℕ
+whole_part nan = 0
+whole_part (inf s) = 0
+whole_part (fin s m e) = m * up e / down e
+
+abbrev pub natural_float : Float → Option ℕ
+natural_float x = if is_natural x then Some (whole_part x) else None
+
+-- the whole number from 0 to 2 ^ 64 - 1 that a number is, as 2.0 is 2
+abbrev pub natural_of : Num → Option ℕ
+natural_of (unsigned n) = Some n
+natural_of (negative z) = None
+natural_of (float x) = natural_float x
 
 -- the whole number d times a whole number, if it is less than 2 ^ 64 in size
 abbrev pub is_multiple_of : Float → ℕ → Bool

@@ -2,7 +2,7 @@
 ghost use Rattle.std.specs.Prelude.{◌≡◌, option_map, pos};
 ghost use Rattle.std.specs.Ordering.{float_partial_cmp, ordering_reverse};
 ghost use Rattle.serde_json.specs.View.{number_view};
-ghost use Rattle.olk_vocabulary.specs.Numbers.{num_of, of_whole, exact, is_below, is_same_number, is_at_most, is_integral, is_multiple_of};
+ghost use Rattle.olk_numbers.specs.Numbers.{num_of, of_whole, exact, is_below, is_same_number, is_at_most, is_integral, is_natural, natural_float, natural_of, is_multiple_of};
 
 use olk_bench::Divisor;
 use serde_json::Number;
@@ -72,6 +72,17 @@ impl JsonNumber {
         }
     }
 
+    /// The whole number from 0 to 2^64 - 1 that it is, as 2.0 is 2 (JSON Schema 2020-12 Core 4.2.3).
+    pub fn natural(self) -> Option<u64>
+        ensures { result ≡ natural_of (num_of self) }
+    {
+        match self {
+            JsonNumber::Unsigned(n) => Some(n),
+            JsonNumber::Negative(_) => None,
+            JsonNumber::Float(x) => natural(x),
+        }
+    }
+
     /// Whether it is the divisor times a whole number, and less than 2^64 in size (JSON Schema
     /// 2020-12 Validation 6.2.1). The digits of larger numbers are not known.
     pub fn is_multiple_of(self, divisor: Divisor) -> bool
@@ -115,6 +126,22 @@ fn has_no_fraction(x: f64) -> bool
     } else {
         size.is_finite()
     }
+}
+
+fn natural(x: f64) -> Option<u64>
+    ensures { result ≡ natural_float x }
+{
+    if is_natural(x) {
+        Some(saturating_f64_to_u64(x))
+    } else {
+        None
+    }
+}
+
+fn is_natural(x: f64) -> bool
+    ensures { result ≡ is_natural x }
+{
+    0.0 <= x && x < TWO_TO_64 && has_no_fraction(x)
 }
 
 fn is_multiple(x: f64, divisor: Divisor) -> bool

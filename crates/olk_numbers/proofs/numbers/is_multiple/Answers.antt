@@ -1,8 +1,8 @@
 use Rattle.std.proofs.Common.{sym, ◌∙◌}
 use Rattle.std.specs.Float.Ieee.{of_bits}
-use Rattle.olk_vocabulary.proofs.Remainders.{multiple_below, multiple_past, fraction_is_none}
-use Rattle.olk_vocabulary.proofs.numbers.is_multiple.Goals as goal
-use Rattle.olk_vocabulary.proofs.numbers.is_multiple.Goals.{else-size-via-then-size+else-has_no_fraction, else-size-via-else-size}
+use Rattle.olk_numbers.proofs.Remainders.{multiple_below, multiple_past, fraction_is_none}
+use Rattle.olk_numbers.proofs.numbers.is_multiple.Goals as goal
+use Rattle.olk_numbers.proofs.numbers.is_multiple.Goals.{else-size-via-then-size+else-has_no_fraction, else-size-via-else-size}
 
 pub returns-then-has_no_fraction : goal.returns-then-has_no_fraction
 unfolding of_bits

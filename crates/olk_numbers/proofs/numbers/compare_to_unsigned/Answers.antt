@@ -2,9 +2,9 @@ use Rattle.std.proofs.Common.{Some, sym, ap, ◌∙◌}
 use Rattle.std.proofs.lemmas.Float.{T_from_false}
 use Rattle.std.specs.Float.{NotNan}
 use Rattle.std.specs.Float.Ieee.{of_bits}
-use Rattle.olk_vocabulary.proofs.Comparisons.{less_of_lt, greater_of_lt, negative_below, past_whole, whole_part_order, fraction_above}
-use Rattle.olk_vocabulary.proofs.numbers.compare_to_unsigned.Goals as goal
-use Rattle.olk_vocabulary.proofs.numbers.compare_to_unsigned.Goals.{else-whole-n-via-then-whole-n+else-not-has_no_fraction, else-whole-n-via-else-whole-n}
+use Rattle.olk_numbers.proofs.Comparisons.{less_of_lt, greater_of_lt, negative_below, past_whole, whole_part_order, fraction_above}
+use Rattle.olk_numbers.proofs.numbers.compare_to_unsigned.Goals as goal
+use Rattle.olk_numbers.proofs.numbers.compare_to_unsigned.Goals.{else-whole-n-via-then-whole-n+else-not-has_no_fraction, else-whole-n-via-else-whole-n}
 
 pub returns-then-x : goal.returns-then-x
 unfolding of_bits

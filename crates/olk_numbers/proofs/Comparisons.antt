@@ -9,7 +9,7 @@ use Rattle.std.specs.Option.{option_map}
 use Rattle.std.specs.Ordering.{nat_cmp, int_cmp, float_partial_cmp, nan_last_cmp, ordering_reverse, is_eq, is_some_and}
 use Rattle.std.specs.Float.{NotNan, Float, nan, inf, fin, float_zero, two_to}
 use Rattle.std.specs.Float.Ieee.{up, down, lt, eq, neg, is_nan, to_unsigned}
-use Rattle.olk_vocabulary.specs.Numbers.{of_whole, is_integral}
+use Rattle.olk_numbers.specs.Numbers.{of_whole, is_integral}
 
 same_lt : (a b c d : ℕ) → (a < b → c < d) → (c < d → a < b) → nat_lt a b ≡ nat_lt c d
 same_lt a b c d f g = elim (cases_lt a b) [

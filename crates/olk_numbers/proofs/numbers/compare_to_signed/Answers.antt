@@ -1,8 +1,8 @@
 use Rattle.std.proofs.Common.{◌≡◌, pos, true, int_lt, unsigned_abs, ap, ◌∙◌, arith, to_z-of_z}
 use Rattle.std.specs.Option.{option_map}
 use Rattle.std.specs.Ordering.{ordering_reverse}
-use Rattle.olk_vocabulary.proofs.Comparisons.{below_zero_order}
-use Rattle.olk_vocabulary.proofs.numbers.compare_to_signed.Goals as goal
+use Rattle.olk_numbers.proofs.Comparisons.{below_zero_order}
+use Rattle.olk_numbers.proofs.numbers.compare_to_signed.Goals as goal
 
 pub returns-then-n-lt0 : goal.returns-then-n-lt0
 returns-then-n-lt0 c =
