@@ -54,7 +54,7 @@ is_eq-compared x y = go (lt x y) (eq x y) (lt y x) (floats.eq-not_lt x y)
     go false false false f = refl
     go _ _ _ f = refl
 
-true_from_T : (b : Bool) → T b → b ≡ true
+pub true_from_T : (b : Bool) → T b → b ≡ true
 true_from_T true t = refl
 true_from_T false t = absurd t
 

@@ -2,14 +2,15 @@
 use Rattle.std.proofs.Common.{pow_pos, lit<, ◌≡◌, ℕ, zero, suc, ◌*◌, ◌/◌, ◌%◌, ◌^◌, ◌+◌, ◌<◌, ◌≤◌, refl, sym, ap, subst, ◌∙◌, arith, true≢false, nat_lt, nat_eq, negsuc, Bool, true, false, ◌&&◌, ℤ, pos, T, inl, inr}
 use Rattle.std.proofs.Math.Bool.{and-false, and-true}
 use Rattle.std.proofs.Math.Dec.{ltb→lt}
+use Rattle.std.proofs.lemmas.Float.{T_from_true}
 use Rattle.std.proofs.lemmas.Bool.{ltb-true, ltb-false, lt-ltb, le-ltb, eq-eqb, eqb-true, eqb-false, ne_eqb}
-use Rattle.std.proofs.Math.Nat.{eq-or-lt_of_le, eq_of_mul-eq-mul_right, div-lt_iff_lt-mul, mul-div-mul_right, mul_right_comm, mul-mod_left, mul_assoc, zero-mul, mod-one, zero-mod, div-add-mod'}
-use Rattle.std.specs.Float.{Float, fin, binary64, two_to, float_with_sign, float_is_finite}
-use Rattle.std.specs.Float.Ieee.{of_int, up, down, eq, lt, round, fits, to_unsigned}
+use Rattle.std.proofs.Math.Nat.{eq-or-lt_of_le, eq_of_mul-eq-mul_right, div-lt_iff_lt-mul, mul-div-mul_right, mul_right_comm, mul-mod_left, mul_assoc, zero-mul, mod-one, zero-div, zero-mod, div-add-mod'}
+use Rattle.std.specs.Float.{Float, nan, inf, fin, binary64, two_to, float_zero, float_with_sign, float_is_finite}
+use Rattle.std.specs.Float.Ieee.{of_int, up, down, eq, le, lt, round, fits, to_unsigned}
 use Rattle.std.specs.Float.Ieee.Exact.{HasValue, round_exact}
 use Rattle.std.specs.Float.Ieee.Fits.{and_l, and_r, down_pos}
-use Rattle.olk_numbers.specs.Numbers.{is_multiple_of, is_integral}
-use Rattle.olk_numbers.proofs.Comparisons.{same_eq, to_unsigned-whole}
+use Rattle.olk_numbers.specs.Numbers.{is_multiple_of, is_integral, is_natural, whole_part}
+use Rattle.olk_numbers.proofs.Comparisons.{same_eq, to_unsigned-whole, true_from_T}
 
 -- each whole number up to 2 ^ 53 is a double
 of_int-exact : (k : ℕ) → k ≤ 2 ^ 53 → HasValue (of_int binary64 (pos k)) false k 1
@@ -66,6 +67,19 @@ pub integral_past : (x y : Float) → y ≡ float_with_sign false x → T (fits 
 unfolding lt float_with_sign float_is_finite
 integral_past (fin t m e) y s f h = ap float_is_finite s ∙ sym (integral_large t m e f (sym (ap (λ z. lt z (two_to 53)) s) ∙ h))
 integral_past _ y s f h = ap float_is_finite s
+
+-- what a double is cut to, where it is a whole number that is not below 0
+pub whole_part_read : (x : Float) (w : ℕ) → is_natural x ≡ true → w ≡ to_unsigned 64 x → w ≡ whole_part x
+unfolding lt le to_unsigned
+whole_part_read (fin false m e) w h c =
+    let in_range = and_l (lt (fin false m e) (two_to 64)) (is_integral (fin false m e)) (and_r (le float_zero (fin false m e)) _ (T_from_true _ h)) in
+    to_unsigned-whole m e w (true_from_T _ in_range) c
+whole_part_read (fin true m e) w h c =
+    let level = and_l (nat_eq (0 * down e) (m * up e * 1)) _ (and_l (le float_zero (fin true m e)) _ (T_from_true _ h)) in
+    let none : m * up e ≡ 0 = omega (arith, eqb-true _ _ (true_from_T _ level)) in
+    c ∙ sym (ap (λ k. k / down e) none ∙ zero-div (down e))
+whole_part_read (inf true) w h c = absurd (true≢false (sym h))
+whole_part_read _ w h c = absurd (true≢false (sym h))
 
 -- ---- multiples
 
