@@ -5,4 +5,4 @@
 
 mod numbers;
 
-pub use numbers::JsonNumber;
+pub use numbers::{JsonNumber, natural};

@@ -1,11 +1,11 @@
 //! Numbers of JSON by their values.
 ghost use Rattle.std.specs.Prelude.{◌≡◌, option_map, pos};
 ghost use Rattle.std.specs.Ordering.{float_partial_cmp, ordering_reverse};
-ghost use Rattle.serde_json.specs.View.{number_view};
-ghost use Rattle.olk_numbers.specs.Numbers.{num_of, of_whole, exact, is_below, is_same_number, is_at_most, is_integral, is_natural, natural_float, natural_of, is_multiple_of};
+ghost use Rattle.serde_json.specs.View.{number_view, view};
+ghost use Rattle.olk_numbers.specs.Numbers.{num_of, of_whole, exact, is_below, is_same_number, is_at_most, is_integral, is_natural, natural_float, natural_of, natural, is_multiple_of};
 
 use olk_bench::Divisor;
-use serde_json::Number;
+use serde_json::{Number, Value};
 use std::cmp::Ordering;
 use std::num::{nearest_u64_to_f64, saturating_f64_to_u64};
 
@@ -79,7 +79,7 @@ impl JsonNumber {
         match self {
             JsonNumber::Unsigned(n) => Some(n),
             JsonNumber::Negative(_) => None,
-            JsonNumber::Float(x) => natural(x),
+            JsonNumber::Float(x) => natural_float(x),
         }
     }
 
@@ -116,6 +116,16 @@ impl JsonNumber {
     }
 }
 
+/// The whole number from 0 to 2^64 - 1 that a value is, as 2.0 is 2.
+pub fn natural(value: &Value) -> Option<u64>
+    ensures { result ≡ natural (view value.now) }
+{
+    match value {
+        Value::Number(number) => JsonNumber::of(number).natural(),
+        _ => None,
+    }
+}
+
 /// Whether a double has no fraction, as none has from 2^53 on.
 fn has_no_fraction(x: f64) -> bool
     ensures { result ≡ is_integral x }
@@ -128,7 +138,7 @@ fn has_no_fraction(x: f64) -> bool
     }
 }
 
-fn natural(x: f64) -> Option<u64>
+fn natural_float(x: f64) -> Option<u64>
     ensures { result ≡ natural_float x }
 {
     if is_natural(x) {

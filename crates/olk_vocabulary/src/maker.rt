@@ -9,7 +9,7 @@ use crate::candidates::Candidates;
 use crate::keyword::{Bound, Keyword, Limit};
 use crate::kinds::{is_short, kind_of, kinds_of};
 use crate::leaf::VocabularyLeaf;
-use olk_numbers::JsonNumber;
+use olk_numbers::{JsonNumber, natural};
 use crate::text_pattern::TextPattern;
 use olk_base::{MakeError, MakeLeaf, Meter};
 use olk_bench::Divisor;
@@ -142,7 +142,7 @@ fn bound_leaf(bound: Bound, value: &Value) -> Option<VocabularyLeaf>
 fn limit_leaf(limit: Limit, value: &Value) -> Option<VocabularyLeaf>
     ensures { IsMade (Keyword.Limit limit) (view value.now) result }
 {
-    let number = value.as_u64()?;
+    let number = natural(value)?;
     Some(VocabularyLeaf::Limit(limit, number))
 }
 
