@@ -95,7 +95,9 @@ impl JsonNumber {
         }
     }
 
-    pub(crate) fn compare(self, other: JsonNumber) -> Option<Ordering>
+    /// How both compare as numbers (JSON Schema 2020-12 Validation 6.2). None where one is a NaN,
+    /// which no number of JSON is.
+    pub fn compare(self, other: JsonNumber) -> Option<Ordering>
         ensures { result ≡ float_partial_cmp (exact (num_of self)) (exact (num_of other)) }
     {
         match (self, other) {
