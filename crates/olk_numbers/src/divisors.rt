@@ -7,7 +7,7 @@ ghost use Rattle.olk_numbers.specs.Numbers.{num_of, is_integral, whole_part};
 ghost use Rattle.olk_numbers.specs.Multiples.{whole_divisor, double_divisor, divisor_of, whole_is_multiple, decimal_is_multiple, fraction_is_multiple, double_is_multiple};
 
 use crate::decimals::{Decimal, scaled};
-use crate::numbers::{JsonNumber, TWO_TO_64, has_no_fraction, natural};
+use crate::numbers::{JsonNumber, TWO_TO_64, has_no_fraction};
 use serde_json::Number;
 use std::num::saturating_f64_to_u64;
 
@@ -108,7 +108,7 @@ fn double_divisor(x: f64) -> Option<Decimal>
     ensures { result ≡ double_divisor x }
 {
     if has_no_fraction(x) {
-        natural(x).and_then(whole_divisor)
+        JsonNumber::Float(x).natural().and_then(whole_divisor)
     } else if 0.0 < x {
         Decimal::of(x)
     } else {

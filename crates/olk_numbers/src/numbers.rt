@@ -131,7 +131,7 @@ pub(crate) fn has_no_fraction(x: f64) -> bool
     }
 }
 
-pub(crate) fn natural(x: f64) -> Option<u64>
+fn natural(x: f64) -> Option<u64>
     ensures { result ≡ natural_float x }
 {
     if is_natural(x) {
