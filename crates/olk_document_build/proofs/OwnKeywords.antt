@@ -21,7 +21,7 @@ use Rattle.olk_meaning.proofs.Facts.{branch_entries}
 use Rattle.olk_tree.specs.Answers.{Answers, answered}
 use Rattle.olk_tree.specs.OwnFaults.{unless}
 use Rattle.olk_tree.specs.Steps.{StandsBy, StepsOf}
-use Rattle.olk_document_spec.specs.Applied.{items_from, natural, bounds_at, is_enough, is_within, contains_text}
+use Rattle.olk_document_spec.specs.Applied.{items_from, naturals, bounds_at, is_enough, is_within, contains_text}
 use Rattle.olk_documents.specs.Arrays.{prefix_items_answers, items_answers}
 use Rattle.olk_documents.specs.Contains.{in_bounds, contains_means, contains_answers}
 use Rattle.olk_documents.specs.declared.contains.Bounds.{Bounds}
@@ -87,9 +87,9 @@ module _ {K R N : Type 0} (o : Kit K R) (F : Referred) (answers : N → Answers)
   -- ---- `contains`
 
   bounds_read : {X : Type 0} (step : Schema X → X) (k : Name) → bounds_at (read_members step ms) k ≡ bound_of ms k
-  bounds_read step k = ap (flat_map (λ s. natural s.schema)) (wholes_at_read step ms k) ∙ by (get_member k ms) ∙ ap (λ a. flat_map natural (option_to_list a)) (sym (lookup_listed k ms))
+  bounds_read step k = ap (flat_map (λ s. naturals s.schema)) (wholes_at_read step ms k) ∙ by (get_member k ms) ∙ ap (λ a. flat_map naturals (option_to_list a)) (sym (lookup_listed k ms))
     where
-      by : (a : Option Data) → flat_map (λ s. natural s.schema) (map (place step) (option_to_list a)) ≡ flat_map natural (option_to_list a)
+      by : (a : Option Data) → flat_map (λ s. naturals s.schema) (map (place step) (option_to_list a)) ≡ flat_map naturals (option_to_list a)
       by None = refl
       by (Some e) = refl
 

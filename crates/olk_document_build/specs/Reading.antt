@@ -5,7 +5,7 @@ use Rattle.serde_json.specs.Data.{Members}
 use Rattle.olk_spec.specs.Names.{Name, lookup_name}
 use Rattle.olk_spec.specs.Malformed.{items_of_array}
 use Rattle.olk_spec.specs.Schemas.{listed}
-use Rattle.olk_document_spec.specs.Applied.{natural}
+use Rattle.olk_document_spec.specs.Applied.{naturals}
 
 -- the first of these, or 1
 abbrev pub first_or_one : List ℕ → ℕ
@@ -19,7 +19,7 @@ module _ (ms : Members) where
 
   -- the whole number at the name, none or one
   abbrev pub bound_of : Name → List ℕ
-  bound_of k = flat_map natural (option_to_list (lookup_name k (listed ms)))
+  bound_of k = flat_map naturals (option_to_list (lookup_name k (listed ms)))
 
   -- how many items are wanted at least
   abbrev pub least_of : ℕ

@@ -4,11 +4,12 @@ ghost use Rattle.serde_json.specs.View.{view, members_view};
 ghost use Rattle.olk_base.specs.Kit.{kit};
 ghost use Rattle.olk_document_build.specs.Building.{IsOwn, RefusesOwnValue};
 
-use crate::reading::{least, most, natural, skipped};
+use crate::reading::{least, most, skipped};
 use crate::targets::Targets;
 use olk_base::{JsonType, Leaf, RegexEngine};
 use olk_build::refusal::{Stop, refuse, refuse_type};
 use olk_documents::{Bounds, DocumentNode};
+use olk_numbers::natural;
 use olk_reports::{Location, ValidationErrorKind};
 use serde_json::{Map, Value};
 use std::alloc::Global;

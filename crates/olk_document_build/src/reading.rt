@@ -4,20 +4,10 @@ ghost use Rattle.std.specs.Prelude.{◌≡◌, option_to_list, codes, length};
 ghost use Rattle.olk_spec.specs.Malformed.{items_of_array};
 ghost use Rattle.serde_json.specs.View.{view, members_view};
 ghost use Rattle.olk_build.specs.Building.{is_read};
-ghost use Rattle.olk_document_spec.specs.Applied.{natural};
 ghost use Rattle.olk_document_build.specs.Reading.{skipped, bound_of, least_of};
 
+use olk_numbers::natural;
 use serde_json::{Map, Value};
-
-/// The whole number of 64 bits from 0 that a value is.
-pub fn natural(value: &Value) -> Option<u64>
-    ensures { option_to_list result ≡ natural (view value.now) }
-{
-    match value {
-        Value::Number(number) => number.as_u64(),
-        _ => None,
-    }
-}
 
 /// The whole number at a name.
 fn bound(members: &Map<String, Value>, name: &str) -> Option<u64>

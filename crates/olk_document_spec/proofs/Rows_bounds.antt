@@ -36,5 +36,7 @@ rows_bounds = record {
   three_and_one_at_most_fails_2 = λ u. (refl, refl, refl);
   least_alone_says_nothing = λ u. (refl, refl, refl);
   most_alone_says_nothing = λ u. (refl, refl, refl);
+  two_point_nought_is_two_holds = λ u. (refl, refl, refl);
+  two_point_nought_is_two_fails = λ u. (refl, refl, refl);
   bounds_ask_nothing_of_an_object = λ u. (refl, refl, refl);
 }

@@ -1,7 +1,8 @@
 -- What the keywords of a document ask, want and tell, one row for each.
-use Rattle.std.specs.Prelude.{ℕ, ◌+◌, Bool, true, not, ◌&&◌, List, [], ◌∷◌, ◌++◌, map, codes, length, drop, count_by, sum_by, nat_lt}
+use Rattle.std.specs.Prelude.{ℕ, ◌+◌, Bool, true, not, ◌&&◌, List, [], ◌∷◌, ◌++◌, map, codes, length, drop, count_by, sum_by, nat_lt, option_to_list}
 use Rattle.std.specs.List.{flat_map, list_all, list_any, zip}
-use Rattle.serde_json.specs.Data.{unsigned, Data, number}
+use Rattle.serde_json.specs.Data.{Data}
+use Rattle.olk_numbers.specs.Numbers.{natural}
 use Rattle.olk_spec.specs.Names.{Text, Name, Path, ◌//◌, down}
 use Rattle.olk_spec.specs.Bench.{shown}
 use Rattle.olk_spec.specs.Faults.{Fault, Leaf}
@@ -16,10 +17,9 @@ use Rattle.olk_document_spec.specs.Keywords.{Document_keyword, prefix_items, ite
 abbrev pub items_from : ℕ → Data → List (Name × Data)
 items_from n v = drop n (numbered (items_of_array v))
 
--- a whole number of 64 bits that is not negative: none or one
-abbrev pub natural : Data → List ℕ
-natural (number (unsigned n)) = n ∷ []
-natural d = []
+-- the whole number from 0 that a value is: none or one
+abbrev pub naturals : Data → List ℕ
+naturals d = option_to_list (natural d)
 
 -- what is told where `contains` accepts too few items, or too many
 abbrev pub contains_text : Data → Text
@@ -33,7 +33,7 @@ module _ {X : Type 0} (S : Keywords X) where
   prefix_length = length (flat_map (λ p. p.items) (parts_at S (codes "prefixItems")))
 
   abbrev pub bounds_at : Name → List ℕ
-  bounds_at k = flat_map (λ s. natural s.schema) (wholes_at S k)
+  bounds_at k = flat_map (λ s. naturals s.schema) (wholes_at S k)
 
   -- `minContains`, which is 1 where it is absent, and `maxContains` are met
   abbrev pub is_enough : ℕ → List ℕ → Bool

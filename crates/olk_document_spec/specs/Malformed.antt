@@ -1,15 +1,15 @@
 -- What a document reads, and what makes it malformed.
-use Rattle.std.specs.Prelude.{ℕ, zero, suc, cond, not, List, [], ◌∷◌, ◌++◌, drop, Option, Some, None, option_map}
+use Rattle.std.specs.Prelude.{ℕ, zero, suc, cond, List, [], ◌∷◌, ◌++◌, drop, Option, Some, None, is_some, option_map}
 use Rattle.std.specs.List.{flat_map}
 use Rattle.serde_json.specs.Data.{Data}
-use Rattle.olk_spec.specs.Names.{Text, Name, Path, ◌//◌, down, is_empty}
+use Rattle.olk_spec.specs.Names.{Text, Name, Path, ◌//◌, down}
 use Rattle.olk_spec.specs.World.{World}
 use Rattle.olk_spec.specs.Vocabulary.{keyword_named}
 use Rattle.olk_spec.specs.Faults.{Fault, SingleType, MultipleTypes, Unsupported, LeafRefused, string_type}
 use Rattle.olk_spec.specs.Schemas.{Sub, Part, Schema, truth, keywords, no_schema, Keywords, answer_for, branches, as_text}
 use Rattle.olk_spec.specs.Malformed.{itself, each, read_places, refusal, is_text, unless_kind, unless_array, keyword_malformations}
 use Rattle.olk_document_spec.specs.Keywords.{Document_keyword, prefix_items, items, contains, reference, bound, document_keyword, is_other, beneath}
-use Rattle.olk_document_spec.specs.Applied.{natural}
+use Rattle.olk_numbers.specs.Numbers.{natural}
 use Rattle.olk_document_spec.specs.Documents.{place_named, reference_limit}
 
 -- the places that a keyword reads, each with its path below the schema object
@@ -46,7 +46,7 @@ module _ (M : Text → Option (List Fault)) where
   -- what is wrong with a keyword itself; d is its value and P its path
   abbrev pub document_refusals : Name → Data → Path → Document_keyword → List Fault
   document_refusals k d P prefix_items = unless_array d P
-  document_refusals k d P bound = unless_kind (not (is_empty (natural d))) (LeafRefused k) d P
+  document_refusals k d P bound = unless_kind (is_some (natural d)) (LeafRefused k) d P
   document_refusals k d P reference = unless_kind (is_text d) (SingleType string_type) d P ++ flat_map (λ t. reference_refusals k d P (M t)) (as_text d)
   document_refusals k d P w = []
 

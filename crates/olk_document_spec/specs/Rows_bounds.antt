@@ -54,6 +54,8 @@ pub record Rows_bounds : Type 0 where
   pub three_and_one_at_most_fails_0 : Fails three_and_one_at_most "[]" ("None of [] are valid under the given schema @ \"\", /contains" ∷ [])
   pub three_and_one_at_most_fails_1 : Fails three_and_one_at_most "[1]" ("None of [1] are valid under the given schema @ \"\", /contains" ∷ [])
   pub three_and_one_at_most_fails_2 : Fails three_and_one_at_most "[1,1,1]" ("None of [1,1,1] are valid under the given schema @ \"\", /contains" ∷ [])
+  pub two_point_nought_is_two_holds : Holds "{\"contains\":{\"const\":1},\"minContains\":2.0}" "[1,1]"
+  pub two_point_nought_is_two_fails : Fails "{\"contains\":{\"const\":1},\"minContains\":2.0}" "[1]" ("None of [1] are valid under the given schema @ \"\", /contains" ∷ [])
   pub least_alone_says_nothing : Holds "{\"minContains\":1}" "[]"
   pub most_alone_says_nothing : Holds "{\"maxContains\":1}" "[1,2]"
   pub bounds_ask_nothing_of_an_object : Holds "{\"contains\":{\"const\":1},\"minContains\":2}" "{\"a\":1}"

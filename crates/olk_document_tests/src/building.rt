@@ -87,7 +87,10 @@ const ROWS: &str = r##"{"prefixItems":[{"type":"integer"},{"type":"string"}]} | 
 {"contains":{"const":1},"maxContains":1} | [1,1] | false
 {"maxContains":1} | [1,2] | true
 {"if":{"items":{"type":"string"}},"then":{"contains":{"const":"a"}},"else":{"minContains":1}} | ["b"] | false
+{"contains":{"const":1},"minContains":2.0} | [1,2] | false
+{"contains":{"const":1},"maxContains":1.0} | [1,2] | true
 {"minContains":-1} | 1 | refused
+{"minContains":1.5} | 1 | refused
 {"prefixItems":{}} | 1 | refused
 {"items":[true]} | 1 | refused
 {"contains":5} | 1 | refused

@@ -2,7 +2,7 @@
 use Rattle.std.specs.Prelude.{ℕ, suc, ◌*◌, ◌/◌, ◌%◌, ◌==◌, ◌&&◌, ◌||◌, Bool, true, false, ℤ, pos, negsuc, Option, Some, None, if◌then◌else◌}
 use Rattle.std.specs.Float.{Float, nan, inf, fin, two_to, float_zero}
 use Rattle.std.specs.Float.Ieee.{up, down, lt, le, eq}
-use Rattle.serde_json.specs.Data.{Num, unsigned, negative, float}
+use Rattle.serde_json.specs.Data.{Num, unsigned, negative, float, Data, number}
 use Rattle.olk_numbers.specs.declared.numbers.JsonNumber.{JsonNumber}
 use Rattle.olk_numbers.specs.declared.numbers.JsonNumber.TheVariants.{Unsigned, Negative, Float as Double}
 
@@ -54,3 +54,8 @@ abbrev pub natural_of : Num → Option ℕ
 natural_of (unsigned n) = Some n
 natural_of (negative z) = None
 natural_of (float x) = natural_float x
+
+-- the whole number from 0 to 2 ^ 64 - 1 that a value is
+abbrev pub natural : Data → Option ℕ
+natural (number n) = natural_of n
+natural x = None

@@ -8,4 +8,4 @@ mod divisors;
 mod numbers;
 
 pub use divisors::Divisor;
-pub use numbers::JsonNumber;
+pub use numbers::{JsonNumber, natural};

@@ -1,12 +1,12 @@
 //! Numbers of JSON by their values.
 ghost use Rattle.std.specs.Prelude.{◌≡◌, option_map, pos};
 ghost use Rattle.std.specs.Ordering.{float_partial_cmp, ordering_reverse};
-ghost use Rattle.serde_json.specs.View.{number_view};
-ghost use Rattle.olk_numbers.specs.Numbers.{num_of, of_whole, exact, is_below, is_same_number, is_at_most, is_integral, is_natural, natural_float, natural_of};
+ghost use Rattle.serde_json.specs.View.{number_view, view};
+ghost use Rattle.olk_numbers.specs.Numbers.{num_of, of_whole, exact, is_below, is_same_number, is_at_most, is_integral, is_natural, natural_float, natural_of, natural};
 ghost use Rattle.olk_numbers.specs.Multiples.{is_multiple_of};
 
 use crate::divisors::Divisor;
-use serde_json::Number;
+use serde_json::{Number, Value};
 use std::cmp::Ordering;
 use std::num::{nearest_u64_to_f64, saturating_f64_to_u64};
 
@@ -80,7 +80,7 @@ impl JsonNumber {
         match self {
             JsonNumber::Unsigned(n) => Some(n),
             JsonNumber::Negative(_) => None,
-            JsonNumber::Float(x) => natural(x),
+            JsonNumber::Float(x) => natural_float(x),
         }
     }
 
@@ -98,7 +98,9 @@ impl JsonNumber {
         }
     }
 
-    pub(crate) fn compare(self, other: JsonNumber) -> Option<Ordering>
+    /// How both compare as numbers (JSON Schema 2020-12 Validation 6.2). None where one is a NaN,
+    /// which no number of JSON is.
+    pub fn compare(self, other: JsonNumber) -> Option<Ordering>
         ensures { result ≡ float_partial_cmp (exact (num_of self)) (exact (num_of other)) }
     {
         match (self, other) {
@@ -119,6 +121,16 @@ impl JsonNumber {
     }
 }
 
+/// The whole number from 0 to 2^64 - 1 that a value is, as 2.0 is 2.
+pub fn natural(value: &Value) -> Option<u64>
+    ensures { result ≡ natural (view value.now) }
+{
+    match value {
+        Value::Number(number) => JsonNumber::of(number).natural(),
+        _ => None,
+    }
+}
+
 /// Whether a double has no fraction, as none has from 2^53 on.
 pub(crate) fn has_no_fraction(x: f64) -> bool
     ensures { result ≡ is_integral x }
@@ -131,7 +143,7 @@ pub(crate) fn has_no_fraction(x: f64) -> bool
     }
 }
 
-fn natural(x: f64) -> Option<u64>
+fn natural_float(x: f64) -> Option<u64>
     ensures { result ≡ natural_float x }
 {
     if is_natural(x) {

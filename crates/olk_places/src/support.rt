@@ -45,10 +45,13 @@ impl Display for Unsupported<'_> {
             }
             Unsupported::Pattern(refusal) => write!(f, "malformed pattern: {refusal}"),
             Unsupported::NoPlace => write!(f, "\"$ref\" names no place of the schema"),
-            Unsupported::TooFar(limit) => write!(
-                f,
-                "\"$ref\" leads back to itself, or on more than {limit} times"
-            ),
+            Unsupported::TooFar(limit) => {
+                f.write_str("recursive references are not supported ")?;
+                write!(
+                    f,
+                    "(\"$ref\" leads back to itself, or on more than {limit} times)"
+                )
+            }
             Unsupported::BelowId => write!(f, "\"$ref\" below \"$id\" is not supported"),
         }
     }

@@ -9,6 +9,7 @@ use Rattle.olk_spec.specs.Names.{Text, Name}
 use Rattle.olk_spec.specs.Malformed.{items_list}
 use Rattle.olk_spec.specs.Schemas.{listed}
 use Rattle.olk_spec.specs.Bench.{names_kind, is_natural_from, shown, unless}
+use Rattle.olk_numbers.specs.Numbers.{natural}
 use Rattle.olk_spec.specs.Bench as bench
 use Rattle.olk_numbers.specs.Multiples.{divisor_of, is_multiple_of}
 use Rattle.olk_numbers.specs.Numbers.{exact, is_below, is_at_most, is_integral}
@@ -86,7 +87,7 @@ takes keyword.Enum x = is_some (as_array x)
 takes keyword.Const x = true
 takes keyword.MultipleOf x = option_map_or (λ n. is_some (divisor_of n)) (as_number x) false
 takes (keyword.Bound b) x = is_some (as_number x)
-takes (keyword.Limit l) x = is_natural_from 0 x
+takes (keyword.Limit l) x = is_some (natural x)
 takes keyword.Pattern x = takes_pattern x
 takes keyword.UniqueItems x = is_some (as_bool x)
 
@@ -225,8 +226,7 @@ abbrev pub limit_text : Limit → ℕ → Data → Text
 limit_text l m v = shown v ++ limit_words l ++ decimal m ++ cond (m == 1) (one_thing l) (many_things l)
 
 abbrev pub limit_faults : Limit → Data → Data → List Text
-limit_faults l (number (unsigned m)) v = unless (option_map_or (λ n. is_allowed l m n) (length_for l v) true) (limit_text l m v)
-limit_faults l x v = []
+limit_faults l x v = option_map_or (λ m. unless (option_map_or (λ n. is_allowed l m n) (length_for l v) true) (limit_text l m v)) (natural x) []
 
 -- ---- what a keyword finds
 

@@ -1,5 +1,6 @@
 -- The leaves of the vocabulary as keywords with their values, and their texts.
 use Rattle.std.specs.Prelude.{◌≡◌, ◌++◌, true, false, List, Option, MatchOption, codes, map, string_bytes}
+use Rattle.std.specs.Option.{option_map_or}
 use Rattle.serde_json.specs.Data.{unsigned, Data, boolean, number, string, array}
 use Rattle.serde_json.specs.View.{view, items_view}
 use Rattle.serde_json.specs.Written.{compact_text}
@@ -8,7 +9,7 @@ use Rattle.olk_spec.specs.Json.{arr}
 use Rattle.olk_spec.specs.Bench.{shown}
 use Rattle.olk_bench.specs.Leaves.{kind_name}
 use Rattle.olk_bench.specs.declared.leaf.ValueKind.{ValueKind}
-use Rattle.olk_numbers.specs.Numbers.{num_of}
+use Rattle.olk_numbers.specs.Numbers.{num_of, natural}
 use Rattle.olk_vocabulary.specs.Patterns.{pattern_text}
 use Rattle.olk_vocabulary.specs.Unique.{unique_text}
 use Rattle.olk_vocabulary.specs.Keywords.{keyword_name, takes, finds, kinds_text, candidates, multiple_text, bound_text, limit_text}
@@ -65,6 +66,11 @@ leaf_text (leaf.UniqueItems b) v = unique_text v
 
 -- ---- what is made of a keyword and a value
 
+-- a value as a leaf keeps it: a limit as a whole number
+abbrev pub kept_value : Keyword → Data → Data
+kept_value (keyword.Limit l) x = option_map_or (λ m. number (unsigned m)) (natural x) x
+kept_value w x = x
+
 -- none where the value does not fit the keyword, else the leaf of both
 abbrev pub IsMade : Keyword → Data → Option VocabularyLeaf → Type 0
-IsMade w x o = MatchOption o (takes w x ≡ false) (λ l. (takes w x ≡ true) × (leaf_keyword l ≡ w) × (leaf_value l ≡ x))
+IsMade w x o = MatchOption o (takes w x ≡ false) (λ l. (takes w x ≡ true) × (leaf_keyword l ≡ w) × (leaf_value l ≡ kept_value w x))

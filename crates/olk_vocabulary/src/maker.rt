@@ -11,7 +11,7 @@ use crate::kinds::{is_short, kind_of, kinds_of};
 use crate::leaf::VocabularyLeaf;
 use crate::text_pattern::TextPattern;
 use olk_base::{MakeError, MakeLeaf, Meter};
-use olk_numbers::{Divisor, JsonNumber};
+use olk_numbers::{Divisor, JsonNumber, natural};
 use serde_json::Value;
 use std::alloc::{AllocError, Global};
 
@@ -145,7 +145,7 @@ fn bound_leaf(bound: Bound, value: &Value) -> Option<VocabularyLeaf>
 fn limit_leaf(limit: Limit, value: &Value) -> Option<VocabularyLeaf>
     ensures { IsMade (Keyword.Limit limit) (view value.now) result }
 {
-    let number = value.as_u64()?;
+    let number = natural(value)?;
     Some(VocabularyLeaf::Limit(limit, number))
 }
 

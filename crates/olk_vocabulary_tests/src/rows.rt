@@ -154,7 +154,12 @@ multipleOf | "2" | 1 | refused
 minLength | 2 | "é" | "é" is shorter than 2 characters
 minLength | 1 | "" | "" is shorter than 1 character
 minLength | 0 | "" | -
-minLength | 2.0 | "a" | refused
+minLength | 2.0 | "a" | "a" is shorter than 2 characters
+maxLength | 2.0 | "ab" | -
+minLength | 2.5 | "a" | refused
+maxLength | -0.0 | "a" | "a" is longer than 0 characters
+maxLength | -1.0 | "" | refused
+maxLength | 18446744073709551616 | "" | refused
 maxLength | 1 | "é" | -
 maxLength | 1 | ["a","b"] | -
 maxLength | 1 | "ab" | "ab" is longer than 1 character

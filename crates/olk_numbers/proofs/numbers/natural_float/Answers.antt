@@ -1,7 +1,7 @@
 use Rattle.std.proofs.Common.{Some, None, sym, ap, ◌∙◌, if◌then◌else◌}
 use Rattle.olk_numbers.specs.Numbers.{whole_part}
 use Rattle.olk_numbers.proofs.Remainders.{whole_part_read}
-use Rattle.olk_numbers.proofs.numbers.natural.Goals as goal
+use Rattle.olk_numbers.proofs.numbers.natural_float.Goals as goal
 
 pub returns-then-is_natural : goal.returns-then-is_natural
 returns-then-is_natural c =
