@@ -2,7 +2,7 @@
 use Rattle.std.specs.Prelude.{ℕ, Bool, true, false, ◌&&◌, ◌==◌, cond, if◌then◌else◌, nat_le, List, [], ◌∷◌, ◌++◌, length, map, Option, Some, None, is_some, option_map, codes, bytes_eq, decimal, chars}
 use Rattle.std.specs.List.{list_any, list_all}
 use Rattle.std.specs.Option.{option_map_or}
-use Rattle.serde_json.specs.Data.{Num, Data, Items, number, string, array, unsigned}
+use Rattle.serde_json.specs.Data.{Num, Data, Items, number, string, array}
 use Rattle.serde_json.specs.Find.{as_bool, as_number, as_str, as_array, as_object}
 use Rattle.serde_json.specs.Written.{compact_text}
 use Rattle.olk_spec.specs.Names.{Text, Name}
