@@ -1,19 +1,19 @@
 -- When a double is a whole number, and when it is a multiple of one.
-use Rattle.std.proofs.Common.{pow_pos, lit<, ◌≡◌, ℕ, zero, suc, ◌*◌, ◌/◌, ◌%◌, ◌^◌, ◌+◌, ◌<◌, ◌≤◌, refl, sym, ap, subst, ◌∙◌, arith, true≢false, nat_lt, nat_eq, negsuc, Bool, true, false, ◌&&◌, ℤ, pos, T, inl, inr}
-use Rattle.std.proofs.Math.Bool.{and-false, and-true}
+use Rattle.std.proofs.Common.{pow_pos, lit<, ◌≡◌, ℕ, zero, suc, ◌*◌, ◌/◌, ◌%◌, ◌^◌, ◌<◌, ◌≤◌, refl, sym, ap, subst, ◌∙◌, arith, true≢false, nat_lt, nat_eq, negsuc, Bool, true, false, ◌&&◌, ℤ, pos, T, inl, inr}
+use Rattle.std.proofs.Math.Bool.{and-true}
 use Rattle.std.proofs.Math.Dec.{ltb→lt}
 use Rattle.std.proofs.lemmas.Float.{T_from_true}
-use Rattle.std.proofs.lemmas.Bool.{ltb-true, ltb-false, lt-ltb, le-ltb, eq-eqb, eqb-true, eqb-false, ne_eqb}
-use Rattle.std.proofs.Math.Nat.{eq-or-lt_of_le, eq_of_mul-eq-mul_right, div-lt_iff_lt-mul, mul-div-mul_right, mul_right_comm, mul-mod_left, mul_assoc, zero-mul, mod-one, zero-div, zero-mod, div-add-mod'}
-use Rattle.std.specs.Float.{Float, nan, inf, fin, binary64, two_to, float_zero, float_with_sign, float_is_finite}
+use Rattle.std.proofs.lemmas.Bool.{ltb-true, ltb-false, eq-eqb, eqb-true}
+use Rattle.std.proofs.Math.Nat.{eq-or-lt_of_le, eq_of_mul-eq-mul_right, div-lt_iff_lt-mul, mul_right_comm, mod-one, zero-div, zero-mod, div-add-mod'}
+use Rattle.std.specs.Float.{Float, inf, fin, binary64, two_to, float_zero, float_with_sign, float_is_finite}
 use Rattle.std.specs.Float.Ieee.{of_int, up, down, eq, le, lt, round, fits, to_unsigned}
 use Rattle.std.specs.Float.Ieee.Exact.{HasValue, round_exact}
 use Rattle.std.specs.Float.Ieee.Fits.{and_l, and_r, down_pos}
-use Rattle.olk_numbers.specs.Numbers.{is_multiple_of, is_integral, is_natural, whole_part}
+use Rattle.olk_numbers.specs.Numbers.{is_integral, is_natural, whole_part}
 use Rattle.olk_numbers.proofs.Comparisons.{same_eq, to_unsigned-whole, true_from_T}
 
 -- each whole number up to 2 ^ 53 is a double
-of_int-exact : (k : ℕ) → k ≤ 2 ^ 53 → HasValue (of_int binary64 (pos k)) false k 1
+pub of_int-exact : (k : ℕ) → k ≤ 2 ^ 53 → HasValue (of_int binary64 (pos k)) false k 1
 unfolding of_int
 of_int-exact k h =
     elim (eq-or-lt_of_le h) [
@@ -80,54 +80,3 @@ whole_part_read (fin true m e) w h c =
     c ∙ sym (ap (λ k. k / down e) none ∙ zero-div (down e))
 whole_part_read (inf true) w h c = absurd (true≢false (sym h))
 whole_part_read _ w h c = absurd (true≢false (sym h))
-
--- ---- multiples
-
-remainder_scaled : (a k d : ℕ) → 0 < d → (a * d) % (k * d) ≡ a % k * d
-remainder_scaled a k d p =
-    let whole = mul-div-mul_right a k p in
-    let small : a / k * k + a % k ≡ a = div-add-mod' a k in
-    let large : a * d / (k * d) * (k * d) + a * d % (k * d) ≡ a * d = div-add-mod' (a * d) (k * d) in
-    let same : a / k * (k * d) + a * d % (k * d) ≡ a * d = sym (ap (λ n. n * (k * d) + a * d % (k * d)) whole) ∙ large in
-    let times : (a / k * k + a % k) * d ≡ a * d = ap (λ n. n * d) small in
-    omega (arith, same, times)
-
-multiple_small : (t : Bool) (m : ℕ) (e : ℤ) (w k : ℕ) → lt (fin false m e) (two_to 64) ≡ true → is_integral (fin t m e) ≡ true → w ≡ to_unsigned 64 (fin false m e)
-    → nat_eq (w % k) 0 ≡ is_multiple_of (fin t m e) k
-unfolding lt
-multiple_small t m e w k h i c =
-    let room : m * up e < 2 ^ 64 * down e = omega (arith, ltb-true _ _ h) in
-    let all : m * up e / down e * down e ≡ m * up e = omega (arith, div-add-mod' (m * up e) (down e), eqb-true _ _ i) in
-    let product : w * down e ≡ m * up e = ap (λ j. j * down e) (to_unsigned-whole m e w h c) ∙ all in
-    let scaled : (m * up e) % (k * down e) ≡ w % k * down e = ap (λ j. j % (k * down e)) (sym product) ∙ remainder_scaled w k (down e) (down_pos e) in
-    let none_scaled : 0 * down e ≡ 0 = zero-mul (down e) in
-    let same = same_eq (w % k) 0 (w % k * down e) 0 (λ z. ap (λ j. j * down e) z ∙ none_scaled) (λ z. eq_of_mul-eq-mul_right (down e) (down_pos e) (w % k) 0 (z ∙ sym none_scaled)) in
-    same ∙ ap (λ j. nat_eq j 0) (sym scaled) ∙ ap (λ b. b && nat_eq ((m * up e) % (k * down e)) 0) (sym (lt-ltb _ _ room))
-
--- a whole number less than 2 ^ 64 in size
-pub multiple_below : (x y : Float) (w k : ℕ) → y ≡ float_with_sign false x → lt y (two_to 64) ≡ true → is_integral y ≡ true → w ≡ to_unsigned 64 y
-    → nat_eq (w % k) 0 ≡ is_multiple_of x k
-unfolding lt float_with_sign
-multiple_below (fin t m e) y w k s h i c =
-    subst (λ z. lt z (two_to 64) ≡ true → is_integral z ≡ true → w ≡ to_unsigned 64 z → nat_eq (w % k) 0 ≡ is_multiple_of (fin t m e) k) (sym s) (multiple_small t m e w k) h i c
-multiple_below _ y w k s h i c = absurd (true≢false (sym h ∙ ap (λ z. lt z (two_to 64)) s))
-
-pub multiple_past : (x y : Float) (k : ℕ) → y ≡ float_with_sign false x → lt y (two_to 64) ≡ false → false ≡ is_multiple_of x k
-unfolding lt float_with_sign
-multiple_past (fin t m e) y k s h =
-    let far : 2 ^ 64 * down e ≤ m * up e = omega (arith, ltb-false _ _ (sym (ap (λ z. lt z (two_to 64)) s) ∙ h)) in
-    ap (λ b. b && nat_eq ((m * up e) % (k * down e)) 0) (sym (le-ltb _ _ far))
-multiple_past _ y k s h = refl
-
-multiples_are_whole : (a k d : ℕ) → a % (k * d) ≡ 0 → a % d ≡ 0
-multiples_are_whole a k d z =
-    let all : a / (k * d) * (k * d) ≡ a = omega (arith, div-add-mod' a (k * d), z) in
-    ap (λ j. j % d) (sym all ∙ sym (mul_assoc (a / (k * d)) k d)) ∙ mul-mod_left (a / (k * d) * k) d
-
-pub fraction_is_none : (x y : Float) (k : ℕ) → y ≡ float_with_sign false x → is_integral y ≡ false → false ≡ is_multiple_of x k
-unfolding float_with_sign
-fraction_is_none (fin t m e) y k s i =
-    let some : (m * up e) % down e ≡ 0 → ⊥ = eqb-false _ _ (sym (ap is_integral s) ∙ i) in
-    let apart = ne_eqb ((m * up e) % (k * down e)) 0 (λ z. some (multiples_are_whole (m * up e) k (down e) z)) in
-    sym (ap (λ b. nat_lt (m * up e) (2 ^ 64 * down e) && b) apart ∙ and-false _)
-fraction_is_none _ y k s i = refl

@@ -1,5 +1,5 @@
 -- Numbers of JSON by their values: whole numbers of 64 bits as they are, and every other number as the double that was read.
-use Rattle.std.specs.Prelude.{ℕ, suc, ◌*◌, ◌/◌, ◌%◌, ◌^◌, ◌==◌, ◌&&◌, ◌||◌, nat_lt, Bool, true, false, ℤ, pos, negsuc, Option, Some, None, if◌then◌else◌}
+use Rattle.std.specs.Prelude.{ℕ, suc, ◌*◌, ◌/◌, ◌%◌, ◌==◌, ◌&&◌, ◌||◌, Bool, true, false, ℤ, pos, negsuc, Option, Some, None, if◌then◌else◌}
 use Rattle.std.specs.Float.{Float, nan, inf, fin, two_to, float_zero}
 use Rattle.std.specs.Float.Ieee.{up, down, lt, le, eq}
 use Rattle.serde_json.specs.Data.{Num, unsigned, negative, float, Data, number}
@@ -59,9 +59,3 @@ natural_of (float x) = natural_float x
 abbrev pub natural : Data → Option ℕ
 natural (number n) = natural_of n
 natural x = None
-
--- the whole number d times a whole number, if it is less than 2 ^ 64 in size
-abbrev pub is_multiple_of : Float → ℕ → Bool
-is_multiple_of nan d = false
-is_multiple_of (inf s) d = false
-is_multiple_of (fin s m e) d = nat_lt (m * up e) (2 ^ 64 * down e) && ((m * up e) % (d * down e) == 0)

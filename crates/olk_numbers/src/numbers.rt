@@ -2,16 +2,17 @@
 ghost use Rattle.std.specs.Prelude.{◌≡◌, option_map, pos};
 ghost use Rattle.std.specs.Ordering.{float_partial_cmp, ordering_reverse};
 ghost use Rattle.serde_json.specs.View.{number_view, view};
-ghost use Rattle.olk_numbers.specs.Numbers.{num_of, of_whole, exact, is_below, is_same_number, is_at_most, is_integral, is_natural, natural_float, natural_of, natural, is_multiple_of};
+ghost use Rattle.olk_numbers.specs.Numbers.{num_of, of_whole, exact, is_below, is_same_number, is_at_most, is_integral, is_natural, natural_float, natural_of, natural};
+ghost use Rattle.olk_numbers.specs.Multiples.{is_multiple_of};
 
-use olk_bench::Divisor;
+use crate::divisors::Divisor;
 use serde_json::{Number, Value};
 use std::cmp::Ordering;
 use std::num::{nearest_u64_to_f64, saturating_f64_to_u64};
 
 const TWO_TO_53: f64 = 9007199254740992.0;
 
-const TWO_TO_64: f64 = 18446744073709551616.0;
+pub(crate) const TWO_TO_64: f64 = 18446744073709551616.0;
 
 /// A number of JSON: a whole number of 64 bits, or else the double that was read.
 ///
@@ -83,15 +84,17 @@ impl JsonNumber {
         }
     }
 
-    /// Whether it is the divisor times a whole number, and less than 2^64 in size (JSON Schema
-    /// 2020-12 Validation 6.2.1). The digits of larger numbers are not known.
+    /// Whether it is a multiple of what `multipleOf` names (JSON Schema 2020-12 Validation 6.2.1).
+    ///
+    /// A number with a fraction is the decimal of the fewest places that reads as its double, and a
+    /// multiple of nothing where none of 15 digits or so does.
     pub fn is_multiple_of(self, divisor: Divisor) -> bool
-        ensures { result ≡ is_multiple_of (exact (num_of self)) divisor.value }
+        ensures { result ≡ is_multiple_of (num_of self) (num_of divisor.number) }
     {
         match self {
-            JsonNumber::Unsigned(n) => divisor.divides(n),
-            JsonNumber::Negative(n) => divisor.divides(n.unsigned_abs()),
-            JsonNumber::Float(x) => is_multiple(x, divisor),
+            JsonNumber::Unsigned(n) => divisor.divides_whole(n),
+            JsonNumber::Negative(n) => divisor.divides_whole(n.unsigned_abs()),
+            JsonNumber::Float(x) => divisor.divides_double(x),
         }
     }
 
@@ -129,7 +132,7 @@ pub fn natural(value: &Value) -> Option<u64>
 }
 
 /// Whether a double has no fraction, as none has from 2^53 on.
-fn has_no_fraction(x: f64) -> bool
+pub(crate) fn has_no_fraction(x: f64) -> bool
     ensures { result ≡ is_integral x }
 {
     let size = x.abs();
@@ -154,17 +157,6 @@ fn is_natural(x: f64) -> bool
     ensures { result ≡ is_natural x }
 {
     0.0 <= x && x < TWO_TO_64 && has_no_fraction(x)
-}
-
-fn is_multiple(x: f64, divisor: Divisor) -> bool
-    ensures { result ≡ is_multiple_of x divisor.value }
-{
-    let size = x.abs();
-    if size < TWO_TO_64 && has_no_fraction(size) {
-        divisor.divides(saturating_f64_to_u64(size))
-    } else {
-        false
-    }
 }
 
 fn compare_to_unsigned(x: f64, n: u64) -> Option<Ordering>

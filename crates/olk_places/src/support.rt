@@ -1,7 +1,7 @@
 //! What is supported of a keyword of JSON Schema, of 2020-12 and of older drafts.
 use olk_base::analyze_pattern;
+use olk_numbers::{Divisor, JsonNumber};
 use olk_regexes::{Refusal, why_refused};
-use olk_numbers::JsonNumber;
 use olk_vocabulary::Keyword;
 use serde_json::{Map, Number, Value};
 use std::alloc::{AllocError, Global};
@@ -202,7 +202,7 @@ fn has_unsupported_number(name: &str, number: &Number) -> bool {
     if is_limit(name) {
         return float >= 0.0 && JsonNumber::of(number).is_integral();
     }
-    name == "multipleOf" && float > 0.0
+    name == "multipleOf" && float > 0.0 && Divisor::of(number).is_none()
 }
 
 /// Whether a keyword wants a whole number that is not negative.

@@ -2,7 +2,7 @@
 use Rattle.std.specs.Prelude.{ℕ, Bool, true, false, ◌&&◌, ◌==◌, cond, if◌then◌else◌, nat_le, List, [], ◌∷◌, ◌++◌, length, map, Option, Some, None, is_some, option_map, codes, bytes_eq, decimal, chars}
 use Rattle.std.specs.List.{list_any, list_all}
 use Rattle.std.specs.Option.{option_map_or}
-use Rattle.serde_json.specs.Data.{Num, Data, Items, number, string, array, unsigned}
+use Rattle.serde_json.specs.Data.{Num, Data, Items, number, string, array}
 use Rattle.serde_json.specs.Find.{as_bool, as_number, as_str, as_array, as_object}
 use Rattle.serde_json.specs.Written.{compact_text}
 use Rattle.olk_spec.specs.Names.{Text, Name}
@@ -11,7 +11,8 @@ use Rattle.olk_spec.specs.Schemas.{listed}
 use Rattle.olk_spec.specs.Bench.{names_kind, is_natural_from, shown, unless}
 use Rattle.olk_numbers.specs.Numbers.{natural}
 use Rattle.olk_spec.specs.Bench as bench
-use Rattle.olk_numbers.specs.Numbers.{exact, is_below, is_at_most, is_integral, is_multiple_of}
+use Rattle.olk_numbers.specs.Multiples.{divisor_of, is_multiple_of}
+use Rattle.olk_numbers.specs.Numbers.{exact, is_below, is_at_most, is_integral}
 use Rattle.olk_vocabulary.specs.Patterns.{takes_pattern, pattern_faults}
 use Rattle.olk_vocabulary.specs.Same.{same_value}
 use Rattle.olk_vocabulary.specs.Unique.{unique_faults}
@@ -84,7 +85,7 @@ abbrev pub takes : Keyword → Data → Bool
 takes keyword.Type x = takes_kinds x
 takes keyword.Enum x = is_some (as_array x)
 takes keyword.Const x = true
-takes keyword.MultipleOf x = is_natural_from 1 x
+takes keyword.MultipleOf x = option_map_or (λ n. is_some (divisor_of n)) (as_number x) false
 takes (keyword.Bound b) x = is_some (as_number x)
 takes (keyword.Limit l) x = is_some (natural x)
 takes keyword.Pattern x = takes_pattern x
@@ -148,12 +149,12 @@ const_faults x v = unless (same_value x v) (shown x ++ codes " was expected")
 
 -- ---- 6.2: numbers
 
-abbrev pub multiple_text : Data → ℕ → Text
-multiple_text v d = shown v ++ codes " is not a multiple of " ++ decimal d
+abbrev pub multiple_text : Num → Data → Text
+multiple_text m v = shown v ++ codes " is not a multiple of " ++ shown (number m)
 
 -- 6.2.1
 abbrev pub multiple_faults : Data → Data → List Text
-multiple_faults (number (unsigned d)) v = unless (option_map_or (λ n. is_multiple_of (exact n) d) (as_number v) true) (multiple_text v d)
+multiple_faults (number m) v = unless (option_map_or (λ n. is_multiple_of n m) (as_number v) true) (multiple_text m v)
 multiple_faults x v = []
 
 -- 6.2.2 to 6.2.5

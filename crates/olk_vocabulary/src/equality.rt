@@ -7,8 +7,8 @@ ghost use Rattle.olk_base.specs.Nodes.{data_of};
 ghost use Rattle.olk_spec.specs.Malformed.{items_list};
 ghost use Rattle.olk_vocabulary.specs.Same.{same_value, same_items, same_members, is_bool, is_number, is_text};
 
-use olk_numbers::JsonNumber;
 use olk_base::{Node, is_same_text};
+use olk_numbers::JsonNumber;
 use serde_json::{Map, Number, Value};
 
 /// Whether the node is the value.

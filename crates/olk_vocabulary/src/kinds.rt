@@ -8,9 +8,9 @@ ghost use Rattle.olk_bench.specs.Leaves.{kind_name};
 ghost use Rattle.olk_vocabulary.specs.Keywords.{is_integer, is_of_kind, is_short, name_kinds};
 ghost use Rattle.olk_vocabulary.specs.Leaves.{kind_value};
 
-use olk_numbers::JsonNumber;
 use olk_base::Node;
 use olk_bench::ValueKind;
+use olk_numbers::JsonNumber;
 use serde_json::Value;
 use std::alloc::{AllocError, Global};
 

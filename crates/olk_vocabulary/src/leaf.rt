@@ -5,7 +5,8 @@ ghost use Rattle.serde_json.specs.Find.{as_number};
 ghost use Rattle.olk_base.specs.Nodes.{data_of};
 ghost use Rattle.olk_spec.specs.Names.{is_empty};
 ghost use Rattle.olk_vocabulary.specs.Keywords.{is_within};
-ghost use Rattle.olk_numbers.specs.Numbers.{num_of, exact, is_multiple_of};
+ghost use Rattle.olk_numbers.specs.Multiples.{is_multiple_of};
+ghost use Rattle.olk_numbers.specs.Numbers.{num_of};
 ghost use Rattle.olk_vocabulary.specs.Leaves.{leaf_keyword, leaf_name, leaf_finds, leaf_text};
 
 use crate::candidates::Candidates;
@@ -13,7 +14,6 @@ use crate::equality::is_value;
 use crate::keyword::{Bound, Keyword, Limit};
 use crate::kinds::{is_of_kind, is_of_some_kind};
 use crate::lengths::is_allowed;
-use olk_numbers::JsonNumber;
 use crate::text_pattern::TextPattern;
 use crate::texts::{
     bound_text, candidates_text, constant_text, kind_text, kinds_text, limit_text, multiple_text,
@@ -21,7 +21,8 @@ use crate::texts::{
 };
 use crate::unique::has_unique_items;
 use olk_base::{Leaf, Node};
-use olk_bench::{Divisor, ValueKind};
+use olk_bench::ValueKind;
+use olk_numbers::{Divisor, JsonNumber};
 use serde_json::Value;
 use std::alloc::{AllocError, Global};
 
@@ -150,7 +151,7 @@ fn number_of(node: Node<'_>) -> Option<JsonNumber>
 }
 
 fn is_multiple(divisor: Divisor, node: Node<'_>) -> bool
-    ensures { result ≡ option_map_or (λ n. is_multiple_of (exact n) divisor.value)
+    ensures { result ≡ option_map_or (λ n. is_multiple_of n (num_of divisor.number))
         (as_number (data_of node.entry)) true }
 {
     match number_of(node) {

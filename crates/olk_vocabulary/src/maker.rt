@@ -9,10 +9,9 @@ use crate::candidates::Candidates;
 use crate::keyword::{Bound, Keyword, Limit};
 use crate::kinds::{is_short, kind_of, kinds_of};
 use crate::leaf::VocabularyLeaf;
-use olk_numbers::{JsonNumber, natural};
 use crate::text_pattern::TextPattern;
 use olk_base::{MakeError, MakeLeaf, Meter};
-use olk_bench::Divisor;
+use olk_numbers::{Divisor, JsonNumber, natural};
 use serde_json::Value;
 use std::alloc::{AllocError, Global};
 
@@ -125,9 +124,13 @@ fn const_leaf(value: &Value) -> Result<Option<VocabularyLeaf>, AllocError>
 fn multiple_leaf(value: &Value) -> Option<VocabularyLeaf>
     ensures { IsMade Keyword.MultipleOf (view value.now) result }
 {
-    let number = value.as_u64()?;
-    let divisor = Divisor::new(number)?;
-    Some(VocabularyLeaf::MultipleOf(divisor))
+    match value {
+        Value::Number(number) => match Divisor::of(number) {
+            Some(divisor) => Some(VocabularyLeaf::MultipleOf(divisor)),
+            None => None,
+        },
+        _ => None,
+    }
 }
 
 fn bound_leaf(bound: Bound, value: &Value) -> Option<VocabularyLeaf>

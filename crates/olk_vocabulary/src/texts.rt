@@ -12,9 +12,9 @@ ghost use Rattle.olk_vocabulary.specs.Patterns.{pattern_text};
 ghost use Rattle.olk_vocabulary.specs.Unique.{unique_text};
 
 use crate::keyword::{Bound, Limit};
-use olk_numbers::JsonNumber;
 use olk_base::Node;
-use olk_bench::{Divisor, ValueKind, shown_text};
+use olk_bench::{ValueKind, shown_text};
+use olk_numbers::{Divisor, JsonNumber};
 use serde_json::Value;
 use std::alloc::{AllocError, Global};
 use std::fmt::Write;
@@ -77,10 +77,10 @@ pub(crate) fn multiple_text(
     divisor: Divisor,
 ) -> Result<String, AllocError>
     ensures { IfOk result (λ s. string_bytes s
-        ≡ multiple_text (data_of node.entry) divisor.value) }
+        ≡ multiple_text (num_of divisor.number) (data_of node.entry)) }
 {
     let mut text = text_of(alloc, node, " is not a multiple of ")?;
-    push_decimal(&mut text, divisor.value)?;
+    push_number(&mut text, divisor.number)?;
     Ok(text)
 }
 

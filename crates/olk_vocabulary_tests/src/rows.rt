@@ -115,10 +115,42 @@ multipleOf | 2 | -3.0 | value is not a multiple of 2
 multipleOf | 3 | 9007199254740993 | -
 multipleOf | 4096 | 1e19 | -
 multipleOf | 7 | 1e19 | value is not a multiple of 7
-multipleOf | 2 | 18446744073709551616 | value is not a multiple of 2
+multipleOf | 2 | 18446744073709551616 | -
 multipleOf | 18446744073709551615 | 18446744073709551615 | -
-multipleOf | 0.01 | 1 | refused
+multipleOf | 18446744073709551615 | 1e308 | value is not a multiple of 18446744073709551615
+multipleOf | 10 | 1e22 | -
+multipleOf | 7 | 1e300 | value is not a multiple of 7
+multipleOf | 8 | -1e300 | -
+multipleOf | 2.0 | 4 | -
+multipleOf | 2.0 | 5 | 5 is not a multiple of value
+multipleOf | 2.0 | 2.5 | value is not a multiple of value
+multipleOf | 1.5 | 4.5 | -
+multipleOf | 1.5 | 35 | 35 is not a multiple of value
+multipleOf | 0.5 | 1e308 | -
+multipleOf | 0.1 | 0 | -
+multipleOf | 0.1 | 0.3 | -
+multipleOf | 0.1 | 0.35 | value is not a multiple of value
+multipleOf | 0.1 | 0.30000000000000004 | value is not a multiple of value
+multipleOf | 0.25 | -0.75 | -
+multipleOf | 0.01 | 1 | -
+multipleOf | 0.01 | 4.35 | -
+multipleOf | 0.01 | 19.99 | -
+multipleOf | 0.01 | 0.305 | value is not a multiple of value
+multipleOf | 0.01 | "0.305" | -
+multipleOf | 0.0001 | 0.0075 | -
+multipleOf | 0.0001 | 0.00751 | value is not a multiple of value
+multipleOf | 0.123456789 | 1e308 | value is not a multiple of value
+multipleOf | 0.123456789 | 1.111111101 | -
+multipleOf | 1e-8 | 12391239123 | -
+multipleOf | 1e-22 | 3e-22 | -
+multipleOf | 1e-23 | 1 | refused
+multipleOf | 1e-300 | 1 | refused
+multipleOf | 1e20 | 1e20 | refused
 multipleOf | 0 | 1 | refused
+multipleOf | 0.0 | 1 | refused
+multipleOf | -0.5 | 1 | refused
+multipleOf | -1 | 1 | refused
+multipleOf | "2" | 1 | refused
 minLength | 2 | "é" | "é" is shorter than 2 characters
 minLength | 1 | "" | "" is shorter than 1 character
 minLength | 0 | "" | -

@@ -1,6 +1,6 @@
 use Rattle.std.proofs.Common.{sym, ap, ◌∙◌, ◌&&◌, true≢false}
-use Rattle.std.specs.Float.{float_zero, two_to}
-use Rattle.std.specs.Float.Ieee.{of_bits, lt, le}
+use Rattle.std.specs.Float.{two_to}
+use Rattle.std.specs.Float.Ieee.{of_bits, lt}
 use Rattle.olk_numbers.specs.Numbers.{is_integral}
 use Rattle.olk_numbers.proofs.numbers.is_natural.Goals as goal
 use Rattle.olk_numbers.proofs.numbers.is_natural.Goals.{then-x, else-x}
