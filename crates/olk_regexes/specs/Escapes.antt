@@ -1,6 +1,6 @@
 -- How an escape is read, behind its backslash: that of ECMA-262, with its flag u.
-use Rattle.std.specs.Prelude.{ℕ, ◌+◌, ◌-◌, ◌*◌, ◌==◌, Bool, false, ◌&&◌, List, [], ◌∷◌, Option, Some, None, if◌then◌else◌, codes}
-use Rattle.std.specs.Char.{is_ascii_digit, is_digit, digit_value}
+use Rattle.std.specs.Prelude.{ℕ, ◌+◌, ◌-◌, ◌*◌, ◌%◌, ◌==◌, Bool, false, ◌&&◌, List, [], ◌∷◌, Option, Some, None, if◌then◌else◌, codes}
+use Rattle.std.specs.Char.{is_ascii_alphabetic, is_ascii_digit, is_digit, digit_value}
 use Rattle.std.specs.List.{list_any}
 use lib.Dec.{leb}
 use Rattle.olk_regexes.specs.Language.{Text}
@@ -63,6 +63,11 @@ abbrev pub unicode : Text → Read ℕ
 unicode [] = None
 unicode (c ∷ w) = if c == 123 then braced_code w else next (four_hex (c ∷ w)) paired
 
+-- a letter of ASCII, which stands for the control character whose code is its own modulo 32
+abbrev pub control : Text → Read ℕ
+control [] = None
+control (c ∷ w) = if is_ascii_alphabetic c then Some (c % 32, w) else None
+
 abbrev pub begins_digit : Text → Bool
 begins_digit [] = false
 begins_digit (c ∷ w) = is_ascii_digit c
@@ -85,6 +90,7 @@ abbrev pub escaped_char : ℕ → Text → Read ℕ
 escaped_char c w =
     if c == 120 then two_hex w else
     if c == 117 then unicode w else
+    if c == 99 then control w else
     if c == 48 then (if begins_digit w then None else Some (0, w)) else with_rest w (plain_escape c)
 
 abbrev pub escaped_set : ℕ → Option (List Range)

@@ -48,6 +48,8 @@ pub record Rows_read : Type 0 where
   pub leading_zeros : parse (codes "\\u{0000000041}") ≡ Some (of_item (char 65))
   pub two_surrogates : parse (codes "\\ud83d\\ude00") ≡ Some (of_item (char 128512))
   pub one_surrogate : parse (codes "\\ud83d") ≡ Some (of_item (char 55357))
+  pub a_control : parse (codes "\\cA") ≡ Some (of_item (char 1))
+  pub a_control_by_a_small_letter : parse (codes "\\cz") ≡ Some (of_item (char 26))
   pub a_dot : parse (codes "\\.") ≡ Some (of_item (char 46))
   pub a_slash : parse (codes "\\/") ≡ Some (of_item (char 47))
   pub a_bar : parse (codes "\\|") ≡ Some (of_item (char 124))
@@ -65,6 +67,7 @@ pub record Rows_read : Type 0 where
   pub a_hyphen_by_an_escape : parse (codes "[a\\-c]") ≡ Some (one false (range 97 97 ∷ range 45 45 ∷ range 99 99 ∷ []))
   pub punctuation_in_a_class : parse (codes "[.*^$(|]") ≡ Some (one false (range 46 46 ∷ range 42 42 ∷ range 94 94 ∷ range 36 36 ∷ range 40 40 ∷ range 124 124 ∷ []))
   pub a_range_of_escapes : parse (codes "[\\x61-\\u{63}]") ≡ Some (one false (range 97 99 ∷ []))
+  pub a_range_of_controls : parse (codes "[\\cA-\\cZ]") ≡ Some (one false (range 1 26 ∷ []))
   pub large_counts : counts (codes "{9000000,10000000}") ≡ Some ((1000000, Some 1000000), [])
   pub no_look_ahead : rule (codes "a") ≡ Some (of_item (char 97), None)
   pub a_look_ahead_at_the_start : rule (codes "^(?!a)b") ≡ Some (seq start (of_item (char 98)), Some (seq start (of_item (char 97))))
@@ -102,7 +105,9 @@ pub record Rows_refused : Type 0 where
   pub a_boundary : parse (codes "\\b") ≡ None
   pub no_boundary : parse (codes "\\B") ≡ None
   pub a_property : parse (codes "\\p{L}") ≡ None
-  pub a_control : parse (codes "\\cA") ≡ None
+  pub a_control_alone : parse (codes "\\c") ≡ None
+  pub a_control_by_a_digit : parse (codes "\\c1") ≡ None
+  pub a_control_by_a_digit_in_a_class : parse (codes "[\\c1]") ≡ None
   pub a_look_ahead : parse (codes "(?=a)") ≡ None
   pub a_negative_look_ahead : parse (codes "(?!a)") ≡ None
   pub a_look_behind : parse (codes "(?<=a)") ≡ None

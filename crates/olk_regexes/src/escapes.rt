@@ -1,6 +1,6 @@
 //! Reading an escape.
 ghost use Rattle.std.specs.Prelude.{◌≡◌, ◌≤◌, ◌<◌, IfSome};
-ghost use Rattle.olk_regexes.specs.Escapes.{two_hex, four_hex, trail, paired, code_from, code_end, braced_code, unicode, begins_digit, plain_escape, escaped_char, escaped_set, escape};
+ghost use Rattle.olk_regexes.specs.Escapes.{two_hex, four_hex, trail, paired, code_from, code_end, braced_code, unicode, control, begins_digit, plain_escape, escaped_char, escaped_set, escape};
 ghost use Rattle.olk_regexes.specs.Seen.{seen_number, seen_pair, seen_set, seen_item};
 
 use crate::class::Range;
@@ -129,6 +129,19 @@ fn read_unicode(text: &[char]) -> Option<(u32, &[char])>
     }
 }
 
+fn read_control(text: &[char]) -> Option<(u32, &[char])>
+    ensures { seen_number result ≡ control text.now }
+{
+    match text {
+        [c, rest @ ..] => if c.is_ascii_alphabetic() {
+            Some((*c as u32 % 32, rest))
+        } else {
+            None
+        },
+        [] => None,
+    }
+}
+
 fn begins_digit(text: &[char]) -> bool
     ensures { result ≡ begins_digit text.now }
 {
@@ -159,6 +172,7 @@ fn read_char(c: char, text: &[char]) -> Option<(u32, &[char])>
     match c {
         'x' => read_two_hex(text),
         'u' => read_unicode(text),
+        'c' => read_control(text),
         '0' => if begins_digit(text) {
             None
         } else {
