@@ -75,7 +75,7 @@ fn read_member_from<'a>(
             let (high, rest) = read_class_item(behind)?;
             up_to(c, high, rest)
         }
-        (Item::Set(ranges), None) => Some((Member::Set(ranges), text)),
+        (Item::Set(set), None) => Some((Member::Set(set), text)),
         (Item::Set(_), Some(_)) => None,
         (Item::Property(property), None) => Some((Member::One(property), text)),
         (Item::Property(_), Some(_)) => None,

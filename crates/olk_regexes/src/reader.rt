@@ -37,7 +37,8 @@ fn group_body(text: &[char]) -> Option<&[char]>
     }
 }
 
-fn class(alloc: Global, negated: bool, members: &[Characters]) -> Result<Tree, AllocError>
+// A character of one of the members, or, negated, of none.
+fn one_of(alloc: Global, negated: bool, members: &[Characters]) -> Result<Tree, AllocError>
     ensures { IfOk result (λ t. expr_of t ≡ one negated members.now) }
 {
     let members = Vec::from_slice(alloc, members)?;
@@ -52,7 +53,7 @@ fn class(alloc: Global, negated: bool, members: &[Characters]) -> Result<Tree, A
 pub fn one(alloc: Global, c: u32) -> Result<Tree, AllocError>
     ensures { IfOk result (λ t. expr_of t ≡ of_item (char c)) }
 {
-    class(alloc, false, &[Characters::Range { low: c, high: c }])
+    one_of(alloc, false, &[Characters::Range { low: c, high: c }])
 }
 
 fn of_item(alloc: Global, item: Item) -> Result<Tree, AllocError>
@@ -60,8 +61,8 @@ fn of_item(alloc: Global, item: Item) -> Result<Tree, AllocError>
 {
     match item {
         Item::Char(c) => one(alloc, c),
-        Item::Set(set) => class(alloc, false, set),
-        Item::Property(property) => class(alloc, false, &[property]),
+        Item::Set(set) => one_of(alloc, false, set),
+        Item::Property(property) => one_of(alloc, false, &[property]),
     }
 }
 
@@ -77,7 +78,7 @@ fn read_simple(alloc: Global, c: char, text: &[char]) -> Result<Option<(Tree, &[
     ensures { IfOk result (λ r. seen_tree r ≡ simple c text.now) }
 {
     match c {
-        '.' => Ok(Some((class(alloc, true, &LINE_ENDS)?, text))),
+        '.' => Ok(Some((one_of(alloc, true, &LINE_ENDS)?, text))),
         '[' => match read_class(alloc, text)? {
             Some((class, rest)) => Ok(Some((Tree::One(class), rest))),
             None => Ok(None),
