@@ -1,15 +1,18 @@
 -- A framed text has a match where the text has one by the standard's `^` and `$`.
-use Rattle.std.proofs.Common.{◌≡◌, ℕ, ◌<◌, Bool, true, false, not, ◌||◌, ◌&&◌, List, [], ◌∷◌, ◌++◌, inl, inr, refl, sym, ◌∙◌, ap, subst, arith, append_assoc}
+use Rattle.std.proofs.Common.{◌≡◌, ℕ, ◌<◌, Bool, true, false, not, cond, ◌||◌, ◌&&◌, List, [], ◌∷◌, ◌++◌, inl, inr, refl, sym, ◌∙◌, ap, subst, arith, append_assoc}
 use Rattle.std.specs.List.{All, list_any, list_all}
 use Rattle.std.proofs.lemmas.List.{append-nil}
 use Rattle.std.proofs.lemmas.List.Elements.{All-nil, All-cons, All-head, All-tail}
 use Rattle.std.proofs.lemmas.Bool.Decides.{nat_tests}
 use lib.Dec.{leb}
+use lib.Utf8.{scalar, scalar_cases}
+use Rattle.olk_regexes.specs.Categories.{is_of}
 use Rattle.olk_regexes.specs.Class.{has, within}
 use Rattle.olk_regexes.specs.Language.{Text, Expr, blank, one, seq, alt, star, Matches, Finds, framed, joined}
-use Rattle.olk_regexes.specs.Edges.{is_edge, has_characters, starts_well, ends_well, characters, is_placed}
+use Rattle.olk_regexes.specs.Edges.{is_edge, are_characters, has_characters, starts_well, ends_well, characters, is_placed}
 use Rattle.olk_regexes.specs.Places.{IsChar, OneAt, AllAt, MatchesAt, FindsAt}
-use Rattle.olk_regexes.specs.declared.class.Range.{Range}
+use Rattle.olk_regexes.specs.declared.class.Characters.{Characters}
+use Rattle.olk_regexes.specs.declared.class.Characters.TheVariants.{Range, Property}
 use Rattle.olk_regexes.proofs.Equal.{or-to, and-to, all-map}
 
 -- what is read of the frame before a text, and behind it
@@ -53,39 +56,50 @@ or_no f e = grind arith
 join_frames : (x u v y : Text) → (x ++ (u ++ [])) ++ (v ++ y) ≡ x ++ ((u ++ v) ++ y)
 join_frames x u v y = simp (append_assoc, append-nil) refl
 
-edge_one : (edge : ℕ) (n : Bool) (rs : List Range) (c : ℕ) → is_edge edge n rs ≡ true → has n rs c ≡ true → c ≡ edge
+edge_one : (edge : ℕ) (n : Bool) (rs : List Characters) (c : ℕ) → is_edge edge n rs ≡ true → has n rs c ≡ true → c ≡ edge
 edge_one edge true [] c e h = no e
 edge_one edge false [] c e h = no e
 edge_one edge true (r ∷ []) c e h = no e
-edge_one edge false (r ∷ []) c e h = grind (arith, nat_tests)
+edge_one edge false (Range low high ∷ []) c e h = grind (arith, nat_tests)
+edge_one edge false (Property category negated ∷ []) c e h = no e
 edge_one edge true (r ∷ s ∷ rs) c e h = no e
 edge_one edge false (r ∷ s ∷ rs) c e h = no e
 
-edge_has : (edge : ℕ) (n : Bool) (rs : List Range) → is_edge edge n rs ≡ true → has n rs edge ≡ true
+edge_has : (edge : ℕ) (n : Bool) (rs : List Characters) → is_edge edge n rs ≡ true → has n rs edge ≡ true
 edge_has edge true [] e = no e
 edge_has edge false [] e = no e
 edge_has edge true (r ∷ []) e = no e
-edge_has edge false (r ∷ []) e = grind (arith, nat_tests)
+edge_has edge false (Range low high ∷ []) e = grind (arith, nat_tests)
+edge_has edge false (Property category negated ∷ []) e = no e
 edge_has edge true (r ∷ s ∷ rs) e = no e
 edge_has edge false (r ∷ s ∷ rs) e = no e
 
-in_range : (r : Range) (c : ℕ) → leb r.high 1114111 ≡ true → within c r ≡ true → IsChar c
-in_range r c e h = grind (arith, nat_tests)
-
-in_ranges : (rs : List Range) (c : ℕ) → list_all (λ r. leb r.high 1114111) rs ≡ true → list_any (within c) rs ≡ true → IsChar c
-in_ranges [] c e h = no h
-in_ranges (r ∷ rs) c e h =
-    let k = and-to (leb r.high 1114111) (list_all (λ r. leb r.high 1114111) rs) e in
-    elim (or-to (within c r) (list_any (within c) rs) h) as (λ _. IsChar c) [
-      | inl a ↦ in_range r c k.0 a
-      | inr b ↦ in_ranges rs c k.1 b
+scalar_char : (c : ℕ) → scalar c ≡ true → IsChar c
+scalar_char c e =
+    elim (scalar_cases c e) as (λ _. IsChar c) [
+      | inl a ↦ omega arith
+      | inr b ↦ b.1
     ]
 
-class_char : (n : Bool) (rs : List Range) (c : ℕ) → has_characters n rs ≡ true → has n rs c ≡ true → IsChar c
-class_char true rs c e h = let k = and-to (not (list_any (within c) rs)) (leb c 1114111) h in grind (arith, nat_tests)
-class_char false rs c e h = in_ranges rs c e h
+in_characters : (m : Characters) (c : ℕ) → are_characters m ≡ true → within c m ≡ true → IsChar c
+in_characters (Range low high) c e h = grind (arith, nat_tests)
+in_characters (Property category negated) c e h =
+    scalar_char c (and-to (scalar c) (cond negated (not (is_of category c)) (is_of category c)) h).0
 
-un_one : (es ee f l n : Bool) (rs : List Range) (w : Text) → is_edge 1114112 n rs ≡ es → is_edge 1114113 n rs ≡ ee →
+in_members : (ms : List Characters) (c : ℕ) → list_all are_characters ms ≡ true → list_any (within c) ms ≡ true → IsChar c
+in_members [] c e h = no h
+in_members (m ∷ ms) c e h =
+    let k = and-to (are_characters m) (list_all are_characters ms) e in
+    elim (or-to (within c m) (list_any (within c) ms) h) as (λ _. IsChar c) [
+      | inl a ↦ in_characters m c k.0 a
+      | inr b ↦ in_members ms c k.1 b
+    ]
+
+class_char : (n : Bool) (rs : List Characters) (c : ℕ) → has_characters n rs ≡ true → has n rs c ≡ true → IsChar c
+class_char true rs c e h = let k = and-to (not (list_any (within c) rs)) (leb c 1114111) h in grind (arith, nat_tests)
+class_char false rs c e h = in_members rs c e h
+
+un_one : (es ee f l n : Bool) (rs : List Characters) (w : Text) → is_edge 1114112 n rs ≡ es → is_edge 1114113 n rs ≡ ee →
     (f || not es) ≡ true → (l || not ee) ≡ true → (es || (ee || has_characters n rs)) ≡ true → Matches (one n rs) w →
     Unframed (OneAt es ee n rs) f l w
 un_one true ee f l n rs w s e hs he hc m =
@@ -152,7 +166,7 @@ un (star p) f l w hs he hc m =
     let k = star_at (MatchesAt p) m.0 (all-map (Matches p) (Plain (MatchesAt p)) (λ u h. plain (MatchesAt p) u (un p false false u hs he hc h)) m.0 m.1) in
     (false, false, joined m.0, m.2 ∙ sym (append-nil (joined m.0)), λ z. no z, λ z. no z, k.0, λ b a hb ha. (m.0, k.1 b a, refl))
 
-re_one : (es ee f l n : Bool) (rs : List Range) (b u a : Text) → is_edge 1114112 n rs ≡ es → is_edge 1114113 n rs ≡ ee →
+re_one : (es ee f l n : Bool) (rs : List Characters) (b u a : Text) → is_edge 1114112 n rs ≡ es → is_edge 1114113 n rs ≡ ee →
     (f || not es) ≡ true → (l || not ee) ≡ true → OneAt es ee n rs b u a → Reframed (Matches (one n rs)) f l b u a
 re_one true ee f l n rs b u a s e hs he m =
     (true, false, (1114112, edge_has 1114112 n rs s, ap (λ x. 1114112 ∷ (x ++ [])) m.0), λ _. or_no f hs, λ z. no z, λ _. m.1, λ z. no z)

@@ -4,7 +4,7 @@ use lib.Dec.{leb}
 use Rattle.olk_regexes.specs.Language.{Text, Expr, one}
 use Rattle.olk_regexes.specs.Sets.{range}
 use Rattle.olk_regexes.specs.Escapes.{Read, next, Item, char, set, escape}
-use Rattle.olk_regexes.specs.declared.class.Range.{Range}
+use Rattle.olk_regexes.specs.declared.class.Characters.{Characters}
 
 abbrev pub class_escape : Text → Read Item
 class_escape [] = None
@@ -23,18 +23,18 @@ range_end [] = None
 range_end (d ∷ []) = None
 range_end (d ∷ e ∷ w) = if (d == 45) && not (e == 93) then Some (e ∷ w) else None
 
-abbrev pub up_to : ℕ → Item → Text → Read (List Range)
+abbrev pub up_to : ℕ → Item → Text → Read (List Characters)
 up_to low (char high) w = if leb low high then Some (range low high ∷ [], w) else None
 up_to low (set rs) w = None
 
 -- an item alone, or the range that begins with it
-abbrev pub member_from : Item → Text → Option Text → Read (List Range)
+abbrev pub member_from : Item → Text → Option Text → Read (List Characters)
 member_from (char c) w None = Some (range c c ∷ [], w)
 member_from (char c) w (Some v) = next (class_item v) (up_to c)
 member_from (set rs) w None = Some (rs, w)
 member_from (set rs) w (Some v) = None
 
-abbrev pub member : Text → Read (List Range)
+abbrev pub member : Text → Read (List Characters)
 member w = next (class_item w) (λ i v. member_from i v (range_end v))
 
 -- what is behind a closing bracket
@@ -42,17 +42,17 @@ abbrev pub class_end : Text → Option Text
 class_end [] = None
 class_end (c ∷ w) = if c == 93 then Some w else None
 
-abbrev pub closed_or : List Range → Option Text → Read (List Range) → Read (List Range)
+abbrev pub closed_or : List Characters → Option Text → Read (List Characters) → Read (List Characters)
 closed_or rs None more = more
 closed_or rs (Some w) more = Some (rs, w)
 
 -- The members up to the closing bracket, behind those that were read. The number bounds how many they are.
-abbrev pub members : ℕ → List Range → Text → Read (List Range)
+abbrev pub members : ℕ → List Characters → Text → Read (List Characters)
 members zero rs w = None
 members (suc n) rs w = closed_or rs (class_end w) (next (member w) (λ more v. members n (rs ++ more) v))
 
 -- no class has more members than the text has characters
-abbrev pub all_members : Text → Read (List Range)
+abbrev pub all_members : Text → Read (List Characters)
 all_members w = members (suc (length w)) [] w
 
 abbrev pub class : Text → Read Expr

@@ -1,11 +1,15 @@
 -- How an escape is read, behind its backslash: that of ECMA-262, with its flag u.
-use Rattle.std.specs.Prelude.{ℕ, ◌+◌, ◌-◌, ◌*◌, ◌==◌, Bool, false, ◌&&◌, List, [], ◌∷◌, Option, Some, None, if◌then◌else◌, codes}
-use Rattle.std.specs.Char.{is_ascii_digit, is_digit, digit_value}
+use Rattle.std.specs.Prelude.{ℕ, ◌+◌, ◌-◌, ◌*◌, ◌%◌, ◌==◌, Bool, true, false, ◌&&◌, List, [], ◌∷◌, Option, Some, None, if◌then◌else◌, codes}
+use Rattle.std.specs.Char.{is_ascii_alphabetic, is_ascii_digit, is_digit, digit_value}
 use Rattle.std.specs.List.{list_any}
+use Rattle.std.specs.Option.{unwrap_or}
 use lib.Dec.{leb}
 use Rattle.olk_regexes.specs.Language.{Text}
 use Rattle.olk_regexes.specs.Sets.{digits, no_digits, words, no_words, spaces, no_spaces}
-use Rattle.olk_regexes.specs.declared.class.Range.{Range}
+use Rattle.olk_regexes.specs.Categories.{names}
+use Rattle.olk_regexes.specs.declared.category.Category.{Category}
+use Rattle.olk_regexes.specs.declared.class.Characters.{Characters}
+use Rattle.olk_regexes.specs.declared.class.Characters.TheVariants.{Property}
 
 -- what was read, and what is left
 abbrev pub Read : Type 0 → Type 0
@@ -18,7 +22,7 @@ next (Some p) f = f p.0 p.1
 -- a character or a set
 pub data Item : Type 0 where
   char : ℕ → Item
-  set : List Range → Item
+  set : List Characters → Item
 
 abbrev pub two_hex : Text → Read ℕ
 two_hex [] = None
@@ -63,6 +67,11 @@ abbrev pub unicode : Text → Read ℕ
 unicode [] = None
 unicode (c ∷ w) = if c == 123 then braced_code w else next (four_hex (c ∷ w)) paired
 
+-- a letter of ASCII, which stands for the control character whose code is its own modulo 32
+abbrev pub control : Text → Read ℕ
+control [] = None
+control (c ∷ w) = if is_ascii_alphabetic c then Some (c % 32, w) else None
+
 abbrev pub begins_digit : Text → Bool
 begins_digit [] = false
 begins_digit (c ∷ w) = is_ascii_digit c
@@ -85,9 +94,10 @@ abbrev pub escaped_char : ℕ → Text → Read ℕ
 escaped_char c w =
     if c == 120 then two_hex w else
     if c == 117 then unicode w else
+    if c == 99 then control w else
     if c == 48 then (if begins_digit w then None else Some (0, w)) else with_rest w (plain_escape c)
 
-abbrev pub escaped_set : ℕ → Option (List Range)
+abbrev pub escaped_set : ℕ → Option (List Characters)
 escaped_set c =
     if c == 100 then Some digits else
     if c == 68 then Some no_digits else
@@ -96,10 +106,45 @@ escaped_set c =
     if c == 115 then Some spaces else
     if c == 83 then Some no_spaces else None
 
-abbrev pub set_or_char : ℕ → Text → Option (List Range) → Read Item
+abbrev pub set_or_char : ℕ → Text → Option (List Characters) → Read Item
 set_or_char c w (Some rs) = Some (set rs, w)
 set_or_char c w None = next (escaped_char c w) (λ x v. Some (char x, v))
 
+-- what is behind the name, if the text begins with it
+abbrev pub behind : Text → Text → Option Text
+behind [] w = Some w
+behind (n ∷ ns) [] = None
+behind (n ∷ ns) (c ∷ w) = if n == c then behind ns w else None
+
+-- what is behind the closing brace of a name
+abbrev pub name_end : Option Text → Option Text
+name_end None = None
+name_end (Some []) = None
+name_end (Some (c ∷ w)) = if c == 125 then Some w else None
+
+abbrev pub category_or : Category → Option Text → Read Category → Read Category
+category_or k None more = more
+category_or k (Some w) more = Some (k, w)
+
+-- the category with the name that stands before a closing brace
+abbrev pub category_in : List (Text × Category) → Text → Read Category
+category_in [] w = None
+category_in (row ∷ rows) w = category_or row.1 (name_end (behind row.0 w)) (category_in rows w)
+
+-- a category's name, without the property's and the `=` before it
+abbrev pub value : Text → Text
+value w = unwrap_or (behind (codes "General_Category=") w) (unwrap_or (behind (codes "gc=") w) w)
+
+-- a category in braces
+abbrev pub category : Text → Read Category
+category [] = None
+category (c ∷ w) = if c == 123 then category_in names (value w) else None
+
+abbrev pub property : Bool → Text → Read Item
+property negated w = next (category w) (λ k v. Some (set (Property k negated ∷ []), v))
+
 abbrev pub escape : Text → Read Item
 escape [] = None
-escape (c ∷ w) = set_or_char c w (escaped_set c)
+escape (c ∷ w) =
+    if c == 112 then property false w else
+    if c == 80 then property true w else set_or_char c w (escaped_set c)

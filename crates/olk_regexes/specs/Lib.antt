@@ -1,4 +1,5 @@
 pub mod Built
+pub mod Categories
 pub mod Class
 pub mod Classes
 pub mod Counts

@@ -6,7 +6,7 @@ use Rattle.olk_regexes.specs.Language.{Expr, blank, one, seq, alt, star}
 -- how many marks it has: one a sequence and one a star
 abbrev pub marks_of : Expr → ℕ
 marks_of blank = 0
-marks_of (one negated ranges) = 0
+marks_of (one negated members) = 0
 marks_of (seq p q) = 1 + marks_of p + marks_of q
 marks_of (alt p q) = marks_of p + marks_of q
 marks_of (star p) = 1 + marks_of p
@@ -14,7 +14,7 @@ marks_of (star p) = 1 + marks_of p
 -- how deep its tree is
 abbrev pub depth_of : Expr → ℕ
 depth_of blank = 0
-depth_of (one negated ranges) = 0
+depth_of (one negated members) = 0
 depth_of (seq p q) = 1 + max (depth_of p) (depth_of q)
 depth_of (alt p q) = 1 + max (depth_of p) (depth_of q)
 depth_of (star p) = 1 + depth_of p
@@ -22,7 +22,7 @@ depth_of (star p) = 1 + depth_of p
 -- how many parts and ranges it has
 abbrev pub parts_of : Expr → ℕ
 parts_of blank = 1
-parts_of (one negated ranges) = 1 + length ranges
+parts_of (one negated members) = 1 + length members
 parts_of (seq p q) = 1 + parts_of p + parts_of q
 parts_of (alt p q) = 1 + parts_of p + parts_of q
 parts_of (star p) = 1 + parts_of p

@@ -3,6 +3,10 @@ use Rattle.std.specs.Prelude.{◌≡◌, true, false, [], ◌∷◌, Some, None,
 use Rattle.olk_regexes.specs.Language.{blank, one, seq, alt, star}
 use Rattle.olk_regexes.specs.Sets.{range, digits, no_digits, words, no_words, spaces, no_spaces, line_ends}
 use Rattle.olk_regexes.specs.Counts.{counts}
+use Rattle.ucd_category.specs.declared.GeneralCategory.TheVariants.{UppercaseLetter, DecimalNumber}
+use Rattle.ucd_category.specs.declared.GeneralCategoryGroup.TheVariants.{Letter}
+use Rattle.olk_regexes.specs.declared.category.Category.TheVariants.{Single, Group}
+use Rattle.olk_regexes.specs.declared.class.Characters.TheVariants.{Property}
 use Rattle.olk_regexes.specs.Escapes.{char}
 use Rattle.olk_regexes.specs.Syntax.{start, finish, of_item, parse, rule}
 
@@ -48,6 +52,8 @@ pub record Rows_read : Type 0 where
   pub leading_zeros : parse (codes "\\u{0000000041}") ≡ Some (of_item (char 65))
   pub two_surrogates : parse (codes "\\ud83d\\ude00") ≡ Some (of_item (char 128512))
   pub one_surrogate : parse (codes "\\ud83d") ≡ Some (of_item (char 55357))
+  pub a_control : parse (codes "\\cA") ≡ Some (of_item (char 1))
+  pub a_control_by_a_small_letter : parse (codes "\\cz") ≡ Some (of_item (char 26))
   pub a_dot : parse (codes "\\.") ≡ Some (of_item (char 46))
   pub a_slash : parse (codes "\\/") ≡ Some (of_item (char 47))
   pub a_bar : parse (codes "\\|") ≡ Some (of_item (char 124))
@@ -65,13 +71,22 @@ pub record Rows_read : Type 0 where
   pub a_hyphen_by_an_escape : parse (codes "[a\\-c]") ≡ Some (one false (range 97 97 ∷ range 45 45 ∷ range 99 99 ∷ []))
   pub punctuation_in_a_class : parse (codes "[.*^$(|]") ≡ Some (one false (range 46 46 ∷ range 42 42 ∷ range 94 94 ∷ range 36 36 ∷ range 40 40 ∷ range 124 124 ∷ []))
   pub a_range_of_escapes : parse (codes "[\\x61-\\u{63}]") ≡ Some (one false (range 97 99 ∷ []))
+  pub a_range_of_controls : parse (codes "[\\cA-\\cZ]") ≡ Some (one false (range 1 26 ∷ []))
+  pub a_category : parse (codes "\\p{Lu}") ≡ Some (one false (Property (Single UppercaseLetter) false ∷ []))
+  pub a_group_of_categories : parse (codes "\\p{Letter}") ≡ Some (one false (Property (Group Letter) false ∷ []))
+  pub no_category : parse (codes "\\P{L}") ≡ Some (one false (Property (Group Letter) true ∷ []))
+  pub a_category_by_another_name : parse (codes "\\p{digit}") ≡ Some (one false (Property (Single DecimalNumber) false ∷ []))
+  pub a_category_with_the_property : parse (codes "\\p{General_Category=Nd}") ≡ Some (one false (Property (Single DecimalNumber) false ∷ []))
+  pub a_category_with_the_short_name_of_the_property : parse (codes "\\p{gc=Nd}") ≡ Some (one false (Property (Single DecimalNumber) false ∷ []))
+  pub a_category_in_a_class : parse (codes "[\\p{Nd}_]") ≡ Some (one false (Property (Single DecimalNumber) false ∷ range 95 95 ∷ []))
+  pub no_category_in_a_negated_class : parse (codes "[^\\P{Nd}]") ≡ Some (one true (Property (Single DecimalNumber) true ∷ []))
   pub large_counts : counts (codes "{9000000,10000000}") ≡ Some ((1000000, Some 1000000), [])
   pub no_look_ahead : rule (codes "a") ≡ Some (of_item (char 97), None)
   pub a_look_ahead_at_the_start : rule (codes "^(?!a)b") ≡ Some (seq start (of_item (char 98)), Some (seq start (of_item (char 97))))
   pub alternatives_ahead : rule (codes "^(?!a$|b)c$") ≡ Some (seq start (seq (of_item (char 99)) finish), Some (seq start (alt (seq (of_item (char 97)) finish) (of_item (char 98)))))
   pub a_group_ahead : rule (codes "^(?!(a)*)") ≡ Some (seq start blank, Some (seq start (star (of_item (char 97)))))
 
--- What is not of the syntax, and what of it is not read: assertions but `^` and `$`, references, properties and names.
+-- What is not of the syntax, and what of it is not read: assertions but `^` and `$`, references, names, and properties other than General_Category.
 pub record Rows_refused : Type 0 where
   pub two_quantifiers : parse (codes "a**") ≡ None
   pub a_quantifier_alone : parse (codes "*") ≡ None
@@ -101,8 +116,20 @@ pub record Rows_refused : Type 0 where
   pub a_named_reference : parse (codes "\\k<a>") ≡ None
   pub a_boundary : parse (codes "\\b") ≡ None
   pub no_boundary : parse (codes "\\B") ≡ None
-  pub a_property : parse (codes "\\p{L}") ≡ None
-  pub a_control : parse (codes "\\cA") ≡ None
+  pub an_unknown_property : parse (codes "\\p{Foo}") ≡ None
+  pub a_category_in_small_letters : parse (codes "\\p{l}") ≡ None
+  pub a_category_with_more_behind_it : parse (codes "\\p{Lu1}") ≡ None
+  pub a_script : parse (codes "\\p{Script=Greek}") ≡ None
+  pub a_binary_property : parse (codes "\\p{Alphabetic}") ≡ None
+  pub no_name_of_a_property : parse (codes "\\p{}") ≡ None
+  pub no_value_of_a_property : parse (codes "\\p{gc=}") ≡ None
+  pub an_open_property : parse (codes "\\p{L") ≡ None
+  pub a_property_without_braces : parse (codes "\\pL") ≡ None
+  pub a_range_from_a_property : parse (codes "[\\p{L}-z]") ≡ None
+  pub a_range_to_a_property : parse (codes "[a-\\p{L}]") ≡ None
+  pub a_control_alone : parse (codes "\\c") ≡ None
+  pub a_control_by_a_digit : parse (codes "\\c1") ≡ None
+  pub a_control_by_a_digit_in_a_class : parse (codes "[\\c1]") ≡ None
   pub a_look_ahead : parse (codes "(?=a)") ≡ None
   pub a_negative_look_ahead : parse (codes "(?!a)") ≡ None
   pub a_look_behind : parse (codes "(?<=a)") ≡ None

@@ -5,10 +5,11 @@ use Rattle.std.specs.Borrow.{Bor}
 use Rattle.olk_regexes.specs.Language.{Text, Expr, one}
 use Rattle.olk_regexes.specs.Escapes as escapes
 use Rattle.olk_regexes.specs.Counts.{Counts}
+use Rattle.olk_regexes.specs.declared.category.Category.{Category}
 use Rattle.olk_regexes.specs.declared.class.Class.{Class}
-use Rattle.olk_regexes.specs.declared.class.Range.{Range}
+use Rattle.olk_regexes.specs.declared.class.Characters.{Characters}
 use Rattle.olk_regexes.specs.declared.escapes.Item.{Item}
-use Rattle.olk_regexes.specs.declared.escapes.Item.TheVariants.{Char, Set}
+use Rattle.olk_regexes.specs.declared.escapes.Item.TheVariants.{Char, Set, Property}
 use Rattle.olk_regexes.specs.declared.classes.Member.{Member}
 use Rattle.olk_regexes.specs.declared.classes.Member.TheVariants as member
 
@@ -27,32 +28,42 @@ abbrev pub seen_counts : Option (Counts × Bor Text) → escapes.Read Counts
 seen_counts None = None
 seen_counts (Some p) = Some (p.0, p.1.now)
 
-abbrev pub seen_set : Option (Bor (List Range)) → Option (List Range)
+abbrev pub seen_category : Option (Category × Bor Text) → escapes.Read Category
+seen_category None = None
+seen_category (Some p) = Some (p.0, p.1.now)
+
+-- a table of names
+abbrev pub seen_names : List (Bor Text × Category) → List (Text × Category)
+seen_names [] = []
+seen_names (row ∷ rows) = (row.0.now, row.1) ∷ seen_names rows
+
+abbrev pub seen_set : Option (Bor (List Characters)) → Option (List Characters)
 seen_set None = None
 seen_set (Some rs) = Some rs.now
 
 abbrev pub item_of : Item → escapes.Item
 item_of (Char c) = escapes.char c
 item_of (Set rs) = escapes.set rs.now
+item_of (Property p) = escapes.set (p ∷ [])
 
 abbrev pub seen_item : Option (Item × Bor Text) → escapes.Read escapes.Item
 seen_item None = None
 seen_item (Some p) = Some (item_of p.0, p.1.now)
 
-abbrev pub ranges_of : Member → List Range
-ranges_of (member.One r) = r ∷ []
-ranges_of (member.Set rs) = rs.now
+abbrev pub members_of : Member → List Characters
+members_of (member.One r) = r ∷ []
+members_of (member.Set rs) = rs.now
 
-abbrev pub seen_member : Option (Member × Bor Text) → escapes.Read (List Range)
+abbrev pub seen_member : Option (Member × Bor Text) → escapes.Read (List Characters)
 seen_member None = None
-seen_member (Some p) = Some (ranges_of p.0, p.1.now)
+seen_member (Some p) = Some (members_of p.0, p.1.now)
 
-abbrev pub seen_ranges : Option (Vec Range Global × Bor Text) → escapes.Read (List Range)
-seen_ranges None = None
-seen_ranges (Some p) = Some (p.0.items, p.1.now)
+abbrev pub seen_members : Option (Vec Characters Global × Bor Text) → escapes.Read (List Characters)
+seen_members None = None
+seen_members (Some p) = Some (p.0.items, p.1.now)
 
 abbrev pub expr_of_class : Class → Expr
-expr_of_class k = one k.negated k.ranges.items
+expr_of_class k = one k.negated k.members.items
 
 abbrev pub seen_class : Option (Class × Bor Text) → escapes.Read Expr
 seen_class None = None

@@ -10,7 +10,7 @@ use Rattle.olk_regexes.specs.declared.tree.Tree.{Tree, Blank, One, Then', Or', R
 
 abbrev pub expr_of : Tree → Expr
 expr_of Blank = blank
-expr_of (One k) = one k.negated k.ranges.items
+expr_of (One k) = one k.negated k.members.items
 expr_of (Then' _ p _ q) = seq (expr_of p) (expr_of q)
 expr_of (Or' _ p _ q) = alt (expr_of p) (expr_of q)
 expr_of (Repeat' _ p k) = repeated (expr_of p) k

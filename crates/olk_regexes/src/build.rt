@@ -12,13 +12,13 @@ use crate::tree::Tree;
 use std::alloc::{AllocError, Global};
 
 fn of_class(alloc: Global, class: &Class) -> Result<Part, AllocError>
-    requires { fits (one class.now.negated class.now.ranges.items) ≡ true }
-    ensures { IfOk result (λ p. expr p.regex ≡ one class.now.negated class.now.ranges.items) }
+    requires { fits (one class.now.negated class.now.members.items) ≡ true }
+    ensures { IfOk result (λ p. expr p.regex ≡ one class.now.negated class.now.members.items) }
 {
-    let ranges = Vec::from_slice(alloc, &class.ranges)?;
+    let members = Vec::from_slice(alloc, &class.members)?;
     Ok(Part::one(Class {
         negated: class.negated,
-        ranges,
+        members,
     }))
 }
 

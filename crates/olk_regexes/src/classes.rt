@@ -1,17 +1,17 @@
 //! Reading a class in brackets.
 ghost use Rattle.std.specs.Prelude.{◌≡◌, ◌++◌, OnOk, IfOk};
 ghost use Rattle.olk_regexes.specs.Classes.{class_escape, class_item, range_end, up_to, member_from, member, class_end, all_members, class};
-ghost use Rattle.olk_regexes.specs.Seen.{seen, seen_item, item_of, seen_member, ranges_of, seen_ranges, seen_class};
+ghost use Rattle.olk_regexes.specs.Seen.{seen, seen_item, item_of, seen_member, members_of, seen_members, seen_class};
 
-use crate::class::{Class, Range};
+use crate::class::{Characters, Class};
 use crate::escapes::{Item, read_escape};
 use std::alloc::{AllocError, Global};
 
 /// A part of a class.
 #[derive(Drop)]
 pub enum Member {
-    One(Range),
-    Set(&'static [Range]),
+    One(Characters),
+    Set(&'static [Characters]),
 }
 
 /// What an escape of a class stands for, and what is behind it. The text begins behind the
@@ -53,11 +53,11 @@ fn up_to(low: u32, high: Item, text: &[char]) -> Option<(Member, &[char])>
 {
     match high {
         Item::Char(high) => if low <= high {
-            Some((Member::One(Range { low, high }), text))
+            Some((Member::One(Characters::Range { low, high }), text))
         } else {
             None
         },
-        Item::Set(_) => None,
+        Item::Set(_) | Item::Property(_) => None,
     }
 }
 
@@ -70,13 +70,15 @@ fn read_member_from<'a>(
     ensures { seen_member result ≡ member_from (item_of item) text.now (seen end.entry) }
 {
     match (item, end) {
-        (Item::Char(c), None) => Some((Member::One(Range { low: c, high: c }), text)),
+        (Item::Char(c), None) => Some((Member::One(Characters::Range { low: c, high: c }), text)),
         (Item::Char(c), Some(behind)) => {
             let (high, rest) = read_class_item(behind)?;
             up_to(c, high, rest)
         }
-        (Item::Set(ranges), None) => Some((Member::Set(ranges), text)),
+        (Item::Set(set), None) => Some((Member::Set(set), text)),
         (Item::Set(_), Some(_)) => None,
+        (Item::Property(property), None) => Some((Member::One(property), text)),
+        (Item::Property(_), Some(_)) => None,
     }
 }
 
@@ -98,28 +100,31 @@ fn class_end(text: &[char]) -> Option<&[char]>
     }
 }
 
-fn add(ranges: &mut Vec<Range>, member: Member) -> Result<(), AllocError>
-    ensures { OnOk result (ranges.new.items ≡ ranges.old.items ++ ranges_of member) }
+fn add(members: &mut Vec<Characters>, member: Member) -> Result<(), AllocError>
+    ensures { OnOk result (members.new.items ≡ members.old.items ++ members_of member) }
 {
     match member {
-        Member::One(range) => ranges.push(range)?,
-        Member::Set(more) => ranges.extend_from_slice(more)?,
+        Member::One(characters) => members.push(characters)?,
+        Member::Set(more) => members.extend_from_slice(more)?,
     }
     Ok(())
 }
 
-fn read_members(alloc: Global, text: &[char]) -> Result<Option<(Vec<Range>, &[char])>, AllocError>
-    ensures { IfOk result (λ r. seen_ranges r ≡ all_members text.now) }
+fn read_members(
+    alloc: Global,
+    text: &[char],
+) -> Result<Option<(Vec<Characters>, &[char])>, AllocError>
+    ensures { IfOk result (λ r. seen_members r ≡ all_members text.now) }
 {
-    let mut ranges = Vec::new(alloc);
+    let mut members = Vec::new(alloc);
     let mut rest = text;
     for _ in 0..text.len() + 1 {
         if let Some(behind) = class_end(rest) {
-            return Ok(Some((ranges, behind)));
+            return Ok(Some((members, behind)));
         }
         match read_member(rest) {
             Some((member, behind)) => {
-                add(&mut ranges, member)?;
+                add(&mut members, member)?;
                 rest = behind;
             }
             None => return Ok(None),
@@ -137,12 +142,12 @@ fn read_members(alloc: Global, text: &[char]) -> Result<Option<(Vec<Range>, &[ch
 pub fn read_class(alloc: Global, text: &[char]) -> Result<Option<(Class, &[char])>, AllocError>
     ensures { IfOk result (λ r. seen_class r ≡ class text.now) }
 {
-    let (negated, members) = match text {
+    let (negated, inside) = match text {
         ['^', rest @ ..] => (true, rest),
         _ => (false, text),
     };
-    match read_members(alloc, members)? {
-        Some((ranges, rest)) => Ok(Some((Class { negated, ranges }, rest))),
+    match read_members(alloc, inside)? {
+        Some((members, rest)) => Ok(Some((Class { negated, members }, rest))),
         None => Ok(None),
     }
 }

@@ -1,19 +1,27 @@
 //! Where `^` and `$` stand.
 ghost use Rattle.std.specs.Prelude.{◌≡◌};
 ghost use Rattle.std.specs.List.{list_all};
-ghost use lib.Dec.{leb};
-ghost use Rattle.olk_regexes.specs.Edges.{is_edge, has_characters, starts_well, ends_well, characters, is_placed};
+ghost use Rattle.olk_regexes.specs.Edges.{is_just, is_edge, are_characters, has_characters, starts_well, ends_well, characters, is_placed};
 ghost use Rattle.olk_regexes.specs.Marks.{expr};
 
-use crate::class::{Class, Range};
+use crate::class::{Characters, Class};
 use crate::regex::Regex;
 use crate::search::{END, START};
 
-fn is_edge(edge: u32, class: &Class) -> bool
-    ensures { result ≡ is_edge edge class.now.negated class.now.ranges.items }
+fn is_just(edge: u32, characters: &Characters) -> bool
+    ensures { result ≡ is_just edge characters.now }
 {
-    match class.ranges.as_slice() {
-        [range] => !class.negated && range.low == edge && range.high == edge,
+    match characters {
+        Characters::Range { low, high } => *low == edge && *high == edge,
+        Characters::Property { .. } => false,
+    }
+}
+
+fn is_edge(edge: u32, class: &Class) -> bool
+    ensures { result ≡ is_edge edge class.now.negated class.now.members.items }
+{
+    match class.members.as_slice() {
+        [member] => !class.negated && is_just(edge, member),
         _ => false,
     }
 }
@@ -50,19 +58,28 @@ fn ends_well(last: bool, regex: &Regex) -> bool
     }
 }
 
-fn are_characters(ranges: &[Range]) -> bool
-    ensures { result ≡ list_all (λ r. leb r.high 1114111) ranges.now }
+fn are_characters(characters: &Characters) -> bool
+    ensures { result ≡ are_characters characters.now }
 {
-    ranges.iter().all(|range| range.high <= 0x10_ffff)
+    match characters {
+        Characters::Range { high, .. } => *high <= 0x10_ffff,
+        Characters::Property { .. } => true,
+    }
+}
+
+fn all_are_characters(members: &[Characters]) -> bool
+    ensures { result ≡ list_all are_characters members.now }
+{
+    members.iter().all(|member| are_characters(member))
 }
 
 fn has_characters(class: &Class) -> bool
-    ensures { result ≡ has_characters class.now.negated class.now.ranges.items }
+    ensures { result ≡ has_characters class.now.negated class.now.members.items }
 {
     if class.negated {
         true
     } else {
-        are_characters(&class.ranges)
+        all_are_characters(&class.members)
     }
 }
 

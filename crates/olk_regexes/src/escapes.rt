@@ -1,9 +1,10 @@
 //! Reading an escape.
 ghost use Rattle.std.specs.Prelude.{◌≡◌, ◌≤◌, ◌<◌, IfSome};
-ghost use Rattle.olk_regexes.specs.Escapes.{two_hex, four_hex, trail, paired, code_from, code_end, braced_code, unicode, begins_digit, plain_escape, escaped_char, escaped_set, escape};
+ghost use Rattle.olk_regexes.specs.Escapes.{two_hex, four_hex, trail, paired, code_from, code_end, braced_code, unicode, control, begins_digit, plain_escape, escaped_char, escaped_set, property, escape};
 ghost use Rattle.olk_regexes.specs.Seen.{seen_number, seen_pair, seen_set, seen_item};
 
-use crate::class::Range;
+use crate::class::Characters;
+use crate::names::read_category;
 use crate::sets::{DIGITS, NO_DIGITS, NO_SPACES, NO_WORDS, SPACES, WORDS};
 
 // The last character.
@@ -13,7 +14,8 @@ const LAST: u32 = 0x10_ffff;
 #[derive(Drop)]
 pub enum Item {
     Char(u32),
-    Set(&'static [Range]),
+    Set(&'static [Characters]),
+    Property(Characters),
 }
 
 fn read_two_hex(text: &[char]) -> Option<(u32, &[char])>
@@ -129,6 +131,19 @@ fn read_unicode(text: &[char]) -> Option<(u32, &[char])>
     }
 }
 
+fn read_control(text: &[char]) -> Option<(u32, &[char])>
+    ensures { seen_number result ≡ control text.now }
+{
+    match text {
+        [c, rest @ ..] => if c.is_ascii_alphabetic() {
+            Some((*c as u32 % 32, rest))
+        } else {
+            None
+        },
+        [] => None,
+    }
+}
+
 fn begins_digit(text: &[char]) -> bool
     ensures { result ≡ begins_digit text.now }
 {
@@ -159,6 +174,7 @@ fn read_char(c: char, text: &[char]) -> Option<(u32, &[char])>
     match c {
         'x' => read_two_hex(text),
         'u' => read_unicode(text),
+        'c' => read_control(text),
         '0' => if begins_digit(text) {
             None
         } else {
@@ -168,7 +184,7 @@ fn read_char(c: char, text: &[char]) -> Option<(u32, &[char])>
     }
 }
 
-fn escaped_set(c: char) -> Option<&'static [Range]>
+fn escaped_set(c: char) -> Option<&'static [Characters]>
     ensures { seen_set result ≡ escaped_set c }
 {
     match c {
@@ -182,11 +198,23 @@ fn escaped_set(c: char) -> Option<&'static [Range]>
     }
 }
 
+fn read_property(negated: bool, text: &[char]) -> Option<(Item, &[char])>
+    ensures { seen_item result ≡ property negated text.now }
+{
+    let (category, rest) = read_category(text)?;
+    Some((
+        Item::Property(Characters::Property { category, negated }),
+        rest,
+    ))
+}
+
 /// What an escape stands for, and what is behind it. The text begins behind the backslash.
 pub fn read_escape(text: &[char]) -> Option<(Item, &[char])>
     ensures { seen_item result ≡ escape text.now }
 {
     match text {
+        ['p', rest @ ..] => read_property(false, rest),
+        ['P', rest @ ..] => read_property(true, rest),
         [c, rest @ ..] => match escaped_set(*c) {
             Some(set) => Some((Item::Set(set), rest)),
             None => {

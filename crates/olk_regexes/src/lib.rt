@@ -4,11 +4,13 @@
 #![tactic(auto)]
 
 mod build;
+mod category;
 mod class;
 mod classes;
 mod counts;
 mod edges;
 mod escapes;
+mod names;
 mod part;
 mod pattern;
 mod place;

@@ -52,15 +52,15 @@ impl Part {
 
     /// Matches a character of the class.
     pub fn one(class: Class) -> Part
-        requires { fits (one class.negated class.ranges.items) ≡ true }
-        ensures { expr result.regex ≡ one class.negated class.ranges.items }
+        requires { fits (one class.negated class.members.items) ≡ true }
+        ensures { expr result.regex ≡ one class.negated class.members.items }
     {
-        let ranges = class.ranges.len();
+        let members = class.members.len();
         Part {
             regex: Regex::One(class),
             marks: 0,
             depth: 0,
-            parts: 1 + ranges,
+            parts: 1 + members,
             empty: false,
         }
     }

@@ -48,7 +48,6 @@ fn escape_reason(text: &[char]) -> Reason {
         ['1'..='9' | 'k', ..] => Reason::Reference,
         ['b' | 'B', ..] => Reason::Boundary,
         ['p' | 'P', ..] => Reason::Property,
-        ['c', ..] => Reason::Control,
         _ => Reason::Escape,
     }
 }
@@ -60,7 +59,6 @@ fn class_escape_reason(text: &[char]) -> Reason {
     }
     match text {
         ['p' | 'P', ..] => Reason::Property,
-        ['c', ..] => Reason::Control,
         _ => Reason::Escape,
     }
 }

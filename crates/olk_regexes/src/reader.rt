@@ -6,7 +6,7 @@ ghost use Rattle.olk_regexes.specs.Escapes.{char};
 ghost use Rattle.olk_regexes.specs.Seen.{seen, item_of};
 ghost use Rattle.olk_regexes.specs.Trees.{expr_of, seen_tree};
 
-use crate::class::{Class, Range};
+use crate::class::{Characters, Class};
 use crate::classes::read_class;
 use crate::counts::read_counts;
 use crate::escapes::{Item, read_escape};
@@ -37,11 +37,12 @@ fn group_body(text: &[char]) -> Option<&[char]>
     }
 }
 
-fn ranges(alloc: Global, negated: bool, ranges: &[Range]) -> Result<Tree, AllocError>
-    ensures { IfOk result (λ t. expr_of t ≡ one negated ranges.now) }
+// A character of one of the members, or, negated, of none.
+fn one_of(alloc: Global, negated: bool, members: &[Characters]) -> Result<Tree, AllocError>
+    ensures { IfOk result (λ t. expr_of t ≡ one negated members.now) }
 {
-    let ranges = Vec::from_slice(alloc, ranges)?;
-    Ok(Tree::One(Class { negated, ranges }))
+    let members = Vec::from_slice(alloc, members)?;
+    Ok(Tree::One(Class { negated, members }))
 }
 
 /// The character, or what stands for `^` or `$`.
@@ -52,7 +53,7 @@ fn ranges(alloc: Global, negated: bool, ranges: &[Range]) -> Result<Tree, AllocE
 pub fn one(alloc: Global, c: u32) -> Result<Tree, AllocError>
     ensures { IfOk result (λ t. expr_of t ≡ of_item (char c)) }
 {
-    ranges(alloc, false, &[Range { low: c, high: c }])
+    one_of(alloc, false, &[Characters::Range { low: c, high: c }])
 }
 
 fn of_item(alloc: Global, item: Item) -> Result<Tree, AllocError>
@@ -60,7 +61,8 @@ fn of_item(alloc: Global, item: Item) -> Result<Tree, AllocError>
 {
     match item {
         Item::Char(c) => one(alloc, c),
-        Item::Set(set) => ranges(alloc, false, set),
+        Item::Set(set) => one_of(alloc, false, set),
+        Item::Property(property) => one_of(alloc, false, &[property]),
     }
 }
 
@@ -76,7 +78,7 @@ fn read_simple(alloc: Global, c: char, text: &[char]) -> Result<Option<(Tree, &[
     ensures { IfOk result (λ r. seen_tree r ≡ simple c text.now) }
 {
     match c {
-        '.' => Ok(Some((ranges(alloc, true, &LINE_ENDS)?, text))),
+        '.' => Ok(Some((one_of(alloc, true, &LINE_ENDS)?, text))),
         '[' => match read_class(alloc, text)? {
             Some((class, rest)) => Ok(Some((Tree::One(class), rest))),
             None => Ok(None),

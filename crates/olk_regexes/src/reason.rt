@@ -20,8 +20,6 @@ pub enum Reason {
     Boundary,
     /// `\p{..}` and `\P{..}`.
     Property,
-    /// `\cA`.
-    Control,
     /// Another escape that is not of the syntax.
     Escape,
     /// A class that is not closed, or has a range or an escape that is not of the syntax.
@@ -79,7 +77,7 @@ impl Reason {
             Reason::LookAhead | Reason::LookBehind => true,
             Reason::NamedGroup | Reason::Group => true,
             Reason::Reference | Reason::Boundary => true,
-            Reason::Property | Reason::Control => true,
+            Reason::Property => true,
             Reason::TooLarge | Reason::Edge => true,
             Reason::Escape | Reason::Class => false,
             Reason::NothingToRepeat | Reason::Quantifier => false,
@@ -98,7 +96,6 @@ impl Display for Reason {
             Reason::Reference => "a reference to a group is not supported",
             Reason::Boundary => "a word boundary is not supported",
             Reason::Property => "a property of characters is not supported",
-            Reason::Control => "a control escape is not supported",
             Reason::Escape => "not an escape",
             Reason::Class => "not a class of characters",
             Reason::NothingToRepeat => "nothing to repeat",

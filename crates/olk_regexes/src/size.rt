@@ -166,7 +166,7 @@ pub fn measure(tree: &Tree) -> Option<Size>
         Tree::One(class) => bounded(Size {
             marks: 0,
             depth: 0,
-            parts: 1 + class.ranges.len(),
+            parts: 1 + class.members.len(),
         }),
         Tree::Then { first, second } => match measure(second) {
             Some(last) => match measure(first) {

@@ -29,7 +29,7 @@ fn or(a: bool, b: bool) -> bool
 
 // Whether a match that begins before the character ends behind it.
 fn begins(enter: bool, class: &Class, c: u32) -> bool
-    ensures { result ≡ (enter && has class.now.negated class.now.ranges.items c) }
+    ensures { result ≡ (enter && has class.now.negated class.now.members.items c) }
 {
     enter && class.has(c)
 }

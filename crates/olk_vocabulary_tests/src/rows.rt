@@ -203,6 +203,18 @@ pattern | "^🐲*$" | "🐲🐲" | -
 pattern | "^🐲*$" | "🐉" | "🐉" does not match "^🐲*$"
 pattern | "^.$" | "𝄞" | -
 pattern | "[\"]" | "'" | "'" does not match "[\"]"
+pattern | "^\\cC$" | "\u0003" | -
+pattern | "^\\cC$" | "C" | "C" does not match "^\\cC$"
+pattern | "^\\p{Letter}+$" | "été" | -
+pattern | "^\\p{Letter}+$" | "e1" | "e1" does not match "^\\p{Letter}+$"
+pattern | "\\p{Letter}cole" | "l'école" | -
+pattern | "^\\p{digit}+$" | "৪২" | -
+pattern | "^\\p{digit}+$" | "-" | "-" does not match "^\\p{digit}+$"
+pattern | "\\P{L}" | "é1" | -
+pattern | "\\P{L}" | "é" | "é" does not match "\\P{L}"
+pattern | "[^\\p{L}]" | "é1" | -
+pattern | "[^\\p{L}]" | "é" | "é" does not match "[^\\p{L}]"
+pattern | "\\p{Script=Greek}" | "α" | refused
 pattern | "" | "" | -
 pattern | "^(?!a)" | "b" | -
 pattern | "^(?!a)" | "ab" | "ab" does not match "^(?!a)"
