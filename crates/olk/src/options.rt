@@ -52,7 +52,7 @@ impl Options<'_> {
 
 const READ_TWICE: &str = "the standard input cannot be both the schema and an instance";
 
-const VERSION: &str = "11.1.0";
+const VERSION: &str = "12.0.0";
 
 const AFTER_HELP: &str = "\
 A path may be - for the standard input.

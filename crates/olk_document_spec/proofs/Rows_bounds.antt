@@ -1,9 +1,10 @@
 use Rattle.std.proofs.Common.{refl}
+use Rattle.std.specs.Float.Ieee.{le}
 use Rattle.olk_document_spec.proofs.Computed.{computed}
 use Rattle.olk_document_spec.specs.Rows_bounds.{Rows_bounds}
 
 pub rows_bounds : Rows_bounds
-unfolding computed
+unfolding computed le
 rows_bounds = record {
   one_or_more_holds_0 = λ u. (refl, refl, refl);
   one_or_more_holds_1 = λ u. (refl, refl, refl);

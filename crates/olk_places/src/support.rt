@@ -195,14 +195,14 @@ fn is_kind_of_draft_3(kind: &Value) -> bool {
 
 /// Whether the standard allows a keyword this number, which is not read.
 fn has_unsupported_number(name: &str, number: &Number) -> bool {
-    let float = number.as_f64().unwrap_or(-1.0);
-    if number.as_u64().is_some() {
-        return false;
-    }
-    if is_limit(name) {
-        return float >= 0.0 && JsonNumber::of(number).is_integral();
-    }
-    name == "multipleOf" && float > 0.0 && Divisor::of(number).is_none()
+    let value = JsonNumber::of(number);
+    let is_positive = number.as_f64().is_some_and(|x| 0.0 < x);
+    let is_read = if is_limit(name) {
+        value.natural().is_some() || !value.is_integral()
+    } else {
+        name != "multipleOf" || Divisor::of(number).is_some()
+    };
+    is_positive && !is_read
 }
 
 /// Whether a keyword wants a whole number that is not negative.
