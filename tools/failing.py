@@ -2,6 +2,7 @@
 import argparse
 import json
 import os
+import re
 import shutil
 import subprocess
 import sys
@@ -13,10 +14,28 @@ from dataclasses import dataclass
 TOOLS = os.path.dirname(os.path.abspath(__file__))
 TOP = os.path.dirname(TOOLS)
 ASKS = ["valid", "first", "errors", "evaluate"]
+# What failing.c tells: how many growths, reads and writes there were.
+COUNTS = re.compile(r"\d+ \d+ \d+")
 # So many faults of a case are told.
 TOLD = 3
 # Of so many runs one is made where few are wanted.
 QUICK = 15
+
+
+OF_DRAFT_7 = {
+    "$schema": "http://json-schema.org/draft-07/schema#",
+    "definitions": {"part": {"type": ["integer", "string"], "multipleOf": 0.5}},
+    "properties": {"a": {"items": [{"$ref": "#/definitions/part"}], "additionalItems": {"pattern": "^\\p{L}+$"}}},
+    "additionalProperties": False,
+}
+OF_FILES = {
+    "schema.json": {"$schema": "http://json-schema.org/draft-04/schema#", "properties": {"at": {"$ref": "place.json#/place"}}},
+    "place.json": {
+        "place": {"properties": {"x": {"$ref": "number.json"}, "y": {"uniqueItems": True}}, "required": ["x"], "type": "object"},
+    },
+    "number.json": {"exclusiveMinimum": True, "minimum": 0},
+}
+NOT_SUPPORTED = {"items": [1], "not": {"$ref": "#"}, "properties": {"a": {"pattern": "(?=a)"}, "b": {"$dynamicRef": "#a"}}}
 
 
 def compact(value):
@@ -108,13 +127,15 @@ class Ran:
     lines: list
     # How many growths, reads and writes there were before each write, and in all.
     counts: list
+    # What else is on standard error.
+    told: list
 
 
 class Trials:
     """The cases, each given to a program as it is, and with each of its calls failing that a tool is about."""
 
-    # The crate of the program, and the cases.
-    crate, cases = None, cases()
+    # The crate of the program, what it is told behind its name, and the cases.
+    crate, words, cases = None, [], cases()
 
     def given(self, schema, instance):
         """What the program is given of a case."""
@@ -140,9 +161,11 @@ class Trials:
         said = {"LD_PRELOAD": self.library, **{name: str(number) for name, number in failing.items()}}
         # From a file reads are the same each time.
         with open(self.input, "rb") as given:
-            ran = subprocess.run([self.program], stdin=given, capture_output=True, env=said)
+            ran = subprocess.run([self.program, *self.words], stdin=given, capture_output=True, env=said, cwd=self.room)
         lines = ran.stdout.decode(errors="replace").splitlines(keepends=True)
-        return Ran(ran.returncode, lines, [tuple(map(int, line.split())) for line in ran.stderr.splitlines()])
+        told = ran.stderr.decode(errors="replace").splitlines()
+        counts = [tuple(map(int, it.split())) for it in told if COUNTS.fullmatch(it)]
+        return Ran(ran.returncode, lines, counts, [it for it in told if not COUNTS.fullmatch(it)])
 
     def faults(self, full, failures, pool):
         """What is wrong with each run where anything is."""
@@ -167,7 +190,7 @@ class Trials:
 
     def run_all(self, program, room, pool, step):
         """How many runs of the program there were over all cases, and how many failed."""
-        self.program, self.library, self.input = program, failing_library(room), f"{room}/input"
+        self.program, self.library, self.input, self.room = program, failing_library(room), f"{room}/input", room
         tried = [self.try_case(name, self.given(*case), pool, step) for name, *case in self.cases]
         return [*map(sum, zip(*tried))]
 
@@ -216,5 +239,30 @@ class Lines(Trials):
 
     def fault_of_full(self, full, given):
         if full.status or len(full.lines) != given.count("\n"):
+            return f"status {full.status} after {len(full.lines)} lines"
+        return None
+
+
+class Files(Trials):
+    """The program olk, which is given the files of each case, and a value a line."""
+
+    crate = "olk"
+    words = ["--lines", "--format", "json", "schema.json", "-"]
+    cases = [
+        ("a document of draft 7, with every verdict", {"schema.json": OF_DRAFT_7}, [{"a": [1, "b", 2.5]}, {"a": [], "c": 1}, "{"]),
+        ("a document of draft 4 in three files", OF_FILES, [{"at": {"x": 0, "y": [1, 1]}}, {"at": 5}]),
+        ("what is not supported", {"schema.json": NOT_SUPPORTED}, []),
+        ("a schema that is malformed", {"schema.json": {"items": {"required": ["a", 5]}}}, []),
+        ("a schema that is no JSON", {"schema.json": None}, []),
+    ]
+
+    def given(self, files, values):
+        for name, schema in files.items():
+            with open(f"{self.room}/{name}", "w", encoding="utf-8") as file:
+                file.write("no JSON" if schema is None else compact(schema))
+        return "".join(f"{it if isinstance(it, str) else compact(it)}\n" for it in values)
+
+    def fault_of_full(self, full, given):
+        if full.status not in (1, 2) or len(full.lines) != given.count("\n"):
             return f"status {full.status} after {len(full.lines)} lines"
         return None
