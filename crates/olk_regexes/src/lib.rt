@@ -1,6 +1,6 @@
 //! Regular expressions, as a matcher of texts that takes no memory.
 //!
-//! Stands on the traits of `olk_base`.
+//! Stands on the traits of `olk_base`, and on the table of General_Category in `ucd_category`.
 #![tactic(auto)]
 
 mod build;
