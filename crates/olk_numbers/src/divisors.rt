@@ -3,7 +3,7 @@ ghost use Rattle.std.specs.Prelude.{◌≡◌, ◌≢◌, ◌<◌, ◌≤◌, �
 ghost use Rattle.std.specs.Float.{float_is_finite, is_sign_negative};
 ghost use Rattle.serde_json.specs.View.{number_view};
 ghost use Rattle.olk_numbers.specs.Decimals.{IsShort};
-ghost use Rattle.olk_numbers.specs.Numbers.{num_of, is_integral, whole_part};
+ghost use Rattle.olk_numbers.specs.Numbers.{num_of, whole_part};
 ghost use Rattle.olk_numbers.specs.Multiples.{whole_divisor, double_divisor, divisor_of, whole_is_multiple, decimal_is_multiple, fraction_is_multiple, double_is_multiple};
 
 use crate::decimals::{Decimal, scaled};

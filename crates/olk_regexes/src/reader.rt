@@ -1,6 +1,6 @@
 //! Reading a pattern.
 ghost use Rattle.std.specs.Prelude.{◌≡◌, IfOk};
-ghost use Rattle.olk_regexes.specs.Syntax.{group, ends_sequence, start, finish, of_item, closed, is_plain, repeated_by, simple, choice, alternatives, sequence, item, atom};
+ghost use Rattle.olk_regexes.specs.Syntax.{group, ends_sequence, of_item, closed, is_plain, repeated_by, simple, choice, alternatives, sequence, item, atom};
 ghost use Rattle.olk_regexes.specs.Language.{one, seq, alt};
 ghost use Rattle.olk_regexes.specs.Escapes.{char};
 ghost use Rattle.olk_regexes.specs.Seen.{seen, item_of};

@@ -8,7 +8,7 @@ use Rattle.serde_json.specs.Written.{compact_text}
 use Rattle.olk_spec.specs.Names.{Text, Name}
 use Rattle.olk_spec.specs.Malformed.{items_list}
 use Rattle.olk_spec.specs.Schemas.{listed}
-use Rattle.olk_spec.specs.Bench.{names_kind, is_natural_from, shown, unless}
+use Rattle.olk_spec.specs.Bench.{names_kind, shown, unless}
 use Rattle.olk_numbers.specs.Numbers.{natural}
 use Rattle.olk_spec.specs.Bench as bench
 use Rattle.olk_numbers.specs.Multiples.{divisor_of, is_multiple_of}

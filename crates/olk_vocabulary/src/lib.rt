@@ -1,7 +1,7 @@
 //! The assertion keywords of JSON Schema 2020-12 Validation that hold no schema, as a leaf set.
 //!
-//! Stands on `olk_base`, on the kinds of values and the texts of `olk_bench`, and on the patterns
-//! of `olk_regexes`. Tested by `olk_vocabulary_tests`.
+//! Stands on `olk_base`, on the kinds of values and the texts of `olk_bench`, on the numbers of
+//! `olk_numbers`, and on the patterns of `olk_regexes`. Tested by `olk_vocabulary_tests`.
 #![tactic(auto)]
 
 mod candidates;

@@ -1,6 +1,6 @@
 //! What is said of a value that is not accepted.
 ghost use Rattle.std.specs.Prelude.{◌≡◌, ◌++◌, IfOk, OnOk, string_bytes, codes, map, decimal};
-ghost use Rattle.serde_json.specs.Data.{number, string};
+ghost use Rattle.serde_json.specs.Data.{number};
 ghost use Rattle.serde_json.specs.View.{view};
 ghost use Rattle.serde_json.specs.Written.{compact_text};
 ghost use Rattle.olk_base.specs.Nodes.{data_of};
