@@ -6,7 +6,7 @@ ghost use Rattle.olk.specs.Statuses.{worse};
 use crate::console::{Console, Status};
 use crate::options::{Options, STANDARD_INPUT};
 use crate::reading::read_value;
-use crate::schema::{note_draft, read_schema};
+use crate::schema::{Drafts, find_draft, read_schema};
 use olk_document_build::REFERENCE_LIMIT;
 use olk_drafts::{Draft, Source, add_file, translate};
 use olk_places::{Place, Visible};
@@ -37,7 +37,7 @@ struct OtherFile {
 }
 
 /// The document that the schema is, with the files to which it refers. Where one of these holds no
-/// value, that is said.
+/// value, or a schema is of no draft that is known, that is said.
 ///
 /// A reference to a file that can't be read stays as it is.
 ///
@@ -56,12 +56,16 @@ pub fn read_document<T: Files + Input + Print + Eprint + AllocGlobal>(
     let Some(schema) = read_schema(rt, console, options.schema)? else {
         return Ok(None);
     };
-    if !options.is_quiet {
-        note_draft(console, options.schema, &schema)?;
-    }
+    let drafts = Drafts {
+        asked: options.draft,
+        default: Draft::Draft202012,
+    };
+    let Some(draft) = find_draft(console, options.schema, &schema, drafts)? else {
+        return Ok(None);
+    };
     let mut reader = Reader {
-        main: MainFile::new(options.schema, &schema),
-        is_quiet: options.is_quiet,
+        main: MainFile::new(options.schema, draft),
+        asked: options.draft,
         known: BTreeSet::new(rt.alloc()),
         files: Vec::new(rt.alloc()),
     };
@@ -76,7 +80,8 @@ pub fn read_document<T: Files + Input + Print + Eprint + AllocGlobal>(
 #[derive(Drop)]
 struct Reader<'p> {
     main: MainFile<'p>,
-    is_quiet: bool,
+    /// The draft that was asked for.
+    asked: Option<Draft>,
     /// The names of those that were looked for.
     known: BTreeSet<String>,
     files: Vec<OtherFile>,
@@ -84,7 +89,8 @@ struct Reader<'p> {
 
 impl Reader<'_> {
     /// Reads the files to which the schema refers, those to which they refer, and so on, as far as
-    /// references are followed. Gives false where one holds no value, which is said.
+    /// references are followed. Gives false where one holds no schema that can be read, which is
+    /// said.
     fn read_files<T: Files + Input + Print + Eprint + AllocGlobal>(
         &mut self,
         rt: &T,
@@ -130,7 +136,7 @@ impl Reader<'_> {
     }
 
     /// Reads the file of this name, if it can be read, and appends the names of those to which it
-    /// refers. Gives false where it holds no value, which is said.
+    /// refers. Gives false where it holds no schema that can be read, which is said.
     fn read_file<T: Files + Input + Print + Eprint + AllocGlobal>(
         &mut self,
         rt: &T,
@@ -153,26 +159,33 @@ impl Reader<'_> {
         let Some(schema) = read_value(console, place, &text)? else {
             return Ok(false);
         };
-        if !self.is_quiet {
-            note_draft(console, path.as_str(), &schema)?;
-        }
-        self.append(rt.alloc(), name, schema, behind)?;
+        let Some(draft) = find_draft(console, path.as_str(), &schema, self.drafts())? else {
+            return Ok(false);
+        };
+        let file = OtherFile {
+            name: String::from_str(rt.alloc(), name)?,
+            draft,
+            schema,
+        };
+        self.append(rt.alloc(), file, behind)?;
         Ok(true)
+    }
+
+    /// By which draft the other files' schemas are read.
+    fn drafts(&self) -> Drafts {
+        Drafts {
+            asked: self.asked,
+            default: self.main.draft,
+        }
     }
 
     /// Appends a file, and the names of the files to which it refers.
     fn append(
         &mut self,
         alloc: Global,
-        name: &str,
-        schema: Value,
+        file: OtherFile,
         behind: &mut Vec<String>,
     ) -> Result<(), AllocError> {
-        let file = OtherFile {
-            name: String::from_str(alloc, name)?,
-            draft: draft_or(&schema, self.main.draft),
-            schema,
-        };
         let none = BTreeSet::new(alloc);
         behind.append(
             &mut file
@@ -185,13 +198,13 @@ impl Reader<'_> {
 }
 
 impl<'p> MainFile<'p> {
-    fn new(path: &'p str, schema: &Value) -> MainFile<'p> {
+    fn new(path: &'p str, draft: Draft) -> MainFile<'p> {
         let path = if path == STANDARD_INPUT { "" } else { path };
         let name = last_segment(path);
         MainFile {
             folder: path.strip_suffix(name).unwrap_or(""),
             name,
-            draft: draft_or(schema, Draft::Draft202012),
+            draft,
         }
     }
 
@@ -215,14 +228,6 @@ impl OtherFile {
             main: main.name,
             files,
         }
-    }
-}
-
-/// The draft that a schema names, 2020-12 where it names one that isn't known, and else this one.
-fn draft_or(schema: &Value, draft: Draft) -> Draft {
-    match schema.get("$schema") {
-        Some(_) => Draft::of(schema).unwrap_or(Draft::Draft202012),
-        None => draft,
     }
 }
 

@@ -1,6 +1,7 @@
 //! What a command line asks for.
 use clap::error::ErrorKind;
 use clap::{Arg, ArgAction, ArgMatches, Command, Error};
+use olk_drafts::Draft;
 use std::alloc::{AllocError, Global};
 
 /// How answers are written.
@@ -33,6 +34,8 @@ pub struct Options<'w> {
     pub schema: &'w str,
     /// The instances' paths. Where there is none, the schema alone is checked.
     pub instances: Vec<&'w str>,
+    /// The draft by which schemas are read, and else it is that of their `$schema`.
+    pub draft: Option<Draft>,
     /// Each line of an instance is a value, and else the whole.
     pub has_lines: bool,
     /// What is asked.
@@ -52,7 +55,7 @@ impl Options<'_> {
 
 const READ_TWICE: &str = "the standard input cannot be both the schema and an instance";
 
-const VERSION: &str = "12.0.0";
+const VERSION: &str = "13.0.0";
 
 const AFTER_HELP: &str = "\
 A path may be - for the standard input.
@@ -89,13 +92,14 @@ fn command<'w>(alloc: Global) -> Result<Command<'w>, AllocError> {
     Command::new(alloc, "olk")
         .bin_name("olk")?
         .version(VERSION)
-        .about("Checks JSON values by a JSON Schema (2020-12).")
+        .about("Checks JSON values by a JSON Schema.")
         .after_help(AFTER_HELP)
         .arg(schema_argument(alloc))?
         .arg(instances_argument(alloc))?
         .arg(flag(alloc, "lines", "Take each line for a value"))?
         .arg(flag(alloc, "first", "Tell the first error alone").conflicts_with("evaluate")?)?
         .arg(flag(alloc, "evaluate", "Tell what the schema shows, as JSON"))?
+        .arg(draft_argument(alloc))?
         .arg(format_argument(alloc))?
         .arg(flag(alloc, "quiet", "Tell nothing but the status").short('q'))
 }
@@ -121,6 +125,14 @@ fn flag<'w>(alloc: Global, name: &'w str, help: &'w str) -> Arg<'w> {
         .help(help)
 }
 
+fn draft_argument<'w>(alloc: Global) -> Arg<'w> {
+    Arg::new(alloc, "draft")
+        .long("draft")
+        .value_name("DRAFT")
+        .value_parser(["4", "6", "7", "2019-09", "2020-12"].as_slice())
+        .help("Read schemas by this draft, and not by their $schema")
+}
+
 fn format_argument<'w>(alloc: Global) -> Arg<'w> {
     Arg::new(alloc, "format")
         .long("format")
@@ -139,11 +151,23 @@ fn options_of<'w>(alloc: Global, matches: &ArgMatches<'w>) -> Result<Options<'w>
     Ok(Options {
         schema: matches.get_str("schema").unwrap_or(STANDARD_INPUT),
         instances,
+        draft: draft_of(matches),
         has_lines: matches.get_flag("lines"),
         ask,
         format: format_of(ask, matches),
         is_quiet: matches.get_flag("quiet"),
     })
+}
+
+fn draft_of(matches: &ArgMatches<'_>) -> Option<Draft> {
+    match matches.get_str("draft")? {
+        "4" => Some(Draft::Draft4),
+        "6" => Some(Draft::Draft6),
+        "7" => Some(Draft::Draft7),
+        "2019-09" => Some(Draft::Draft201909),
+        "2020-12" => Some(Draft::Draft202012),
+        _ => None,
+    }
 }
 
 fn ask_of(matches: &ArgMatches<'_>) -> Ask {

@@ -43,27 +43,52 @@ pub fn read_schema<T: Files + Input + Print + Eprint + AllocGlobal>(
     }
 }
 
-/// Says of a schema that names no draft that is known by `$schema` that it is read as one of 2020-12.
+/// By which draft schemas are read.
+#[derive(Clone, Copy)]
+pub struct Drafts {
+    /// The one that was asked for, whatever `$schema` names.
+    pub asked: Option<Draft>,
+    /// That of a schema without `$schema`.
+    pub default: Draft,
+}
+
+impl Drafts {
+    /// That of a schema. None where its `$schema` names none that is known.
+    fn of(self, schema: &Value) -> Option<Draft> {
+        match (self.asked, schema.get("$schema")) {
+            (Some(asked), _) => Some(asked),
+            (None, Some(_)) => Draft::of(schema),
+            (None, None) => Some(self.default),
+        }
+    }
+}
+
+/// The draft by which a file's schema is read. Where `$schema` names none that is known, that is
+/// said (JSON Schema 2020-12 Core, 8.1.2.1: what is done then is up to the program).
 ///
 /// # Errors
 ///
 /// Out of memory, or standard error can't be written.
-pub fn note_draft<T: Print + Eprint + AllocGlobal>(
+pub fn find_draft<T: Print + Eprint + AllocGlobal>(
     console: &mut Console<'_, T>,
     path: &str,
     schema: &Value,
-) -> io::Result<()>
-    ensures { console.new.status ≡ console.old.status }
+    drafts: Drafts,
+) -> io::Result<Option<Draft>>
+    ensures { IfOk result (λ found. MatchOption found
+        (console.new.status ≡ worse console.old.status Status.Failed)
+        (λ _. console.new.status ≡ console.old.status)) }
 {
-    let Some(Value::String(draft)) = schema.get("$schema") else {
-        return Ok(());
-    };
-    if Draft::named(draft.as_str()).is_some() {
-        return Ok(());
+    if let Some(draft) = drafts.of(schema) {
+        return Ok(Some(draft));
     }
+    let named = schema.get("$schema").and_then(Value::as_str).unwrap_or("");
+    let named = cut(console.alloc(), named, SHOWN_LEN)?;
     let name = Visible(shown_name(path));
-    let draft = cut(console.alloc(), draft.as_str(), SHOWN_LEN)?;
-    console.note(format_args!("{name}: /$schema: read as 2020-12, not as {draft}"))
+    console.fail(format_args!(
+        "{name}: /$schema: \"{named}\" is not supported (--draft names a draft to read by)"
+    ))?;
+    Ok(None)
 }
 
 fn cut(alloc: Global, text: &str, most: usize) -> Result<String, AllocError> {

@@ -1,6 +1,6 @@
 -- Numbers of JSON by their values: whole numbers of 64 bits as they are, and every other number as the double that was read.
 use Rattle.std.specs.Prelude.{ℕ, suc, ◌*◌, ◌/◌, ◌%◌, ◌==◌, ◌&&◌, ◌||◌, Bool, true, false, ℤ, pos, negsuc, Option, Some, None, if◌then◌else◌}
-use Rattle.std.specs.Float.{Float, nan, inf, fin, two_to, float_zero}
+use Rattle.std.specs.Float.{Float, nan, inf, fin, two_to, minus_two_to, float_zero}
 use Rattle.std.specs.Float.Ieee.{up, down, lt, le, eq}
 use Rattle.serde_json.specs.Data.{Num, unsigned, negative, float, Data, number}
 use Rattle.olk_numbers.specs.declared.numbers.JsonNumber.{JsonNumber}
@@ -35,6 +35,15 @@ abbrev pub is_integral : Float → Bool
 is_integral nan = false
 is_integral (inf s) = false
 is_integral (fin s m e) = (m * up e) % down e == 0
+
+abbrev pub is_beyond_64_bits : Float → Bool
+is_beyond_64_bits x = lt x (minus_two_to 63) || le (two_to 64) x
+
+-- written without a fraction, as an integer of draft 4 is: a whole number of 64 bits is not read as a double, and a longer one is
+abbrev pub is_written_whole : Num → Bool
+is_written_whole (unsigned n) = true
+is_written_whole (negative z) = true
+is_written_whole (float x) = is_integral x && is_beyond_64_bits x
 
 -- a whole number from 0 to 2 ^ 64 - 1
 abbrev pub is_natural : Float → Bool

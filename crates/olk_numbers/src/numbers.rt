@@ -2,7 +2,7 @@
 ghost use Rattle.std.specs.Prelude.{◌≡◌, option_map, pos};
 ghost use Rattle.std.specs.Ordering.{float_partial_cmp, ordering_reverse};
 ghost use Rattle.serde_json.specs.View.{number_view, view};
-ghost use Rattle.olk_numbers.specs.Numbers.{num_of, of_whole, exact, is_below, is_same_number, is_at_most, is_integral, is_natural, natural_float, natural_of, natural};
+ghost use Rattle.olk_numbers.specs.Numbers.{num_of, of_whole, exact, is_below, is_same_number, is_at_most, is_integral, is_beyond_64_bits, is_written_whole, is_natural, natural_float, natural_of, natural};
 ghost use Rattle.olk_numbers.specs.Multiples.{is_multiple_of};
 
 use crate::divisors::Divisor;
@@ -13,6 +13,8 @@ use std::num::{nearest_u64_to_f64, saturating_f64_to_u64};
 const TWO_TO_53: f64 = 9007199254740992.0;
 
 pub(crate) const TWO_TO_64: f64 = 18446744073709551616.0;
+
+const MINUS_TWO_TO_63: f64 = -9223372036854775808.0;
 
 /// A number of JSON: a whole number of 64 bits, or else the double that was read.
 ///
@@ -70,6 +72,21 @@ impl JsonNumber {
             JsonNumber::Unsigned(_) => true,
             JsonNumber::Negative(_) => true,
             JsonNumber::Float(x) => has_no_fraction(x),
+        }
+    }
+
+    /// Whether it was written without a fraction, as an `integer` of draft 4 is (JSON Schema draft 4
+    /// Core, 3.5): 1 was, and 1.0 wasn't.
+    ///
+    /// A number beyond 64 bits is read as a double either way, and taken for one that was. -0 is
+    /// read as -0.0, and taken for one that wasn't.
+    pub fn is_written_whole(self) -> bool
+        ensures { result ≡ is_written_whole (num_of self) }
+    {
+        match self {
+            JsonNumber::Unsigned(_) => true,
+            JsonNumber::Negative(_) => true,
+            JsonNumber::Float(x) => has_no_fraction(x) && is_beyond_64_bits(x),
         }
     }
 
@@ -141,6 +158,12 @@ pub(crate) fn has_no_fraction(x: f64) -> bool
     } else {
         size.is_finite()
     }
+}
+
+fn is_beyond_64_bits(x: f64) -> bool
+    ensures { result ≡ is_beyond_64_bits x }
+{
+    x < MINUS_TWO_TO_63 || TWO_TO_64 <= x
 }
 
 fn natural_float(x: f64) -> Option<u64>

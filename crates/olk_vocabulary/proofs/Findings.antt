@@ -6,9 +6,9 @@ use Rattle.std.proofs.lemmas.List.{append-nil, map-append}
 use Rattle.serde_json.specs.Data.{Data}
 use Rattle.olk_spec.specs.Names.{Text, is_empty}
 use Rattle.olk_spec.specs.Bench.{unless, shown}
-use Rattle.olk_bench.specs.Leaves.{kind_name}
+use Rattle.olk_vocabulary.specs.Leaves.{kind_name}
 use Rattle.olk_bench.proofs.Findings.{unless_text}
-use Rattle.olk_bench.specs.declared.leaf.ValueKind.{ValueKind}
+use Rattle.olk_vocabulary.specs.declared.kinds.Kind.{Kind}
 use Rattle.olk_vocabulary.specs.Keywords.{is_of_kind, kinds_text, candidates}
 use Rattle.olk_vocabulary.specs.Leaves.{leaf_finds, leaf_text}
 use Rattle.olk_vocabulary.specs.declared.leaf.VocabularyLeaf.{VocabularyLeaf}
@@ -37,5 +37,5 @@ is_empty-unless : (ok : Bool) (t : Text) → is_empty (unless ok t) ≡ ok
 is_empty-unless true t = refl
 is_empty-unless false t = refl
 
-pub kinds_accept : (ks : Vec ValueKind Global) (v : Data) → is_empty (leaf_finds (leaf.Types ks) v) ≡ list_any (λ k. is_of_kind (kind_name k) v) ks.items
+pub kinds_accept : (ks : Vec Kind Global) (v : Data) → is_empty (leaf_finds (leaf.Types ks) v) ≡ list_any (λ k. is_of_kind (kind_name k) v) ks.items
 kinds_accept ks v = is_empty-unless _ _ ∙ some_kind ks.items v

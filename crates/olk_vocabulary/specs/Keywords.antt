@@ -1,5 +1,5 @@
 -- The keywords of the vocabulary (JSON Schema 2020-12 Validation, 6.1 to 6.5): their names, what they take, and what they find.
-use Rattle.std.specs.Prelude.{ℕ, Bool, true, false, ◌&&◌, ◌==◌, cond, if◌then◌else◌, nat_le, List, [], ◌∷◌, ◌++◌, length, map, Option, Some, None, is_some, option_map, codes, bytes_eq, decimal, chars}
+use Rattle.std.specs.Prelude.{ℕ, Bool, true, false, ◌&&◌, ◌||◌, ◌==◌, cond, if◌then◌else◌, nat_le, List, [], ◌∷◌, ◌++◌, length, map, Option, Some, None, is_some, option_map, codes, bytes_eq, decimal, chars}
 use Rattle.std.specs.List.{list_any, list_all}
 use Rattle.std.specs.Option.{option_map_or}
 use Rattle.serde_json.specs.Data.{Num, Data, Items, number, string, array}
@@ -8,11 +8,10 @@ use Rattle.serde_json.specs.Written.{compact_text}
 use Rattle.olk_spec.specs.Names.{Text, Name}
 use Rattle.olk_spec.specs.Malformed.{items_list}
 use Rattle.olk_spec.specs.Schemas.{listed}
-use Rattle.olk_spec.specs.Bench.{names_kind, shown, unless}
-use Rattle.olk_numbers.specs.Numbers.{natural}
+use Rattle.olk_spec.specs.Bench.{shown, unless}
 use Rattle.olk_spec.specs.Bench as bench
 use Rattle.olk_numbers.specs.Multiples.{divisor_of, is_multiple_of}
-use Rattle.olk_numbers.specs.Numbers.{exact, is_below, is_at_most, is_integral}
+use Rattle.olk_numbers.specs.Numbers.{exact, is_below, is_at_most, is_integral, is_written_whole, natural}
 use Rattle.olk_vocabulary.specs.Patterns.{takes_pattern, pattern_faults}
 use Rattle.olk_vocabulary.specs.Same.{same_value}
 use Rattle.olk_vocabulary.specs.Unique.{unique_faults}
@@ -69,6 +68,14 @@ keyword_named n =
 
 -- ---- what a keyword takes
 
+-- the name that integers of draft 4 have here: the standard calls these integers as well
+abbrev pub integer_of_draft_4 : Name
+integer_of_draft_4 = codes "integer of draft 4"
+
+abbrev pub names_kind : Data → Bool
+names_kind (string s) = bytes_eq s integer_of_draft_4 || bench.names_kind (string s)
+names_kind x = false
+
 abbrev pub name_kinds : List Data → Bool
 name_kinds ds = list_all names_kind ds
 
@@ -97,9 +104,17 @@ abbrev pub is_integer : Data → Bool
 is_integer (number n) = is_integral (exact n)
 is_integer v = false
 
+-- draft 4 Core, 3.5
+abbrev pub is_integer_of_draft_4 : Data → Bool
+is_integer_of_draft_4 (number n) = is_written_whole n
+is_integer_of_draft_4 v = false
+
 -- every number without a fraction is an integer
 abbrev pub is_of_kind : Name → Data → Bool
-is_of_kind k v = cond (bytes_eq k (codes "integer")) (is_integer v) (bench.is_of_kind k v)
+is_of_kind k v =
+    if bytes_eq k (codes "integer") then is_integer v
+    else if bytes_eq k integer_of_draft_4 then is_integer_of_draft_4 v
+    else bench.is_of_kind k v
 
 abbrev pub is_of_named_kind : Data → Data → Bool
 is_of_named_kind (string k) v = is_of_kind k v
@@ -114,14 +129,19 @@ abbrev pub separated : List Text → Text
 separated [] = []
 separated (t ∷ ts) = t ++ led ts
 
+-- what is said of a kind: its name in its draft
+abbrev pub told_kind : Data → Text
+told_kind (string k) = compact_text (string (cond (bytes_eq k integer_of_draft_4) (codes "integer") k))
+told_kind x = compact_text x
+
 abbrev pub kinds_text : Data → List Text → Text
 kinds_text v names = shown v ++ codes " is not of types " ++ separated names
 
 abbrev pub kinds_faults : List Data → Data → List Text
-kinds_faults ds v = unless (list_any (λ d. is_of_named_kind d v) ds) (kinds_text v (map compact_text ds))
+kinds_faults ds v = unless (list_any (λ d. is_of_named_kind d v) ds) (kinds_text v (map told_kind ds))
 
 abbrev pub kind_faults : Data → Data → List Text
-kind_faults x v = unless (is_of_named_kind x v) (shown v ++ codes " is not of type " ++ compact_text x)
+kind_faults x v = unless (is_of_named_kind x v) (shown v ++ codes " is not of type " ++ told_kind x)
 
 abbrev pub type_faults : Data → Data → List Text
 type_faults (array ds) v = kinds_faults (items_list ds) v

@@ -3,22 +3,26 @@ use Rattle.std.specs.Prelude.{◌≡◌, ◌++◌, true, false, List, Option, Ma
 use Rattle.std.specs.Option.{option_map_or}
 use Rattle.serde_json.specs.Data.{unsigned, Data, boolean, number, string, array}
 use Rattle.serde_json.specs.View.{view, items_view}
-use Rattle.serde_json.specs.Written.{compact_text}
 use Rattle.olk_spec.specs.Names.{Text, Name}
 use Rattle.olk_spec.specs.Json.{arr}
 use Rattle.olk_spec.specs.Bench.{shown}
-use Rattle.olk_bench.specs.Leaves.{kind_name}
-use Rattle.olk_bench.specs.declared.leaf.ValueKind.{ValueKind}
+use Rattle.olk_bench.specs.Leaves as bench
 use Rattle.olk_numbers.specs.Numbers.{num_of, natural}
 use Rattle.olk_vocabulary.specs.Patterns.{pattern_text}
 use Rattle.olk_vocabulary.specs.Unique.{unique_text}
-use Rattle.olk_vocabulary.specs.Keywords.{keyword_name, takes, finds, kinds_text, candidates, multiple_text, bound_text, limit_text}
+use Rattle.olk_vocabulary.specs.Keywords.{keyword_name, integer_of_draft_4, takes, finds, told_kind, kinds_text, candidates, multiple_text, bound_text, limit_text}
 use Rattle.olk_vocabulary.specs.declared.keyword.Keyword.{Keyword}
 use Rattle.olk_vocabulary.specs.declared.keyword.Keyword.TheVariants as keyword
+use Rattle.olk_vocabulary.specs.declared.kinds.Kind.{Kind}
+use Rattle.olk_vocabulary.specs.declared.kinds.Kind.TheVariants as kind
 use Rattle.olk_vocabulary.specs.declared.leaf.VocabularyLeaf.{VocabularyLeaf}
 use Rattle.olk_vocabulary.specs.declared.leaf.VocabularyLeaf.TheVariants as leaf
 
-abbrev pub kind_value : ValueKind → Data
+abbrev pub kind_name : Kind → Name
+kind_name (kind.Of k) = bench.kind_name k
+kind_name kind.IntegerOfDraft4 = integer_of_draft_4
+
+abbrev pub kind_value : Kind → Data
 kind_value k = string (kind_name k)
 
 -- ---- the keyword and the value that a leaf stands for
@@ -54,8 +58,8 @@ leaf_finds l v = finds (leaf_keyword l) (leaf_value l) v
 
 -- the text of a leaf for a value that it does not accept
 abbrev pub leaf_text : VocabularyLeaf → Data → Text
-leaf_text (leaf.Type k) v = shown v ++ codes " is not of type " ++ compact_text (kind_value k)
-leaf_text (leaf.Types ks) v = kinds_text v (map (λ k. compact_text (kind_value k)) ks.items)
+leaf_text (leaf.Type k) v = shown v ++ codes " is not of type " ++ told_kind (kind_value k)
+leaf_text (leaf.Types ks) v = kinds_text v (map (λ k. told_kind (kind_value k)) ks.items)
 leaf_text (leaf.Enum c) v = shown v ++ codes " is not one of " ++ candidates (map view c.values.items)
 leaf_text (leaf.Const x) v = shown (view x) ++ codes " was expected"
 leaf_text (leaf.MultipleOf d) v = multiple_text (num_of d.number) v

@@ -12,7 +12,7 @@ ghost use Rattle.olk_vocabulary.specs.Leaves.{leaf_keyword, leaf_name, leaf_find
 use crate::candidates::Candidates;
 use crate::equality::is_value;
 use crate::keyword::{Bound, Keyword, Limit};
-use crate::kinds::{is_of_kind, is_of_some_kind};
+use crate::kinds::{Kind, is_of_kind, is_of_some_kind};
 use crate::lengths::is_allowed;
 use crate::text_pattern::TextPattern;
 use crate::texts::{
@@ -21,7 +21,6 @@ use crate::texts::{
 };
 use crate::unique::has_unique_items;
 use olk_base::{Leaf, Node};
-use olk_bench::ValueKind;
 use olk_numbers::{Divisor, JsonNumber};
 use serde_json::Value;
 use std::alloc::{AllocError, Global};
@@ -30,9 +29,9 @@ use std::alloc::{AllocError, Global};
 #[derive(Drop)]
 pub enum VocabularyLeaf {
     /// `type`: the kind that a value is to be of.
-    Type(ValueKind),
+    Type(Kind),
     /// `type`: the kinds of which a value is to be of one.
-    Types(Vec<ValueKind>),
+    Types(Vec<Kind>),
     /// `enum`: what a value is to be one of.
     Enum(Candidates),
     /// `const`: what a value is to be.

@@ -18,6 +18,7 @@ mod texts;
 mod unique;
 
 pub use candidates::Candidates;
+pub use kinds::Kind;
 pub use keyword::{Bound, Keyword, Limit};
 pub use leaf::VocabularyLeaf;
 pub use maker::{Vocabulary, is_unread};

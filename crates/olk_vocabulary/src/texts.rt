@@ -2,18 +2,18 @@
 ghost use Rattle.std.specs.Prelude.{◌≡◌, ◌++◌, IfOk, OnOk, string_bytes, codes, map, decimal};
 ghost use Rattle.serde_json.specs.Data.{number};
 ghost use Rattle.serde_json.specs.View.{view};
-ghost use Rattle.serde_json.specs.Written.{compact_text};
 ghost use Rattle.olk_base.specs.Nodes.{data_of};
 ghost use Rattle.olk_spec.specs.Bench.{shown};
-ghost use Rattle.olk_vocabulary.specs.Keywords.{bound_words, limit_words, one_thing, many_things, bound_text, limit_text, multiple_text, led, separated, candidates};
+ghost use Rattle.olk_vocabulary.specs.Keywords.{bound_words, limit_words, one_thing, many_things, bound_text, limit_text, multiple_text, told_kind, led, separated, candidates};
 ghost use Rattle.olk_vocabulary.specs.Leaves.{kind_value};
 ghost use Rattle.olk_numbers.specs.Numbers.{num_of};
 ghost use Rattle.olk_vocabulary.specs.Patterns.{pattern_text};
 ghost use Rattle.olk_vocabulary.specs.Unique.{unique_text};
 
 use crate::keyword::{Bound, Limit};
+use crate::kinds::Kind;
 use olk_base::Node;
-use olk_bench::{ValueKind, shown_text};
+use olk_bench::shown_text;
 use olk_numbers::{Divisor, JsonNumber};
 use serde_json::Value;
 use std::alloc::{AllocError, Global};
@@ -137,11 +137,11 @@ pub(crate) fn limit_text(
 pub(crate) fn kind_text(
     alloc: Global,
     node: Node<'_>,
-    kind: ValueKind,
+    kind: Kind,
 ) -> Result<String, AllocError>
     ensures { IfOk result (λ s. string_bytes s
         ≡ (shown (data_of node.entry) ++ codes " is not of type ")
-        ++ compact_text (kind_value kind)) }
+        ++ told_kind (kind_value kind)) }
 {
     let mut text = text_of(alloc, node, " is not of type ")?;
     text.push_str(kind.quoted())?;
@@ -151,21 +151,21 @@ pub(crate) fn kind_text(
 pub(crate) fn kinds_text(
     alloc: Global,
     node: Node<'_>,
-    kinds: &Vec<ValueKind>,
+    kinds: &Vec<Kind>,
 ) -> Result<String, AllocError>
     ensures { IfOk result (λ s. string_bytes s
         ≡ (shown (data_of node.entry) ++ codes " is not of types ")
-        ++ separated (map (λ k. compact_text (kind_value k)) kinds.now.items)) }
+        ++ separated (map (λ k. told_kind (kind_value k)) kinds.now.items)) }
 {
     let mut text = text_of(alloc, node, " is not of types ")?;
     push_kinds(&mut text, kinds)?;
     Ok(text)
 }
 
-fn push_kinds(text: &mut String, kinds: &[ValueKind]) -> Result<(), AllocError>
+fn push_kinds(text: &mut String, kinds: &[Kind]) -> Result<(), AllocError>
     ensures { OnOk result (string_bytes text.new
         ≡ string_bytes text.old
-        ++ separated (map (λ k. compact_text (kind_value k)) kinds.now)) }
+        ++ separated (map (λ k. told_kind (kind_value k)) kinds.now)) }
 {
     match kinds.split_first() {
         Some((first, rest)) => {
@@ -176,9 +176,9 @@ fn push_kinds(text: &mut String, kinds: &[ValueKind]) -> Result<(), AllocError>
     }
 }
 
-fn push_further_kinds(text: &mut String, kinds: &[ValueKind]) -> Result<(), AllocError>
+fn push_further_kinds(text: &mut String, kinds: &[Kind]) -> Result<(), AllocError>
     ensures { OnOk result (string_bytes text.new
-        ≡ string_bytes text.old ++ led (map (λ k. compact_text (kind_value k)) kinds.now)) }
+        ≡ string_bytes text.old ++ led (map (λ k. told_kind (kind_value k)) kinds.now)) }
 {
     for kind in kinds {
         text.push_str(", ")?;

@@ -17,6 +17,14 @@ type | "integer" | 1.0 | -
 type | "integer" | -1e300 | -
 type | ["integer","null"] | 0.5 | value is not of types "integer", "null"
 type | "integer" | -3 | -
+type | "integer of draft 4" | 1 | -
+type | "integer of draft 4" | -7 | -
+type | "integer of draft 4" | 1.0 | value is not of type "integer"
+type | "integer of draft 4" | 12345678910111213141516171819202122232425262728293031 | -
+type | "integer of draft 4" | -9223372036854775809 | -
+type | "integer of draft 4" | "a" | "a" is not of type "integer"
+type | ["integer of draft 4","null"] | 2.0 | value is not of types "integer", "null"
+type | ["null","integer of draft 4"] | 2 | -
 type | "number" | 3.5 | -
 type | "null" | null | -
 type | "boolean" | false | -
