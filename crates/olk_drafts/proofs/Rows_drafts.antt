@@ -27,4 +27,11 @@ rows_drafts = record {
   a_name_of_no_keyword_may_hold_a_schema = refl;
   entries_of_entries_are_schemas = refl;
   branches_are_schemas = refl;
+  draft_4_has_integers_of_its_own = refl;
+  and_so_has_a_list_of_kinds = refl;
+  inside_it_they_are_its_own_too = refl;
+  other_kinds_stay = refl;
+  a_property_of_that_name_is_no_kind = refl;
+  data_is_no_kind = refl;
+  in_draft_6_integers_are_those_of_today = refl;
 }

@@ -1,13 +1,13 @@
 -- One step of a translation.
-use Rattle.std.proofs.Common.{◌≡◌, ℕ, ◌≤◌, false, List, [], ◌∷◌, map, take, length, String, string_bytes, Global, refl, sym, ap, ◌∙◌, true≢false}
+use Rattle.std.proofs.Common.{◌≡◌, ℕ, ◌≤◌, false, List, [], ◌∷◌, map, take, length, String, string_bytes, Global, cond, refl, sym, ap, ◌∙◌, true≢false}
 use Rattle.std.proofs.lemmas.List.{take_all}
-use Rattle.serde_json.specs.Data.{Data, object, array, Members, no_members, put, item}
+use Rattle.serde_json.specs.Data.{Data, string, object, array, Members, no_members, put, item}
 use Rattle.serde_json.specs.View.{view, members_view, items_view, items_of}
 use Rattle.serde_json.specs.declared.value.Value.{Value}
 use Rattle.olk_spec.specs.Names.{Text}
 use Rattle.olk_spec.specs.Schemas.{is_array, is_object}
 use Rattle.olk_drafts.specs.Keywords.{read_as}
-use Rattle.olk_drafts.specs.Translated.{put_as, translated_at, translated_members, translated_entries, translated_items, translated_value, translated_inside}
+use Rattle.olk_drafts.specs.Translated.{integer_of_draft_4, names_integer, kind_of_draft_4, listed_kinds_of_draft_4, kinds_of_draft_4, put_as, translated_at, translated_members, translated_entries, translated_items, translated_value, translated_inside}
 use Rattle.olk_drafts.specs.declared.drafts.Draft.{Draft}
 use Rattle.olk_drafts.specs.declared.translation.Held.{Held}
 use Rattle.olk_drafts.specs.declared.translation.Held.TheVariants.{Nothing, Itself, Entries, EntriesOfEntries}
@@ -70,10 +70,26 @@ module _ (draft : Draft) (R : Text → Text) where
   abbrev pub item_translated : Held → Value → Data
   item_translated h v = translated_at draft R h (view v)
 
-  items_translated : (h : Held) (vs : List Value) → items_of (map (item_translated h) vs) ≡ translated_items draft R h (items_view vs)
+  pub items_translated : (h : Held) (vs : List Value) → items_of (map (item_translated h) vs) ≡ translated_items draft R h (items_view vs)
   unfolding translated_at
   items_translated h [] = refl
   items_translated h (v ∷ vs) = ap (λ ds. item (translated_at draft R h (view v)) ds) (items_translated h vs)
 
-  pub all_items : (h : Held) (done vs : List Value) (i : ℕ) → map view done ≡ map (item_translated h) (take i vs) → length vs ≤ i → items_view done ≡ translated_items draft R h (items_view vs)
-  all_items h done vs i e l = ap items_of (e ∙ ap (map (item_translated h)) (take_all i vs l)) ∙ items_translated h vs
+pub all_items : (f : Value → Data) (done vs : List Value) (i : ℕ) → map view done ≡ map f (take i vs) → length vs ≤ i → items_view done ≡ items_of (map f vs)
+all_items f done vs i e l = ap items_of (e ∙ ap (map f) (take_all i vs l))
+
+-- ---- the kinds of draft 4
+
+abbrev pub kind_read : Value → Data
+kind_read v = kind_of_draft_4 (view v)
+
+pub kinds_listed : (vs : List Value) → items_of (map kind_read vs) ≡ listed_kinds_of_draft_4 (items_view vs)
+kinds_listed [] = refl
+kinds_listed (v ∷ vs) = ap (item (kind_read v)) (kinds_listed vs)
+
+pub other_kind : (d : Data) → names_integer d ≡ false → kind_of_draft_4 d ≡ d
+other_kind d e = ap (λ b. cond b (string integer_of_draft_4) d) e
+
+pub one_kind : (d : Data) → is_array d ≡ false → kinds_of_draft_4 d ≡ kind_of_draft_4 d
+one_kind (array ds) e = absurd (true≢false e)
+one_kind _ e = refl

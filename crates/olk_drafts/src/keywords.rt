@@ -192,7 +192,7 @@ impl Draft {
         }
     }
 
-    fn is_4(self) -> bool
+    pub(crate) fn is_4(self) -> bool
         ensures { result ≡ is_4 self }
     {
         match self {

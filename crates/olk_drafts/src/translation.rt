@@ -3,12 +3,16 @@ ghost use Rattle.std.specs.Prelude.{◌≡◌, IfOk, OnOk, OnErr, option_map};
 ghost use Rattle.serde_json.specs.Data.{no_members, put};
 ghost use Rattle.serde_json.specs.View.{view, members_view, items_view};
 ghost use Rattle.olk_drafts.specs.Sources.{reference_read};
-ghost use Rattle.olk_drafts.specs.Translated.{held_by, reference_at, as_reference, put_as, translated_at, translated_members, translated_entries, translated_items, translated_value, translated_inside, translated};
+ghost use Rattle.olk_drafts.specs.Translated.{held_by, names_integer, kind_of_draft_4, listed_kinds_of_draft_4, kinds_of_draft_4, kinds_read, as_reference, value_read, put_as, translated_at, translated_members, translated_entries, translated_items, translated_value, translated_inside, translated};
 
+use crate::drafts::Draft;
 use crate::sources::Source;
 use olk_base::append;
 use serde_json::{Map, Value};
 use std::alloc::{AllocError, Global};
+
+/// The name of the integers of draft 4, which are written without a fraction and an exponent.
+const INTEGER_OF_DRAFT_4: &str = "integer of draft 4";
 
 /// The schemas that a keyword of 2020-12 holds.
 #[derive(Clone, Copy)]
@@ -47,6 +51,10 @@ pub(crate) fn held_by(keyword: &str) -> Held
 /// references as they are read in the document (draft 4 Validation, 5.1.2 and 5.1.3; draft 7 Core,
 /// 8.3; 2019-09 Core, 9.3.1). What a name holds that is no keyword's is translated as well, since a
 /// reference may lead there.
+///
+/// In draft 4 an integer has no fraction and no exponent, so that `1.0` is none (draft 4 Core, 3.5,
+/// and Validation, 5.5.2). Where `type` names or lists `"integer"` in draft 4, the translation has
+/// `"integer of draft 4"` there, a name that 2020-12 itself doesn't have.
 ///
 /// # Errors
 ///
@@ -162,27 +170,27 @@ fn translate_value(
         (reference_read source.now) (view value.now) keyword.now) }
 {
     let translation = translate_at(alloc, source, held_by(keyword), value)?;
-    read_reference(alloc, source, keyword, translation)
+    read_value(alloc, source, keyword, translation)
 }
 
-/// The value of a keyword, if it is a reference, as it is read in the document.
-fn read_reference(
+/// The value of a keyword as it is read in the document.
+fn read_value(
     alloc: Global,
     source: &Source<'_>,
     keyword: &str,
     value: Value,
 ) -> Result<Value, AllocError>
-    ensures { IfOk result (λ v. view v
-        ≡ reference_at (reference_read source.now) keyword.now (view value)) }
+    ensures { IfOk result (λ v. view v ≡ value_read source.now.draft
+        (reference_read source.now) keyword.now (view value)) }
 {
-    if keyword == "$ref" {
-        reference_of(alloc, source, value)
-    } else {
-        Ok(value)
+    match keyword {
+        "$ref" => read_reference(alloc, source, value),
+        "type" => read_kinds(alloc, source.draft, value),
+        _ => Ok(value),
     }
 }
 
-fn reference_of(alloc: Global, source: &Source<'_>, value: Value) -> Result<Value, AllocError>
+fn read_reference(alloc: Global, source: &Source<'_>, value: Value) -> Result<Value, AllocError>
     ensures { IfOk result (λ v. view v
         ≡ as_reference (reference_read source.now) (view value)) }
 {
@@ -190,6 +198,53 @@ fn reference_of(alloc: Global, source: &Source<'_>, value: Value) -> Result<Valu
         Some(text) => Ok(Value::String(source.reference(alloc, text)?)),
         None => Ok(value),
     }
+}
+
+/// The kinds that `type` names, by the draft.
+fn read_kinds(alloc: Global, draft: Draft, value: Value) -> Result<Value, AllocError>
+    ensures { IfOk result (λ v. view v ≡ kinds_read draft (view value)) }
+{
+    if draft.is_4() {
+        kinds_of_draft_4(alloc, &value)
+    } else {
+        Ok(value)
+    }
+}
+
+fn kinds_of_draft_4(alloc: Global, value: &Value) -> Result<Value, AllocError>
+    ensures { IfOk result (λ v. view v ≡ kinds_of_draft_4 (view value.now)) }
+{
+    match value {
+        Value::Array(items) => Ok(Value::Array(listed_kinds_of_draft_4(alloc, items)?)),
+        _ => kind_of_draft_4(alloc, value),
+    }
+}
+
+fn listed_kinds_of_draft_4(alloc: Global, items: &Vec<Value>) -> Result<Vec<Value>, AllocError>
+    ensures { IfOk result (λ v. items_view v.items
+        ≡ listed_kinds_of_draft_4 (items_view items.now.items)) }
+{
+    let mut kinds = Vec::with_capacity(alloc, items.len())?;
+    for value in items {
+        append(&mut kinds, kind_of_draft_4(alloc, value)?)?;
+    }
+    Ok(kinds)
+}
+
+fn kind_of_draft_4(alloc: Global, value: &Value) -> Result<Value, AllocError>
+    ensures { IfOk result (λ v. view v ≡ kind_of_draft_4 (view value.now)) }
+{
+    if names_integer(value) {
+        Ok(Value::String(String::from_str(alloc, INTEGER_OF_DRAFT_4)?))
+    } else {
+        value.clone()
+    }
+}
+
+fn names_integer(value: &Value) -> bool
+    ensures { result ≡ names_integer (view value.now) }
+{
+    value.as_str() == Some("integer")
 }
 
 /// The entries of an object, which hold schemas so far down.

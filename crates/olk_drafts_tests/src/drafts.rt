@@ -31,8 +31,8 @@ fn translated(alloc: Global, cells: &str) -> Result<String, Fail> {
 }
 
 /// Each row is a draft, a schema of it, and what it is as a schema of 2020-12, by the texts of the
-/// drafts: 2019-09 Core, 9.3.1; draft 7 Core, 8.3, and Validation, 6.4; draft 4 Validation, 5.1.2
-/// and 5.1.3.
+/// drafts: 2019-09 Core, 9.3.1; draft 7 Core, 8.3, and Validation, 6.4; draft 4 Core, 3.5, and
+/// Validation, 5.1.2, 5.1.3 and 5.5.2.
 const ROWS: &str =
     r##"7 | {"additionalItems":false,"items":[{"type":"integer"},true]} | {"items":false,"prefixItems":[{"type":"integer"},true]}
 2019-09 | {"properties":{"a":{"items":[{"items":[]}]}}} | {"properties":{"a":{"prefixItems":[{"prefixItems":[]}]}}}
@@ -46,14 +46,18 @@ const ROWS: &str =
 4 | {"exclusiveMaximum":true} | {}
 6 | {"exclusiveMinimum":2,"minimum":3} | {"exclusiveMinimum":2,"minimum":3}
 4 | {"id":"http://a.example/s"} | {"$id":"http://a.example/s"}
-4 | {"const":1,"contains":{},"if":true,"propertyNames":{},"type":"integer"} | {"type":"integer"}
+4 | {"const":1,"contains":{},"if":true,"propertyNames":{},"type":"integer"} | {"type":"integer of draft 4"}
 6 | {"const":1,"if":true,"then":false} | {"const":1}
 7 | {"dependentSchemas":{"a":false},"else":false,"minContains":1} | {"else":false}
 2019-09 | {"dependentSchemas":{"a":false},"prefixItems":[false]} | {"dependentSchemas":{"a":false}}
 7 | {"const":{"items":[1]},"default":{"items":[1]},"dependencies":{"a":["items"]},"enum":[{"items":[1]}],"examples":[{"items":[1]}]} | {"const":{"items":[1]},"default":{"items":[1]},"dependencies":{"a":["items"]},"enum":[{"items":[1]}],"examples":[{"items":[1]}]}
 2019-09 | {"dependentRequired":{"items":["a"]},"x":{"y":{"items":[1]}}} | {"dependentRequired":{"items":["a"]},"x":{"y":{"prefixItems":[1]}}}
 7 | {"propertyDependencies":{"a":{"b":{"items":[]}}}} | {"propertyDependencies":{"a":{"b":{"prefixItems":[]}}}}
-4 | {"allOf":[{"items":[]}],"not":{"items":[]}} | {"allOf":[{"prefixItems":[]}],"not":{"prefixItems":[]}}"##;
+4 | {"allOf":[{"items":[]}],"not":{"items":[]}} | {"allOf":[{"prefixItems":[]}],"not":{"prefixItems":[]}}
+4 | {"items":{"type":["integer","null","number"]}} | {"items":{"type":["integer of draft 4","null","number"]}}
+4 | {"default":{"type":"integer"},"dependencies":{"type":["integer"]}} | {"default":{"type":"integer"},"dependencies":{"type":["integer"]}}
+4 | {"properties":{"type":{"type":"integer"}}} | {"properties":{"type":{"type":"integer of draft 4"}}}
+6 | {"type":["integer"]} | {"type":["integer"]}"##;
 
 #[test]
 fn translations(rt: HostRuntime) -> Result<(), Fail> {

@@ -6,7 +6,7 @@ use Rattle.olk_drafts.specs.Sources.{reference_read}
 use Rattle.olk_drafts.specs.Keywords.{read_as}
 use Rattle.olk_drafts.specs.Translated.{put_as, translated_value, translated_items}
 use Rattle.olk_drafts.proofs.Values.{no_object, cloned}
-use Rattle.olk_drafts.proofs.Translations.{nothing_held, entries_held, entries_of_entries_held, object_translated, no_object_translated, one_more_member, one_more_entry, no_more_members, no_more_entries, all_items}
+use Rattle.olk_drafts.proofs.Translations.{nothing_held, entries_held, entries_of_entries_held, object_translated, no_object_translated, one_more_member, one_more_entry, no_more_members, no_more_entries, item_translated, items_translated, all_items}
 use Rattle.olk_drafts.proofs.translation.+translate.Goals as goal
 
 pub translate_schema-returns-in_ok-translate_members-in-Object : goal.translate_schema-returns-in_ok-translate_members-in-Object
@@ -71,5 +71,7 @@ translate_entries-returns t c =
 pub translate_items-returns : goal.translate_items-returns
 translate_items-returns t c =
     let source = c.args.source.now in
-    all_items source.draft (reference_read source) c.args.held c.loop-value.translation.items c.deref-value-items.result.now c.loop-value.value-index c.loop-value.invariant c.loop-value-test.false
-    ∙ ap (λ vs. translated_items source.draft (reference_read source) c.args.held (items_view vs)) c.deref-value-items.ensures.value
+    let R = reference_read source in
+    all_items (item_translated source.draft R c.args.held) c.loop-value.translation.items c.deref-value-items.result.now c.loop-value.value-index c.loop-value.invariant c.loop-value-test.false
+    ∙ items_translated source.draft R c.args.held c.deref-value-items.result.now
+    ∙ ap (λ vs. translated_items source.draft R c.args.held (items_view vs)) c.deref-value-items.ensures.value
