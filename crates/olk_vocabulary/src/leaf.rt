@@ -4,9 +4,9 @@ ghost use Rattle.std.specs.Option.{option_map_or};
 ghost use Rattle.serde_json.specs.Find.{as_number};
 ghost use Rattle.olk_base.specs.Nodes.{data_of};
 ghost use Rattle.olk_spec.specs.Names.{is_empty};
-ghost use Rattle.olk_vocabulary.specs.Keywords.{is_within};
 ghost use Rattle.olk_numbers.specs.Multiples.{is_multiple_of};
 ghost use Rattle.olk_numbers.specs.Numbers.{num_of};
+ghost use Rattle.olk_vocabulary.specs.Keywords.{is_within};
 ghost use Rattle.olk_vocabulary.specs.Leaves.{leaf_keyword, leaf_name, leaf_finds, leaf_text};
 
 use crate::candidates::Candidates;

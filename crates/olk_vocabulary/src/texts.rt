@@ -4,9 +4,9 @@ ghost use Rattle.serde_json.specs.Data.{number};
 ghost use Rattle.serde_json.specs.View.{view};
 ghost use Rattle.olk_base.specs.Nodes.{data_of};
 ghost use Rattle.olk_spec.specs.Bench.{shown};
+ghost use Rattle.olk_numbers.specs.Numbers.{num_of};
 ghost use Rattle.olk_vocabulary.specs.Keywords.{bound_words, limit_words, one_thing, many_things, bound_text, limit_text, multiple_text, told_kind, led, separated, candidates};
 ghost use Rattle.olk_vocabulary.specs.Leaves.{kind_value};
-ghost use Rattle.olk_numbers.specs.Numbers.{num_of};
 ghost use Rattle.olk_vocabulary.specs.Patterns.{pattern_text};
 ghost use Rattle.olk_vocabulary.specs.Unique.{unique_text};
 
