@@ -103,10 +103,7 @@ pub(crate) fn kind_of(value: &Value) -> Option<Kind>
 }
 
 /// The kinds that the values name, if each names one.
-pub(crate) fn kinds_of(
-    alloc: Global,
-    items: &Vec<Value>,
-) -> Result<Option<Vec<Kind>>, AllocError>
+pub(crate) fn kinds_of(alloc: Global, items: &Vec<Value>) -> Result<Option<Vec<Kind>>, AllocError>
     ensures { IfOk result (λ o. MatchOption o (name_kinds (map view items.now.items) ≡ false)
         (λ ks. (name_kinds (map view items.now.items) ≡ true)
         × (map kind_value ks.items ≡ map view items.now.items))) }

@@ -18,8 +18,8 @@ mod texts;
 mod unique;
 
 pub use candidates::Candidates;
-pub use kinds::Kind;
 pub use keyword::{Bound, Keyword, Limit};
+pub use kinds::Kind;
 pub use leaf::VocabularyLeaf;
 pub use maker::{Vocabulary, is_unread};
 pub use text_pattern::TextPattern;

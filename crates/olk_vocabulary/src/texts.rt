@@ -134,11 +134,7 @@ pub(crate) fn limit_text(
     Ok(text)
 }
 
-pub(crate) fn kind_text(
-    alloc: Global,
-    node: Node<'_>,
-    kind: Kind,
-) -> Result<String, AllocError>
+pub(crate) fn kind_text(alloc: Global, node: Node<'_>, kind: Kind) -> Result<String, AllocError>
     ensures { IfOk result (λ s. string_bytes s
         ≡ (shown (data_of node.entry) ++ codes " is not of type ")
         ++ told_kind (kind_value kind)) }
