@@ -3,5 +3,7 @@ pub mod Translations
 pub mod Paths
 pub mod Referring
 pub mod Naming
+pub mod Spellings
 pub mod Rows_drafts
+pub mod Rows_names
 pub mod Rows_paths

@@ -1,8 +1,7 @@
 //! The drafts of JSON Schema, and how `$schema` names them.
-ghost use Rattle.std.specs.Prelude.{◌≡◌, codes};
+ghost use Rattle.std.specs.Prelude.{◌≡◌, option_map};
 ghost use Rattle.serde_json.specs.View.{view};
-ghost use Rattle.olk_spec.specs.Names.{is_among};
-ghost use Rattle.olk_drafts.specs.Drafts.{spellings, draft_named, draft_of, is_up_to_7, is_up_to_2019};
+ghost use Rattle.olk_drafts.specs.Drafts.{behind, without_end, path_at_host, path_named, draft_named, draft_of, is_up_to_7, is_up_to_2019};
 
 use serde_json::Value;
 
@@ -18,22 +17,17 @@ pub enum Draft {
 
 impl Draft {
     /// The draft whose meta-schema a text names: by `http` or `https`, with or without `#` at the
-    /// end.
+    /// end. `http://json-schema.org/schema` names the latest.
     pub fn named(text: &str) -> Option<Draft>
         ensures { result ≡ draft_named text.now }
     {
-        if names_draft_4(text) {
-            Some(Draft::Draft4)
-        } else if names_draft_6(text) {
-            Some(Draft::Draft6)
-        } else if names_draft_7(text) {
-            Some(Draft::Draft7)
-        } else if names_draft_2019_09(text) {
-            Some(Draft::Draft201909)
-        } else if names_draft_2020_12(text) {
-            Some(Draft::Draft202012)
-        } else {
-            None
+        match path_named(text)? {
+            "draft-04/schema" => Some(Draft::Draft4),
+            "draft-06/schema" => Some(Draft::Draft6),
+            "draft-07/schema" => Some(Draft::Draft7),
+            "draft/2019-09/schema" => Some(Draft::Draft201909),
+            "draft/2020-12/schema" | "schema" => Some(Draft::Draft202012),
+            _ => None,
         }
     }
 
@@ -67,62 +61,32 @@ impl Draft {
     }
 }
 
-fn names_draft_4(text: &str) -> bool
-    ensures { result ≡ is_among text.now (spellings (codes "draft-04/schema")) }
+/// The path at `json-schema.org` that a text names.
+fn path_named(text: &str) -> Option<&str>
+    ensures { option_map (λ t. t.now) result ≡ path_named text.now }
 {
-    matches!(
-        text,
-        "http://json-schema.org/draft-04/schema"
-            | "http://json-schema.org/draft-04/schema#"
-            | "https://json-schema.org/draft-04/schema"
-            | "https://json-schema.org/draft-04/schema#"
-    )
+    path_at_host(without_end(text, "#"))
 }
 
-fn names_draft_6(text: &str) -> bool
-    ensures { result ≡ is_among text.now (spellings (codes "draft-06/schema")) }
+fn path_at_host(address: &str) -> Option<&str>
+    ensures { option_map (λ t. t.now) result ≡ path_at_host address.now }
 {
-    matches!(
-        text,
-        "http://json-schema.org/draft-06/schema"
-            | "http://json-schema.org/draft-06/schema#"
-            | "https://json-schema.org/draft-06/schema"
-            | "https://json-schema.org/draft-06/schema#"
-    )
+    match behind(address, "http://json-schema.org/") {
+        Some(path) => Some(path),
+        None => behind(address, "https://json-schema.org/"),
+    }
 }
 
-fn names_draft_7(text: &str) -> bool
-    ensures { result ≡ is_among text.now (spellings (codes "draft-07/schema")) }
+/// What stands behind this beginning of a text.
+fn behind<'t>(text: &'t str, start: &str) -> Option<&'t str>
+    ensures { option_map (λ t. t.now) result ≡ behind start.now text.now }
 {
-    matches!(
-        text,
-        "http://json-schema.org/draft-07/schema"
-            | "http://json-schema.org/draft-07/schema#"
-            | "https://json-schema.org/draft-07/schema"
-            | "https://json-schema.org/draft-07/schema#"
-    )
+    text.strip_prefix(start)
 }
 
-fn names_draft_2019_09(text: &str) -> bool
-    ensures { result ≡ is_among text.now (spellings (codes "draft/2019-09/schema")) }
+/// The text without this end, if it has it.
+fn without_end<'t>(text: &'t str, end: &str) -> &'t str
+    ensures { result.now ≡ without_end end.now text.now }
 {
-    matches!(
-        text,
-        "http://json-schema.org/draft/2019-09/schema"
-            | "http://json-schema.org/draft/2019-09/schema#"
-            | "https://json-schema.org/draft/2019-09/schema"
-            | "https://json-schema.org/draft/2019-09/schema#"
-    )
-}
-
-fn names_draft_2020_12(text: &str) -> bool
-    ensures { result ≡ is_among text.now (spellings (codes "draft/2020-12/schema")) }
-{
-    matches!(
-        text,
-        "http://json-schema.org/draft/2020-12/schema"
-            | "http://json-schema.org/draft/2020-12/schema#"
-            | "https://json-schema.org/draft/2020-12/schema"
-            | "https://json-schema.org/draft/2020-12/schema#"
-    )
+    text.strip_suffix(end).unwrap_or(text)
 }

@@ -91,7 +91,9 @@ const DRAFTS: &str = r##"{"$schema":"http://json-schema.org/draft-04/schema#"} |
 {"$schema":"https://json-schema.org/draft/2019-09/schema"} | 2019-09
 {"$schema":"https://json-schema.org/draft/2020-12/schema"} | 2020-12
 {"$schema":"http://json-schema.org/draft-03/schema#"} | none
-{"$schema":"http://json-schema.org/schema#"} | none
+{"$schema":"http://json-schema.org/schema#"} | 2020-12
+{"$schema":"https://json-schema.org/schema"} | 2020-12
+{"$schema":"http://json-schema.org/schema##"} | none
 {"$schema":"https://json-schema.org/draft-07/schema#/definitions"} | none
 {"$schema":7} | 2020-12
 {"$schema":""} | none
