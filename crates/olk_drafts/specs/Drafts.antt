@@ -1,5 +1,5 @@
 -- The drafts of JSON Schema, and the texts by which `$schema` names them.
-use Rattle.std.specs.Prelude.{◌-◌, Bool, true, false, List, [], ◌∷◌, ◌++◌, take, drop, length, nat_eq, Option, Some, None, option_and_then, codes, bytes_eq, cond, if◌then◌else◌}
+use Rattle.std.specs.Prelude.{◌-◌, Bool, true, false, [], ◌∷◌, take, drop, length, nat_eq, Option, Some, None, option_and_then, codes, bytes_eq, cond, if◌then◌else◌}
 use Rattle.std.specs.List.{starts_with, ends_with}
 use Rattle.std.specs.Option.{option_or}
 use Rattle.serde_json.specs.Data.{Data, string}
@@ -23,13 +23,6 @@ path_at_host t = option_or (behind (codes "http://json-schema.org/") t) (behind 
 -- the path that a text names, with or without `#` at the end
 abbrev pub path_named : Text → Option Text
 path_named t = path_at_host (without_end (codes "#") t)
-
--- the texts that name a path: by either scheme, with or without `#` at the end
-abbrev pub spellings_by : Text → Text → Text → Text → List Text
-spellings_by one other end path = (one ++ path) ∷ ((one ++ path) ++ end) ∷ (other ++ path) ∷ ((other ++ path) ++ end) ∷ []
-
-abbrev pub spellings : Text → List Text
-spellings path = spellings_by (codes "http://json-schema.org/") (codes "https://json-schema.org/") (codes "#") path
 
 -- the draft whose meta-schema stands at a path; at `schema` the latest one does
 abbrev pub draft_at_path : Text → Option Draft

@@ -1,8 +1,7 @@
 //! The drafts of JSON Schema, and how `$schema` names them.
-ghost use Rattle.std.specs.Prelude.{◌≡◌, true, option_map, IfSome};
+ghost use Rattle.std.specs.Prelude.{◌≡◌, option_map};
 ghost use Rattle.serde_json.specs.View.{view};
-ghost use Rattle.olk_spec.specs.Names.{is_among};
-ghost use Rattle.olk_drafts.specs.Drafts.{behind, without_end, path_at_host, path_named, spellings, draft_named, draft_of, is_up_to_7, is_up_to_2019};
+ghost use Rattle.olk_drafts.specs.Drafts.{behind, without_end, path_at_host, path_named, draft_named, draft_of, is_up_to_7, is_up_to_2019};
 
 use serde_json::Value;
 
@@ -64,8 +63,7 @@ impl Draft {
 
 /// The path at `json-schema.org` that a text names.
 fn path_named(text: &str) -> Option<&str>
-    ensures path { option_map (λ t. t.now) result ≡ path_named text.now }
-    ensures spelled { IfSome result (λ path. is_among text.now (spellings path.now) ≡ true) }
+    ensures { option_map (λ t. t.now) result ≡ path_named text.now }
 {
     path_at_host(without_end(text, "#"))
 }
