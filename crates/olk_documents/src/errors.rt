@@ -175,6 +175,7 @@ impl<'a, N: Walk<'a>> Walk<'a> for Reference<N> {
 }
 
 impl<'a, N: Walk<'a>> Walk<'a> for DocumentKeyword<N> {
+    #[inline(never)]
     #[tactic(auto, unfolding(crate::specs::Nodes::more_of))]
     fn walk(
         &'a self,
@@ -211,7 +212,8 @@ fn walk_each<'a, N: Walk<'a>>(
 }
 
 /// Walks over a body at its place, and then with each of the keywords that the layer doesn't read.
-fn walk_place<'a, W: Walk<'a>, M: Walk<'a>>(
+#[inline(never)]
+fn walk_both<'a, W: Walk<'a>, M: Walk<'a>>(
     body: &'a Body<W>,
     more: &'a Vec<M>,
     location: &'a str,
@@ -230,7 +232,31 @@ fn walk_place<'a, W: Walk<'a>, M: Walk<'a>>(
     walk_each(more, node, trail, ctx, sink)
 }
 
+/// The walk of `walk_both`. Most places have no other keyword, so they are walked over in line.
+#[inline(always)]
+fn walk_place<'a, W: Walk<'a>, M: Walk<'a>>(
+    body: &'a Body<W>,
+    more: &'a Vec<M>,
+    location: &'a str,
+    node: Subject<'_, 'a>,
+    trail: &Trail<'_, 'a>,
+    ctx: &mut ValidationContext,
+    sink: &mut ErrorSink<'a>,
+) -> Result<(), Stop>
+    ensures { Walks result sink.old sink.new ctx.old ctx.new (λ u. of_place
+        (of_body W.means W.first W.report u location.now body.now
+        (subject_data node.entry) (path_at trail.now))
+        (of_branches M.means M.first M.report u more.now.items
+        (subject_data node.entry) (path_at trail.now))) }
+{
+    match more.as_slice() {
+        [] => walk_body(body, location, node, trail, ctx, sink),
+        _ => walk_both(body, more, location, node, trail, ctx, sink),
+    }
+}
+
 impl<'a, K: Leaf, R: RegexEngine> Walk<'a> for DocumentNode<K, R> {
+    #[inline(always)]
     #[cycle(errors)]
     fn walk(
         &'a self,

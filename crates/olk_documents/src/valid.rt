@@ -1,5 +1,5 @@
 //! Whether a keyword or a place of a document accepts a value.
-ghost use Rattle.olk_tree.specs.Questions.{every};
+ghost use Rattle.olk_tree.specs.Questions.{both, every};
 ghost use Rattle.olk_check.specs.Asks.{Asks};
 
 use crate::node::{DocumentKeyword, DocumentNode};
@@ -7,6 +7,7 @@ use olk_base::{Asked, Leaf, RegexEngine, ValidationContext};
 use olk_check::Check;
 
 impl<N: Check> Check for DocumentKeyword<N> {
+    #[inline(never)]
     #[tactic(auto, unfolding(crate::specs::Nodes::more_of))]
     fn check<A: Asked>(&self, asked: A, ctx: &mut ValidationContext) -> bool {
         match self {
@@ -32,9 +33,41 @@ fn all_accept<A: Asked, N: Check>(keywords: &Vec<N>, asked: A, ctx: &mut Validat
     true
 }
 
+/// Whether what the layer reads at a place accepts, and then each of the other keywords.
+#[inline(never)]
+fn both_accept<A: Asked, B: Check, M: Check>(
+    body: &B,
+    more: &Vec<M>,
+    asked: A,
+    ctx: &mut ValidationContext,
+) -> bool
+    ensures { Asks ctx.old ctx.new (both (B.means body.now (A.stands_for asked))
+        (every (λ n. M.means n (A.stands_for asked)) more.now.items)) result }
+{
+    body.check(asked, ctx) && all_accept(more, asked, ctx)
+}
+
+/// The verdict of `both_accept`. Most places have no other keyword, so they are asked in line.
+#[inline(always)]
+fn place_accepts<A: Asked, B: Check, M: Check>(
+    body: &B,
+    more: &Vec<M>,
+    asked: A,
+    ctx: &mut ValidationContext,
+) -> bool
+    ensures { Asks ctx.old ctx.new (both (B.means body.now (A.stands_for asked))
+        (every (λ n. M.means n (A.stands_for asked)) more.now.items)) result }
+{
+    match more.as_slice() {
+        [] => body.check(asked, ctx),
+        _ => both_accept(body, more, asked, ctx),
+    }
+}
+
 impl<K: Leaf, R: RegexEngine> Check for DocumentNode<K, R> {
+    #[inline(always)]
     #[tactic(auto, using(crate::proofs::Layers::layers))]
     fn check<A: Asked>(&self, asked: A, ctx: &mut ValidationContext) -> bool {
-        self.body.check(asked, ctx) && all_accept(&self.more, asked, ctx)
+        place_accepts(&self.body, &self.more, asked, ctx)
     }
 }

@@ -3,7 +3,7 @@ use Rattle.olk_reports.specs.Paths.{path_at}
 use Rattle.olk_errors.specs.Outcomes.{of_body, of_branches}
 use Rattle.olk_errors.proofs.Sinks.{walks_left, walks_before}
 use Rattle.olk_documents.proofs.Outcomes.{walks_both}
-use Rattle.olk_documents.proofs.errors.walk_place.Goals as goal
+use Rattle.olk_documents.proofs.errors.walk_both.Goals as goal
 
 pub returns-in_err-walk_body : goal.returns-in_err-walk_body
 returns-in_err-walk_body g c = walks_left c.from_residual.ensures.0
