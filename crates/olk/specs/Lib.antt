@@ -1,3 +1,4 @@
 pub mod Documents
 pub mod Asked
 pub mod Statuses
+pub mod Drafts

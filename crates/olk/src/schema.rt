@@ -1,5 +1,7 @@
 //! The schema: read, and what is said of one that is not used as it stands.
 ghost use Rattle.std.specs.Prelude.{◌≡◌, IfOk, OnOk, MatchOption, if◌then◌else◌};
+ghost use Rattle.serde_json.specs.View.{view};
+ghost use Rattle.olk.specs.Drafts.{draft_read};
 ghost use Rattle.olk.specs.Statuses.{worse};
 
 use crate::console::{Console, Status};
@@ -54,7 +56,9 @@ pub struct Drafts {
 
 impl Drafts {
     /// That of a schema. None where its `$schema` names none that is known.
-    fn of(self, schema: &Value) -> Option<Draft> {
+    fn of(self, schema: &Value) -> Option<Draft>
+        ensures { result ≡ draft_read self (view schema.now) }
+    {
         match (self.asked, schema.get("$schema")) {
             (Some(asked), _) => Some(asked),
             (None, Some(_)) => Draft::of(schema),
@@ -75,7 +79,8 @@ pub fn find_draft<T: Print + Eprint + AllocGlobal>(
     schema: &Value,
     drafts: Drafts,
 ) -> io::Result<Option<Draft>>
-    ensures { IfOk result (λ found. MatchOption found
+    ensures draft { IfOk result (λ found. found ≡ draft_read drafts (view schema.now)) }
+    ensures status { IfOk result (λ found. MatchOption found
         (console.new.status ≡ worse console.old.status Status.Failed)
         (λ _. console.new.status ≡ console.old.status)) }
 {
