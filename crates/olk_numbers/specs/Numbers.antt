@@ -36,8 +36,9 @@ is_integral nan = false
 is_integral (inf s) = false
 is_integral (fin s m e) = (m * up e) % down e == 0
 
+-- whole numbers of more bits are read as this double, as -2 ^ 63 - 1 is as -2 ^ 63
 abbrev pub is_beyond_64_bits : Float → Bool
-is_beyond_64_bits x = lt x (minus_two_to 63) || le (two_to 64) x
+is_beyond_64_bits x = le x (minus_two_to 63) || le (two_to 64) x
 
 -- written without a fraction, as an integer of draft 4 is: a whole number of 64 bits is not read as a double, and a longer one is
 abbrev pub is_written_whole : Num → Bool

@@ -160,10 +160,11 @@ pub(crate) fn has_no_fraction(x: f64) -> bool
     }
 }
 
+/// Whether whole numbers of more than 64 bits are read as this double, as -2^63 - 1 is as -2^63.
 fn is_beyond_64_bits(x: f64) -> bool
     ensures { result ≡ is_beyond_64_bits x }
 {
-    x < MINUS_TWO_TO_63 || TWO_TO_64 <= x
+    x <= MINUS_TWO_TO_63 || TWO_TO_64 <= x
 }
 
 fn natural_float(x: f64) -> Option<u64>
